@@ -1,0 +1,190 @@
+-- What an order's words say of its tree: the causes of 1 and 2 in their order, and that reading and writing undo each other. Assumes
+-- nothing.
+use mathlib.Core.Path.{_≡_, refl, ap, sym, subst, _∙_}
+use mathlib.Core.List.{List, [], _∷_, _++_, append-assoc, append-nil}
+use mathlib.Core.Bool.{Bool, true, false}
+use Prim.Native.Nat.{ℕ, zero, suc, _+_, _*_, _%_, _≤_, _<_}
+use native.Mathlib.Omega.{arith}
+use borrow.Author.Tests.{ne-eqb, eq-eqb, le-ltb, lt-ltb, le-leb, lt-leb, leb-true, ltb-false}
+use lib.ListN.{length, length-append}
+use lib.Dec.{leb, ltb}
+use Rattle.words.specs.Base.{if_then_else_}
+use Rattle.order.specs.Limits.{most-nodes, most-words, greatest-depth}
+use Rattle.order.specs.Numbers.{done, no-order, too-large}
+use Rattle.order.specs.Trees.{Tree, node, Forest, bare, cons, count, words, wordsF, depth, Good, GoodF, subtrees, subtreesF}
+use Rattle.order.specs.Reading.{Reading, broken, read, readTrees, Found, missing, found, only, treeOf, Order, refused, order, byOrder, shallow, orderOf, causeOf}
+use Rattle.order.specs.Walks.{walked, walkOf}
+use Rattle.order.specs.declared.Walked.{Walked}
+use Rattle.order.specs.declared.Walked.the-variants.{Broken, Whole}
+use Rattle.order.proofs.Reading.{Sound, sound, complete, reads-none}
+
+-- ---- words and trees
+
+-- The tree of words is a good tree whose words they are.
+abbrev pub IsTree : List ℕ → Found → Type 0
+IsTree s missing = Unit {0}
+IsTree s (found t) = (s ≡ words t) × Good t
+
+is-tree-of : (s : List ℕ) (p : Reading) → Sound 1 s p → IsTree s (only p)
+unfolding only count wordsF GoodF
+is-tree-of s broken g = tt
+is-tree-of s (read bare r) g = tt
+is-tree-of s (read (cons t bare) []) g = (g .0 ∙ append-nil (words t ++ []) ∙ append-nil (words t), g .2 .0)
+is-tree-of s (read (cons t bare) (x ∷ r)) g = tt
+is-tree-of s (read (cons t (cons u f)) []) g = absurd (omega (arith, g .1))
+is-tree-of s (read (cons t (cons u f)) (x ∷ r)) g = absurd (omega (arith, g .1))
+
+pub is-tree : (s : List ℕ) → IsTree s (treeOf s)
+unfolding treeOf
+is-tree s = is-tree-of s (readTrees s 1) (sound s 1)
+
+-- Reading the words of a good tree gives the tree.
+pub words-read : (t : Tree) → Good t → treeOf (words t) ≡ found t
+unfolding treeOf only
+words-read t g = rw (sym (append-nil (words t))) (rw (complete t g 0 [], reads-none []) refl)
+
+-- And back: words that are read as a tree are its words, and the tree is good.
+pub read-words : (s : List ℕ) (t : Tree) → treeOf s ≡ found t → (s ≡ words t) × Good t
+read-words s t e = subst (IsTree s) e (is-tree s)
+
+-- A tree has two words for each line.
+mutual
+  unfolding words subtrees
+
+  pub size : (t : Tree) → length (words t) ≡ length (subtrees t) * 2
+  size (node c f) = omega (arith, sizeF f)
+
+  sizeF : (f : Forest) → length (wordsF f) ≡ length (subtreesF f) * 2
+  sizeF bare = refl
+  sizeF (cons t f) = omega (arith, size t, sizeF f, length-append (words t) (wordsF f), length-append (subtrees t) (subtreesF f))
+
+-- ---- the causes, in their order
+
+-- The length is no cause: some words, an even number of them, and no more than an order has.
+pub record Sized (s : List ℕ) : Type 0 where
+  pub some : length s ≡ 0 → ⊥
+  pub even : length s % 2 ≡ 1 → ⊥
+  pub short : length s ≤ most-words
+
+module _ (s : List ℕ) where
+  pub cause-empty : length s ≡ 0 → causeOf s ≡ no-order
+  unfolding causeOf byOrder orderOf if_then_else_
+  cause-empty e = rw (eq-eqb _ _ e)
+
+  pub cause-odd : (length s ≡ 0 → ⊥) → length s % 2 ≡ 1 → causeOf s ≡ no-order
+  unfolding causeOf byOrder orderOf if_then_else_
+  cause-odd a e = rw (ne-eqb _ _ a, eq-eqb _ _ e)
+
+  pub cause-long : (length s ≡ 0 → ⊥) → (length s % 2 ≡ 1 → ⊥) → most-words < length s → causeOf s ≡ too-large
+  unfolding causeOf byOrder orderOf if_then_else_
+  cause-long a b l = rw (ne-eqb _ _ a, ne-eqb _ _ b, lt-ltb _ _ l)
+
+  pub sized-order : Sized s → orderOf s ≡ shallow (treeOf s)
+  unfolding orderOf if_then_else_
+  sized-order z = rw (ne-eqb _ _ (z .some), ne-eqb _ _ (z .even), le-ltb _ _ (z .short))
+
+-- A tree that is found, and how deep it is.
+pub record FoundDeep (x : Found) (h : ℕ) : Type 0 where
+  pub tree : Tree
+  pub is : x ≡ found tree
+  pub deep : depth tree ≡ h
+
+module _ (s : List ℕ) (z : Sized s) where
+  pub cause-missing : treeOf s ≡ missing → causeOf s ≡ no-order
+  unfolding causeOf byOrder shallow
+  cause-missing e = rw (sized-order s z, e)
+
+  pub cause-deep : (h : ℕ) → FoundDeep (treeOf s) h → greatest-depth < h → causeOf s ≡ too-large
+  unfolding causeOf byOrder shallow if_then_else_
+  cause-deep h f l = rw (sized-order s z, f .is, f .deep, lt-leb _ _ l)
+
+  pub cause-none : (h : ℕ) → FoundDeep (treeOf s) h → h ≤ greatest-depth → causeOf s ≡ done
+  unfolding causeOf byOrder shallow if_then_else_
+  cause-none h f l = rw (sized-order s z, f .is, f .deep, le-leb _ _ l)
+
+-- What the walk from word 0 says of the order's tree: none if it breaks or ends early, and otherwise how deep it is.
+abbrev pub FromTop : List ℕ → Found → Walked → Type 0
+FromTop s x Broken = x ≡ missing
+FromTop s x (Whole e h c) = (e < length s → x ≡ missing) × (length s ≤ e → FoundDeep x h)
+
+from-top-of : (s : List ℕ) (p : Reading) → Sound 1 s p → FromTop s (only p) (walked 0 0 p)
+unfolding walked only count wordsF
+from-top-of s broken g = refl
+from-top-of s (read bare r) g = refl
+from-top-of s (read (cons t bare) []) g =
+    let l : length s ≡ length (words t) = ap length (g .0) ∙ simp length-append (omega arith) in
+    (λ h. absurd (omega arith), λ h. record { tree = t; is = refl; deep = refl })
+from-top-of s (read (cons t bare) (x ∷ r)) g =
+    let l : length s ≡ length (words t) + suc (length r) = ap length (g .0) ∙ simp length-append (omega arith) in
+    (λ h. refl, λ h. absurd (omega arith))
+from-top-of s (read (cons t (cons u f)) []) g = absurd (omega (arith, g .1))
+from-top-of s (read (cons t (cons u f)) (x ∷ r)) g = absurd (omega (arith, g .1))
+
+pub from-top : (s : List ℕ) (w v : Walked) → w ≡ walkOf s 0 0 → w ≡ v → FromTop s (treeOf s) v
+unfolding walkOf treeOf
+from-top s w v e f = subst (FromTop s (treeOf s)) (sym e ∙ f) (from-top-of s (readTrees s 1) (sound s 1))
+
+-- ---- an order that passes
+
+-- What an order may be: refused by a number that is not 0, or a tree with no cause.
+data Causes (long : Bool) (x : Found) (o : Order) : Type 0 where
+  named : (n : ℕ) → o ≡ refused (suc n) → Causes long x o
+  clear : (t : Tree) → o ≡ order t → long ≡ false → x ≡ found t → leb (depth t) greatest-depth ≡ true → Causes long x o
+
+causes : (empty odd long : Bool) (x : Found) →
+    Causes long x (if empty then refused no-order else if odd then refused no-order else if long then refused too-large else shallow x)
+unfolding if_then_else_ shallow
+causes true odd long x = named 0 refl
+causes false true long x = named 0 refl
+causes false false true x = named 1 refl
+causes false false false missing = named 0 refl
+causes false false false (found t) = by-depth (leb (depth t) greatest-depth) refl
+  where
+    by-depth : (b : Bool) → leb (depth t) greatest-depth ≡ b → Causes false (found t) (if leb (depth t) greatest-depth then order t else refused too-large)
+    by-depth true e = clear t (rw e) refl refl e
+    by-depth false e = named 1 (rw e)
+
+-- What is known of the tree of an order that passes.
+pub record Passed (s : List ℕ) (t : Tree) : Type 0 where
+  pub is : orderOf s ≡ order t
+  pub spelt : s ≡ words t
+  pub good : Good t
+  pub nodes : length (subtrees t) ≤ most-nodes
+  pub deep : depth t ≤ greatest-depth
+
+-- Either the cause is not 0, and refuses the order, or the order is a tree within limits.
+pub data Seen (s : List ℕ) : Type 0 where
+  stopped : (causeOf s ≡ done → ⊥) → orderOf s ≡ refused (causeOf s) → Seen s
+  passed : (t : Tree) → causeOf s ≡ done → Passed s t → Seen s
+
+pub seen : (s : List ℕ) → Seen s
+unfolding orderOf causeOf byOrder
+seen s = go (causes _ _ _ (treeOf s))
+  where
+    go : Causes (ltb most-words (length s)) (treeOf s) (orderOf s) → Seen s
+    go (named n e) = let z : causeOf s ≡ suc n = rw e in stopped (λ h. omega arith) (e ∙ ap refused (sym z))
+    go (clear t e l f d) =
+        let w = read-words s t f in
+        passed t (rw e) (record { is = e; spelt = w .0; good = w .1; nodes = omega (arith, size t, ap length (w .0), ltb-false most-words (length s) l); deep = leb-true (depth t) greatest-depth d })
+
+-- An order with a cause has no tree, and an order without has one.
+pub refused-by : (s : List ℕ) → (causeOf s ≡ done → ⊥) → orderOf s ≡ refused (causeOf s)
+refused-by s h = go (seen s)
+  where
+    go : Seen s → orderOf s ≡ refused (causeOf s)
+    go (stopped k e) = e
+    go (passed t e p) = absurd (h e)
+
+-- A tree has a first line.
+some-lines : (t : Tree) → 1 ≤ length (subtrees t)
+unfolding subtrees
+some-lines (node c f) = omega arith
+
+-- A good tree of at most 64 nodes and a depth of at most 12 is an order.
+pub tree-passes : (t : Tree) → Good t → length (subtrees t) ≤ most-nodes → depth t ≤ greatest-depth → orderOf (words t) ≡ order t
+unfolding shallow if_then_else_
+tree-passes t g n d =
+    let z = size t in
+    let q : 1 ≤ length (subtrees t) = some-lines t in
+    sized-order (words t) (record { some = λ e. omega arith; even = λ e. omega arith; short = omega arith })
+    ∙ rw (words-read t g, le-leb _ _ d)

@@ -1,0 +1,29 @@
+-- The part at a word, by what the walk there finds. Assumes nothing.
+use mathlib.Core.Path.{_≡_, refl, ap, sym, _∙_}
+use mathlib.Core.List.{List}
+use Prim.Native.Nat.{ℕ, _-_, _≤_, _<_}
+use borrow.Author.Tests.{le-leb, lt-leb}
+use Rattle.words.specs.Base.{if_then_else_}
+use Rattle.order.specs.Walks.{walkOf, partWalked, partAtOf}
+use Rattle.order.specs.declared.Walked.{Walked}
+use Rattle.order.specs.declared.Walked.the-variants.{Broken, Whole}
+use Rattle.order.specs.declared.PartAt.{PartAt}
+use Rattle.order.specs.declared.PartAt.the-variants.{NoPart, LowTo, MiddleTo}
+
+-- The walk w at depth d = k-1 found nothing, a subtree of depth at most k-2, or a deeper one.
+module _ (s : List ℕ) (at k d : ℕ) (w v : Walked) (deep : d ≡ k - 1) (is : w ≡ walkOf s at d) (told : w ≡ v) where
+  part-walked : partAtOf s at k ≡ partWalked k v
+  unfolding partAtOf
+  part-walked = ap (λ (n : ℕ). partWalked k (walkOf s at n)) (sym deep) ∙ ap (partWalked k) (sym is ∙ told)
+
+  pub part-broken : v ≡ Broken → partAtOf s at k ≡ NoPart
+  unfolding partWalked
+  part-broken e = part-walked ∙ ap (partWalked k) e
+
+  pub part-low : (e h c b : ℕ) → v ≡ Whole e h c → b ≡ k - 2 → h ≤ b → partAtOf s at k ≡ LowTo e
+  unfolding partWalked if_then_else_
+  part-low e h c b q f l = part-walked ∙ ap (partWalked k) q ∙ rw (← f, le-leb h b l) refl
+
+  pub part-middle : (e h c b : ℕ) → v ≡ Whole e h c → b ≡ k - 2 → b < h → partAtOf s at k ≡ MiddleTo e c
+  unfolding partWalked if_then_else_
+  part-middle e h c b q f l = part-walked ∙ ap (partWalked k) q ∙ rw (← f, lt-leb h b l) refl

@@ -1,0 +1,89 @@
+-- What the crate's inner functions find in an order's words, by the trees. Assumes nothing: these are definitions.
+use mathlib.Core.List.{List, []}
+use Prim.Native.Nat.{ℕ, zero, suc, _+_, _-_, _*_, _≤_}
+use lib.Dec.{leb, ltb}
+use lib.ListN.{length, drop}
+use Rattle.words.specs.Base.{if_then_else_}
+use Rattle.order.specs.Trees.{Tree, bare, cons, words, depth, cut, subtrees}
+use Rattle.order.specs.Reading.{Reading, broken, read, readTrees, byOrder, orderOf}
+use Rattle.order.specs.declared.Walked.{Walked}
+use Rattle.order.specs.declared.Walked.the-variants.{Broken, Whole}
+use Rattle.order.specs.declared.Place.{Place}
+use Rattle.order.specs.declared.Place.the-variants.{Refused, Lacking, At}
+use Rattle.order.specs.declared.PartAt.{PartAt}
+use Rattle.order.specs.declared.PartAt.the-variants.{NoPart, LowTo, MiddleTo}
+use Rattle.order.specs.declared.Laid.{Laid}
+use Rattle.order.specs.declared.Kind.{Kind}
+use Rattle.order.specs.declared.Kind.the-variants.{Absent, Low, Middle}
+
+-- The tree that the words from `at` on begin with: the word past it, its depth, and the number of words of its cut at d.
+unfoldable pub walked : ℕ → ℕ → Reading → Walked
+walked at d broken = Broken
+walked at d (read bare ws) = Broken
+walked at d (read (cons t f) ws) = Whole (at + length (words t)) (depth t) (length (words (cut t d)))
+
+unfoldable pub walkOf : List ℕ → ℕ → ℕ → Walked
+walkOf ws at d = walked at d (readTrees (drop at ws) 1)
+
+-- What a child's cut of n words adds to its parent's cut at d: nothing at depth 0.
+unfoldable pub keptOf : ℕ → ℕ → ℕ
+keptOf zero n = 0
+keptOf (suc d) n = n
+
+-- The words of the cut at d of the tree that the words from `at` on begin with; none where they begin with no tree.
+unfoldable pub cutWords : ℕ → Reading → List ℕ
+cutWords d broken = []
+cutWords d (read bare ws) = []
+cutWords d (read (cons t f) ws) = words (cut t d)
+
+unfoldable pub cutOf : List ℕ → ℕ → ℕ → List ℕ
+cutOf ws at d = cutWords d (readTrees (drop at ws) 1)
+
+-- The words of the tree that the words from `at` on begin with; none where they begin with no tree.
+unfoldable pub treeWords : Reading → List ℕ
+treeWords broken = []
+treeWords (read bare ws) = []
+treeWords (read (cons t f) ws) = words t
+
+unfoldable pub wordsAtOf : List ℕ → ℕ → List ℕ
+wordsAtOf ws at = treeWords (readTrees (drop at ws) 1)
+
+-- A walk found a tree whose cut has at most n words.
+abbrev pub Room : Walked → ℕ → Type 0
+Room Broken n = ⊥
+Room (Whole e h c) n = c ≤ n
+
+-- The word past the tree that a walk found, and the number of words of its cut.
+abbrev pub endOf : Walked → ℕ
+endOf Broken = 0
+endOf (Whole e h c) = e
+
+abbrev pub cutLength : Walked → ℕ
+cutLength Broken = 0
+cutLength (Whole e h c) = c
+
+-- What writing the cut that a walk found comes to.
+abbrev pub laidOf : Walked → Laid
+laidOf w = record { end = endOf w; count = cutLength w }
+
+-- A line of an order stands at a word; line i + 1 stands at word 2 i.
+unfoldable pub linePlace : ℕ → ℕ → Place
+linePlace nodes zero = Lacking
+linePlace nodes (suc i) = if ltb i nodes then At (i * 2) else Lacking
+
+unfoldable pub placeOf : List ℕ → ℕ → Place
+placeOf ws line = byOrder (orderOf ws) Refused (λ t. linePlace (length (subtrees t)) line)
+
+-- The part that the tree at a word stands for at k: a low part is the words up to its end; a middle part has so many words.
+unfoldable pub partWalked : ℕ → Walked → PartAt
+partWalked k Broken = NoPart
+partWalked k (Whole e h c) = if leb h (k - 2) then LowTo e else MiddleTo e c
+
+unfoldable pub partAtOf : List ℕ → ℕ → ℕ → PartAt
+partAtOf ws at k = partWalked k (walkOf ws at (k - 1))
+
+-- The kind of a part.
+abbrev pub kindOf : PartAt → Kind
+kindOf NoPart = Absent
+kindOf (LowTo e) = Low
+kindOf (MiddleTo e c) = Middle

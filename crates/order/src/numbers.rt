@@ -1,0 +1,13 @@
+// The numbers of 01, "Numbers the desk hears", named as the definitions of `specs/Numbers.antt` name them.
+
+// done
+pub const DONE: u16 = 0;
+
+// the words are no order
+pub const NO_ORDER: u16 = 1;
+
+// the order is too long or too deep
+pub const TOO_LARGE: u16 = 2;
+
+// the lent output is too short
+pub const SHORT_OUTPUT: u16 = 11;

@@ -1,0 +1,5 @@
+-- What the proofs of several functions, and those of other crates, use.
+pub mod Tests
+pub mod Ordered
+pub mod Places
+pub mod Fronts

@@ -1,0 +1,62 @@
+// Lent slices of 16-bit words: compared, copied and cleared. It knows nothing of entries or trees, and assumes nothing beyond
+// each function's `requires`.
+ghost use mathlib.Core.Path.{_≡_};
+ghost use Prim.Native.Nat.{_≤_};
+ghost use lib.ListN.{length, replicate};
+ghost use Rattle.words.specs.Base.{over};
+ghost use Rattle.words.specs.Compare.{compareOf};
+
+// How one slice stands to another.
+pub enum Compared {
+    Lower,
+    Equal,
+    Higher,
+}
+
+// Compares two slices word by word from the first; a slice that ends first is lower.
+pub fn compare(a: &[u16], b: &[u16]) -> Compared
+    ensures { λ r. ⌜ r ≡ compareOf (now (a .entry)) (now (b .entry)) ⌝ }
+{
+    let mut i = 0;
+    while i < a.len() {
+        if b.len() <= i {
+            return Compared::Higher;
+        }
+        let x = a[i];
+        let y = b[i];
+        if x < y {
+            return Compared::Lower;
+        }
+        if y < x {
+            return Compared::Higher;
+        }
+        i += 1;
+    }
+    if i < b.len() {
+        return Compared::Lower;
+    }
+    Compared::Equal
+}
+
+// Copies the words to the front of `out`, which has room for them.
+pub fn copy(out: &mut [u16], words: &[u16])
+    requires { ⌜ length (now words) ≤ length (now out) ⌝ }
+    ensures { λ _. ⌜ now (out .exit) ≡ over (now (words .entry)) (now (out .entry)) ⌝ }
+{
+    let mut i = 0;
+    while i < words.len() {
+        out[i] = words[i];
+        i += 1;
+    }
+}
+
+// Sets every word to zero.
+pub fn clear(out: &mut [u16])
+    ensures { λ _. ⌜ now (out .exit) ≡ replicate (length (now (out .entry))) 0 ⌝ }
+{
+    let mut i = 0;
+    while i < out.len() {
+        out[i] = 0;
+        i += 1;
+    }
+}
