@@ -1,15 +1,14 @@
 -- What the public functions answer, by where the line stands. Assumes nothing.
-use mathlib.Core.Path.{_≡_, refl, ap, sym, _∙_}
+use mathlib.Core.Path.{_≡_, refl, sym}
 use mathlib.Core.Bool.{Bool, true, false}
 use mathlib.Core.List.{List, []}
-use Prim.Native.Nat.{ℕ, _-_, _≤_}
+use Prim.Native.Nat.{ℕ, _-_}
 use native.Mathlib.Omega.{arith}
-use borrow.Author.Tests.{leb-true, le-leb}
+use borrow.Author.Tests.{leb-true}
 use lib.Dec.{leb}
-use lib.ListN.{length}
 use Rattle.words.specs.Base.{if_then_else_}
 use Rattle.order.specs.Numbers.{done}
-use Rattle.order.specs.Trees.{Tree, words, depth, cut, subtrees}
+use Rattle.order.specs.Trees.{Tree, depth, cut}
 use Rattle.order.specs.Reading.{refused, byOrder, orderOf}
 use Rattle.order.specs.Parts.{isLow, middle, partOf}
 use Rattle.order.specs.Walks.{cutOf, wordsAtOf, partWalked, partAtOf, kindOf}
@@ -17,7 +16,7 @@ use Rattle.order.specs.Answers.{byFound, subtreeOf, wrote, refuse, write
 use Rattle.order.specs.declared.Walked.the-variants.{Whole}
 use Rattle.order.proofs.Cutting.{cut-shallow}
 use Rattle.order.proofs.Cuts.{no-words}
-use Rattle.order.proofs.Lines.{Spot, walk-spot, cut-spot, tree-spot, HasLine, LacksLine}
+use Rattle.order.proofs.Lines.{walk-spot, cut-spot, tree-spot, HasLine, LacksLine}
 
 -- ---- an order that is refused
 

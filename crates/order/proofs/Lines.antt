@@ -13,8 +13,7 @@ use Rattle.order.specs.Trees.{Tree, node, Forest, bare, cons, count, wor
 use Rattle.order.specs.Reading.{Found, missing, found, refused, order, byOrder, orderOf, causeOf}
 use Rattle.order.specs.Walks.{walked, walkOf, cutWords, cutOf, treeWords, wordsAtOf, linePlace, placeOf}
 use Rattle.order.specs.Answers.{treeAt, lineOf}
-use Rattle.order.specs.declared.Walked.{Walked}
-use Rattle.order.specs.declared.Walked.the-variants.{Broken, Whole}
+use Rattle.order.specs.declared.Walked.the-variants.{Whole}
 use Rattle.order.specs.declared.Place.{Place}
 use Rattle.order.specs.declared.Place.the-variants.{Refused, Lacking, At}
 use Rattle.order.proofs.Reading.{complete, reads-none}

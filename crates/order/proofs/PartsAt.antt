@@ -7,7 +7,6 @@ use Rattle.words.specs.Base.{if_then_else_}
 use Rattle.order.specs.Walks.{walkOf, partWalked, partAtOf}
 use Rattle.order.specs.declared.Walked.{Walked}
 use Rattle.order.specs.declared.Walked.the-variants.{Broken, Whole}
-use Rattle.order.specs.declared.PartAt.{PartAt}
 use Rattle.order.specs.declared.PartAt.the-variants.{NoPart, LowTo, MiddleTo}
 
 -- The walk w at depth d = k-1 found nothing, a subtree of depth at most k-2, or a deeper one.

@@ -1,9 +1,9 @@
 -- The walk by positions: what a turn of the loop over the children leaves to be read. Assumes nothing.
 use mathlib.Core.Path.{_≡_, refl, ap, sym, subst, _∙_}
 use mathlib.Core.List.{List, [], _∷_, _++_, append-assoc}
-use mathlib.Core.Bool.{Bool, true, false}
+use mathlib.Core.Bool.{true, false}
 use Prim.Native.Nat.{ℕ, zero, suc, _+_, _-_, _≤_, _<_, max}
-use native.Mathlib.Nat.{add-zero, zero-add, suc-add}
+use native.Mathlib.Nat.{add-zero}
 use native.Mathlib.Numerals.{add-one, add-two}
 use native.Mathlib.Omega.{arith}
 use lib.ListN.{length, take, drop, getD, length-append, length-drop}
@@ -13,7 +13,7 @@ use Rattle.order.specs.Reading.{Reading, broken, read, firstTrees, sound
 use Rattle.order.specs.Walks.{walked, walkOf, keptOf, treeWords, wordsAtOf}
 use Rattle.order.specs.declared.Walked.{Walked}
 use Rattle.order.specs.declared.Walked.the-variants.{Broken, Whole}
-use Rattle.order.proofs.Reading.{Sound, sound, first, reads-none, thenF, addT, count-take}
+use Rattle.order.proofs.Reading.{Sound, sound, first, reads-none, thenF, addT}
 
 whole : {a a′ b b′ c c′ : ℕ} → a ≡ a′ → b ≡ b′ → c ≡ c′ → Whole a b c ≡ Whole a′ b′ c′
 whole p q r = cc

@@ -8,13 +8,12 @@ use Rattle.order.specs.Limits.{least-k, greatest-k}
 use Rattle.order.specs.Numbers.{done, k-outside, short-output}
 use Rattle.order.specs.Trees.{Tree, words, cut, subtrees}
 use Rattle.order.specs.Reading.{Found, missing, found, byOrder, orderOf, causeOf}
-use Rattle.order.specs.Parts.{Part, partOf}
+use Rattle.order.specs.Parts.{partOf}
 use Rattle.order.specs.declared.Answer.{Answer}
 use Rattle.order.specs.declared.Written.{Written}
 use Rattle.order.specs.declared.Kind.{Kind}
 use Rattle.order.specs.declared.Kind.the-variants.{Absent}
 use Rattle.order.specs.declared.PartWritten.{PartWritten}
-use Rattle.order.specs.declared.depths.Depth.{Depth}
 use Rattle.order.specs.declared.depths.Asked.{Asked}
 use Rattle.order.specs.declared.depths.Asked.the-variants.{Allowed, Outside}
 

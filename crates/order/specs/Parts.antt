@@ -1,6 +1,6 @@
 -- The parts of an order at k (01, "Parts"). Assumes nothing: these are definitions.
 use Prim.Native.Nat.{ℕ, _-_}
-use mathlib.Core.Bool.{Bool, true, false, not}
+use mathlib.Core.Bool.{Bool, not}
 use mathlib.Core.List.{List, [], _∷_, map}
 use lib.Dec.{leb}
 use Rattle.words.specs.Base.{if_then_else_, sameWords, keep}

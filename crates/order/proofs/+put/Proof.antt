@@ -1,6 +1,6 @@
 -- The proof of the cycle of calls {put}. The measure is the number of words from `at` on. The loop's invariant: what is still to be written
 -- decides what the whole comes to. Assumes nothing.
-use mathlib.Core.Path.{_≡_, refl, ap, sym, _∙_}
+use mathlib.Core.Path.{_≡_, refl, _∙_}
 use mathlib.Core.List.{List}
 use Prim.Native.Nat.{ℕ, _+_, _-_, _≤_, _<_}
 use native.Mathlib.Omega.{arith}

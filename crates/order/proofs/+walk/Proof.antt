@@ -1,18 +1,16 @@
 -- The proof of the cycle of calls {walk}. The measure is the number of words from `at` on. The loop's invariant: what is still to be read
 -- decides what the whole walk answers. Assumes nothing.
-use mathlib.Core.Path.{_≡_, refl, ap, sym, _∙_}
-use mathlib.Core.List.{List}
-use Prim.Native.Nat.{ℕ, zero, suc, _+_, _-_, _≤_, _<_, max}
+use mathlib.Core.Path.{_≡_, sym, _∙_}
+use Prim.Native.Nat.{ℕ, _+_, _-_, _≤_, _<_}
 use native.Mathlib.Omega.{arith}
-use lib.ListN.{length, drop, getD}
+use lib.ListN.{length, drop}
 use borrow.Author.Needs.{needs}
 use borrow.Author.Tests.{not-true, not-false}
 use borrow.Fn.Kinds.{In}
 use borrow.Fn.PlainCycle.{Measures, is, falls, and}
-use Rattle.order.specs.Reading.{readTrees, soundNode}
-use Rattle.order.specs.Walks.{walkOf, keptOf}
-use Rattle.order.specs.declared.Walked.{Walked}
-use Rattle.order.specs.declared.Walked.the-variants.{Broken, Whole}
+use Rattle.order.specs.Reading.{readTrees}
+use Rattle.order.specs.Walks.{walkOf}
+use Rattle.order.specs.declared.Walked.the-variants.{Whole}
 use Rattle.order.proofs.Walks.{rest, short, no-node, start, Step, step-by, done}
 use Rattle.order.proofs.walk.Reads as walk
 use Rattle.order.proofs.walk.Kinds as walk-kinds

@@ -1,6 +1,5 @@
 -- `order::cause` meets its contract: each test that led to a return is the first cause that holds. Assumes nothing.
-use mathlib.Core.Path.{_≡_, sym}
-use native.Mathlib.Omega.{arith}
+use mathlib.Core.Path.{sym}
 use borrow.Author.Needs.{needs}
 use Rattle.order.proofs.Orders.{Sized, cause-empty, cause-odd, cause-long, cause-missing, cause-deep, cause-none, from-top}
 use Rattle.order.proofs.cause.Statement.{statement}

@@ -1,5 +1,4 @@
 -- `order::check` meets its contract: the cause, with line 0. Assumes nothing.
-use mathlib.Core.Path.{_≡_}
 use borrow.Author.Needs.{needs}
 use Rattle.order.specs.Answers.{checkOf}
 use Rattle.order.proofs.check.Statement.{statement}

@@ -1,5 +1,5 @@
 -- `order::cut_into` meets its contract, by where the line stands. Assumes nothing.
-use mathlib.Core.Path.{_≡_, ap, sym, _∙_}
+use mathlib.Core.Path.{ap, sym, _∙_}
 use borrow.Author.Needs.{needs}
 use Rattle.order.specs.Answers.{writing}
 use Rattle.order.specs.declared.Written.{Written}

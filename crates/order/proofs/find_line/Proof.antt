@@ -1,5 +1,5 @@
 -- `order::find_line` meets its contract: the cause refuses, or the order's length says which lines there are. Assumes nothing.
-use mathlib.Core.Path.{_≡_, ap, sym, _∙_}
+use mathlib.Core.Path.{ap, sym, _∙_}
 use borrow.Author.Needs.{needs}
 use Rattle.order.specs.declared.Place.the-variants.{Refused}
 use Rattle.order.proofs.Lines.{place-refused, place-none, place-past, place-at}

@@ -1,5 +1,5 @@
 -- `order::kind_at` meets its contract, by the cases of the part. Assumes nothing.
-use mathlib.Core.Path.{_≡_, ap, sym, _∙_}
+use mathlib.Core.Path.{ap, sym, _∙_}
 use borrow.Author.Needs.{needs}
 use Rattle.order.specs.Walks.{kindOf}
 use Rattle.order.proofs.kind_at.Statement.{statement}

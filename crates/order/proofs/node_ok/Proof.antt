@@ -1,5 +1,4 @@
 -- `order::node_ok` meets its contract: each test that led to a return decides one part of `soundNode`. Assumes nothing.
-use mathlib.Core.Path.{_≡_, refl}
 use borrow.Author.Tests.{le-leb, lt-leb}
 use Rattle.words.specs.Base.{_and_}
 use Rattle.order.specs.Limits.{least-code, greatest-code}

@@ -1,5 +1,5 @@
 -- `order::part_at` meets its contract, by what the walk found and the test of its depth. Assumes nothing.
-use mathlib.Core.Path.{_≡_, refl, sym}
+use mathlib.Core.Path.{refl, sym}
 use borrow.Author.Needs.{needs}
 use Rattle.order.proofs.PartsAt.{part-broken, part-low, part-middle}
 use Rattle.order.proofs.part_at.Statement.{statement}

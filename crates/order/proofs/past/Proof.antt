@@ -1,5 +1,5 @@
 -- `order::past` meets its contract: the walk's end, or 0 where it breaks. Assumes nothing.
-use mathlib.Core.Path.{_≡_, ap, sym, _∙_}
+use mathlib.Core.Path.{ap, sym, _∙_}
 use borrow.Author.Needs.{needs}
 use Rattle.order.specs.Walks.{endOf}
 use Rattle.order.proofs.past.Statement.{statement}

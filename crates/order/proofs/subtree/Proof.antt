@@ -1,5 +1,5 @@
 -- `order::subtree` meets its contract, by where the line stands. Assumes nothing.
-use mathlib.Core.Path.{_≡_, sym, _∙_}
+use mathlib.Core.Path.{sym, _∙_}
 use borrow.Author.Needs.{needs}
 use Rattle.order.proofs.Lines.{placed}
 use Rattle.order.proofs.Answers.{subtree-refused, subtree-lacks, subtree-has}

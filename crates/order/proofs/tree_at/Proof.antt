@@ -1,5 +1,4 @@
 -- `order::tree_at` meets its contract: what the walk found is that part of the order. Assumes nothing.
-use mathlib.Core.Path.{_≡_}
 use native.Mathlib.Omega.{arith}
 use borrow.Author.Needs.{needs}
 use Rattle.order.specs.declared.Walked.the-variants.{Whole}

@@ -1,16 +1,14 @@
 use mathlib.Core.List.{append-nil}
 use lib.Seq.{drop-length}
-use Prim.Native.Nat.{ℕ, _+_, _≤_, _<_, _-_}
-use mathlib.Core.Path.{_≡_, refl, _∙_, sym, ap}
-use mathlib.Core.List.{List, [], _∷_, _++_}
+use Prim.Native.Nat.{_≤_, _<_, _-_}
+use mathlib.Core.Path.{_≡_, refl, _∙_, sym}
+use mathlib.Core.List.{[]}
 use native.Mathlib.Omega.{arith}
-use lib.ListN.{length, take, drop, getD, replicate, length-set, length-replicate, getD-replicate}
+use lib.ListN.{length, replicate, length-set, length-replicate, getD-replicate}
 use Rattle.words.proofs.Fronts.{fronted, fronted-none, fronted-turn, fronted-done}
 use borrow.Author.Needs.{needs}
 use Rattle.words.proofs.clear.Statement.{statement}
 use Rattle.words.proofs.clear.Tie as tie
-use Rattle.words.proofs.clear.Reads as reads
-use Rattle.words.proofs.clear.Lts as lts
 
 abbrev Inv-loop : tie.InvT-loop
 Inv-loop out₀ i₀ out i = (i ≤ length out₀) × (out ≡ fronted (replicate (length out₀) 0) out₀ i) × (length out ≡ length out₀)

@@ -1,14 +1,12 @@
-use Prim.Native.Nat.{ℕ, _≤_, _<_, _-_}
-use mathlib.Core.Path.{_≡_, refl, _∙_, sym}
+use Prim.Native.Nat.{_≤_, _-_}
+use mathlib.Core.Path.{_≡_, _∙_, sym}
 use native.Mathlib.Omega.{arith}
-use lib.ListN.{length, drop, getD}
+use lib.ListN.{length, drop}
 use Rattle.words.specs.Compare.{compareOf}
 use Rattle.words.proofs.Places.{is-lower, is-higher, is-same, is-longer, is-shorter, is-end}
 use borrow.Author.Needs.{needs}
 use Rattle.words.proofs.compare.Statement.{statement}
 use Rattle.words.proofs.compare.Tie as tie
-use Rattle.words.proofs.compare.Reads as reads
-use Rattle.words.proofs.compare.Lts as lts
 
 abbrev Inv-loop : tie.InvT-loop
 Inv-loop a b i₀ i = (i ≤ length a) × (i ≤ length b) × (compareOf a b ≡ compareOf (drop i a) (drop i b))

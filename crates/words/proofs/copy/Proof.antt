@@ -1,14 +1,12 @@
-use Prim.Native.Nat.{ℕ, _+_, _≤_, _<_, _-_}
-use mathlib.Core.Path.{_≡_, refl, _∙_, sym, ap}
-use mathlib.Core.List.{List, [], _∷_, _++_}
+use Prim.Native.Nat.{_≤_, _-_}
+use mathlib.Core.Path.{_≡_, refl}
+use mathlib.Core.List.{[]}
 use native.Mathlib.Omega.{arith}
-use lib.ListN.{length, take, drop, getD, replicate, length-set, length-replicate, getD-replicate}
+use lib.ListN.{length, getD, length-set}
 use Rattle.words.proofs.Fronts.{fronted, fronted-none, fronted-turn, fronted-done}
 use borrow.Author.Needs.{needs}
 use Rattle.words.proofs.copy.Statement.{statement}
 use Rattle.words.proofs.copy.Tie as tie
-use Rattle.words.proofs.copy.Reads as reads
-use Rattle.words.proofs.copy.Lts as lts
 
 abbrev Inv-loop : tie.InvT-loop
 Inv-loop out₀ words i₀ out i = (i ≤ length words) × (out ≡ fronted words out₀ i) × (length out ≡ length out₀)

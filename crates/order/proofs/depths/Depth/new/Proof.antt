@@ -1,5 +1,4 @@
 -- `order::depths::Depth::new` meets its contract: each test that led to a return decides one part of `depthOf`. Assumes nothing.
-use mathlib.Core.Path.{_≡_, refl}
 use borrow.Author.Tests.{le-leb, lt-leb}
 use Rattle.words.specs.Base.{_and_, if_then_else_}
 use Rattle.order.specs.Limits.{least-k, greatest-k}

@@ -1,0 +1,94 @@
+// How a line is said on standard output: text, numbers, words, and trees in the notation of document 000.
+use libc::STDOUT_FILENO;
+ghost use Prim.Native.Nat.{_≤_};
+
+// Says bytes as they stand.
+pub fn text(bytes: &[u8]) {
+    io::write_all(STDOUT_FILENO, bytes);
+}
+
+// Says a word in decimal.
+pub fn word(n: u16) {
+    io::print_decimal(STDOUT_FILENO, n as u64);
+}
+
+// Says a count or a line in decimal.
+pub fn count(n: usize) {
+    io::print_decimal(STDOUT_FILENO, n as u64);
+}
+
+// Ends a line.
+pub fn end() {
+    text(b"\n");
+}
+
+// Says a case and its answer's number, as one line.
+pub fn answer(name: &[u8], number: u16) {
+    text(name);
+    text(b": ");
+    word(number);
+    end();
+}
+
+// Says so many trees that stand from word `at` on, with commas between, and gives the word past them.
+fn trees_at(words: &[u16], at: usize, left: u16) -> usize
+    ensures { λ r. ⌜ at ≤ r ⌝ }
+{
+    if words.len() < 2 {
+        return at;
+    }
+    if words.len() - 2 < at {
+        return at;
+    }
+    let children = words[at + 1];
+    word(words[at]);
+    let mut next = at + 2;
+    if 0 < children {
+        text(b"(");
+        next = trees_at(words, next, children);
+        text(b")");
+    }
+    if left < 2 {
+        return next;
+    }
+    text(b",");
+    trees_at(words, next, left - 1)
+}
+
+// Says the tree that the words are, or that there is none.
+pub fn tree(words: &[u16]) {
+    if words.len() == 0 {
+        text(b"nothing");
+        return;
+    }
+    let past = trees_at(words, 0, 1);
+    if past != words.len() {
+        text(b" and not just that");
+    }
+}
+
+// Says words with a blank before each.
+pub fn words(words: &[u16]) {
+    for i in 0..words.len() {
+        text(b" ");
+        word(words[i]);
+    }
+}
+
+// Says the tree that a call wrote to the front of `out`, by the count that it answered.
+pub fn written(out: &[u16], count: usize) {
+    if out.len() < count {
+        text(b"more than was lent");
+        return;
+    }
+    tree(&out[0..count]);
+}
+
+// Says the words of `out` that stand behind those that a call wrote, if there are any.
+pub fn behind(out: &[u16], count: usize) {
+    if out.len() <= count {
+        return;
+    }
+    text(b", then");
+    words(&out[count..]);
+}
