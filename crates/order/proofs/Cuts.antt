@@ -37,32 +37,38 @@ abbrev pub CutIs : List ℕ → Walked → Type 0
 CutIs w Broken = w ≡ []
 CutIs w (Whole e h c) = (length w ≡ c) × (2 ≤ c)
 
+-- So it is of what was read.
 cut-is : (at d : ℕ) (p : Reading) → CutIs (cutWords d p) (walked at d p)
 unfolding walked cutWords
 cut-is at d broken = refl
 cut-is at d (read bare r) = refl
 cut-is at d (read (cons t f) r) = (refl, two-words (cut t d))
 
+-- So it is of the result w of a walk, once it is known to be v.
 pub cut-length : (s : List ℕ) (at d : ℕ) (w v : Walked) → w ≡ walkOf s at d → w ≡ v → CutIs (cutOf s at d) v
 unfolding walkOf cutOf
 cut-length s at d w v e f = subst (CutIs (cutOf s at d)) (sym e ∙ f) (cut-is at d (readTrees (drop at s) 1))
 
 -- ---- where a tree has room
 
+-- A test that does not fail passes.
 is-true : (b : Bool) → (b ≡ false → ⊥) → b ≡ true
 is-true true f = refl
 is-true false f = absurd (f refl)
 
+-- A cut has at least the two words of its node.
 room-two : (d end n : ℕ) (p : Reading) → Room (rest d end 0 2 p) n → 2 ≤ n
 room-two d end n broken h = absurd h
 room-two d end n (read f r) h = omega arith
 
+-- A walk with room found a tree, whose cut it measured.
 room-cut-of : (w : List ℕ) (n : ℕ) (v : Walked) → CutIs w v → Room v n → (2 ≤ length w) × (cutLength v ≡ length w)
 room-cut-of w n Broken i r = absurd r
 room-cut-of w n (Whole e h c) i r = (omega arith, omega arith)
 
 -- Its node stands at `at`, and the cut begins with it.
 module _ (s : List ℕ) (at d n : ℕ) (room : Room (walkOf s at d) n) where
+  -- Two words stand there.
   room-at : at + 2 ≤ length s
   room-at =
       elim (decLt (at + 1) (length s)) [
@@ -70,32 +76,40 @@ module _ (s : List ℕ) (at d n : ℕ) (room : Room (walkOf s at d) n) where
         | no l ↦ absurd (subst (λ (w : Walked). Room w n) (short s at d (omega arith)) room)
       ]
 
+  -- They are a node.
   room-ok : soundNode (getD s at 0) (getD s (at + 1) 0) ≡ true
   room-ok = is-true _ (λ e. subst (λ (w : Walked). Room w n) (no-node s at d room-at e) room)
 
+  -- The walk goes on with the children.
   walk-rest : walkOf s at d ≡ rest d (at + 2) 0 2 (readTrees (drop (at + 2) s) (getD s (at + 1) 0))
   walk-rest = start s at d room-at room-ok
 
+  -- There is room for the cut, by what the children come to.
   room-rest : Room (rest d (at + 2) 0 2 (readTrees (drop (at + 2) s) (getD s (at + 1) 0))) n
   room-rest = subst (λ (w : Walked). Room w n) walk-rest room
 
+  -- The node can be read, and written.
   pub room-head : (at + 2 ≤ length s) × (2 ≤ n)
   room-head = (room-at, room-two d (at + 2) n (readTrees (drop (at + 2) s) (getD s (at + 1) 0)) room-rest)
 
+  -- The cut has its node, and the length that the walk says.
   pub room-cut : (2 ≤ length (cutOf s at d)) × (cutLength (walkOf s at d) ≡ length (cutOf s at d))
   room-cut = room-cut-of (cutOf s at d) n (walkOf s at d) (cut-length s at d (walkOf s at d) (walkOf s at d) refl refl) room
 
+  -- The cut is that of the node over its children.
   cut-node : cutOf s at d ≡ cutWords d (nodeOver true (getD s at 0) (getD s (at + 1) 0) (readTrees (drop (at + 2) s) (getD s (at + 1) 0)))
   unfolding cutOf readTrees
   cut-node = rw (two s at room-at) (rw (room-ok, add-zero) refl)
 
 -- ---- the node
 
+-- The first two words are written.
 set-two : (l : List ℕ) (a b : ℕ) → 2 ≤ length l → set (set l 0 a) 1 b ≡ a ∷ b ∷ drop 2 l
 set-two [] a b h = absurd (omega arith)
 set-two (x ∷ []) a b h = absurd (omega arith)
 set-two (x ∷ y ∷ l) a b h = refl
 
+-- At depth 0 the children are left out.
 zero-of : (e c k n : ℕ) (p : Reading) → Room (rest 0 e 0 2 p) n → cutWords 0 (nodeOver true c k p) ≡ c ∷ 0 ∷ []
 unfolding cutWords nodeOver words cut count
 zero-of e c k n broken h = absurd h
@@ -103,33 +117,40 @@ zero-of e c k n (read f r) h = refl
 
 -- At depth 0 the node is written with no children, and the cut has two words.
 module _ (s : List ℕ) (at d : ℕ) (out : List ℕ) (room : Room (walkOf s at d) (length out)) (z : d ≡ 0) where
+  -- The words of the cut.
   zero-words : cutOf s at d ≡ getD s at 0 ∷ 0 ∷ []
   zero-words =
       let n : ℕ = length out in
       let r : Room (walkOf s at 0) n = subst (λ (k : ℕ). Room (walkOf s at k) n) z room in
       ap (cutOf s at) z ∙ cut-node s at 0 n r ∙ zero-of (at + 2) (getD s at 0) (getD s (at + 1) 0) n (readTrees (drop (at + 2) s) (getD s (at + 1) 0)) (room-rest s at 0 n r)
 
+  -- The output is right.
   pub put-zero : set (set out 0 (getD s at 0)) 1 0 ≡ over (cutOf s at d) out
   put-zero = rw zero-words (set-two out (getD s at 0) 0 (room-head s at d (length out) room .1))
 
+  -- The answer is right.
   pub laid-zero : (e : ℕ) → e ≡ endOf (walkOf s at 0) → record { end = e; count = 2 } ≡ laidOf (walkOf s at d)
   laid-zero e q =
       let a : e ≡ endOf (walkOf s at d) = q ∙ ap (λ (k : ℕ). endOf (walkOf s at k)) (sym z) in
       let b : 2 ≡ cutLength (walkOf s at d) = sym (room-cut s at d (length out) room .1 ∙ ap length zero-words) in
       cc
 
+-- What is written over the front does not depend on the two words that stood there.
 pub over-set : (w l : List ℕ) (a b : ℕ) → 2 ≤ length w → over w (set (set l 0 a) 1 b) ≡ over w l
 over-set w l a b h = rw (drop-set-lt (length w) (set l 0 a) 1 b h, drop-set-lt (length w) l 0 a (omega arith))
 
+-- A cut row has as many trees.
 count-cut : (f : Forest) (d : ℕ) → count (cutF f d) ≡ count f
 unfolding count cutF
 count-cut bare d = refl
 count-cut (cons t f) d = ap suc (count-cut f d)
 
+-- Below depth 0 the node keeps its children, cut by one less.
 node-cut : (d c k : ℕ) (f : Forest) (r : List ℕ) → count f ≡ k → cutWords (suc d) (nodeOver true c k (read f r)) ≡ c ∷ k ∷ wordsF (cutF f d)
 unfolding cutWords nodeOver words cut
 node-cut d c k f r e = rw (take-all k f e) (rw (count-cut f d, e) refl)
 
+-- After the node its children are left, by what was read of them.
 start-left : (d e c k : ℕ) (out l : List ℕ) (p : Reading) → (d ≡ 0 → ⊥) → Sound k l p → Room (rest d e 0 2 p) (length out) → take 2 out ≡ c ∷ k ∷ []
     → Left d e 2 out (over (cutWords d (nodeOver true c k p)) out) (laidOf (rest d e 0 2 p)) p
 start-left d e c k out l broken z g h m = absurd h
@@ -178,14 +199,17 @@ part-back len out w last h e =
     let c : last ≡ w ++ drop (len + length w) out = e ∙ rw a (ap (λ (l : List ℕ). w ++ l) (drop-drop (length w) len out)) in
     rw (b, c) (simp (append-assoc, append-nil))
 
+-- There is room for the first tree that is left.
 left-room : (d end len : ℕ) (out z : List ℕ) (y : Laid) (t : Tree) (q : Reading) → Left d end len out z y (addT t q) → len + length (words (cut t (d - 1))) ≤ length out
 unfolding wordsF cutF
 left-room d end len out z y t broken h = absurd h
 left-room d end len out z y t (read f r) h = omega (arith, h .0, length-append (words (cut t (d - 1))) (wordsF (cutF f (d - 1))))
 
+-- Two answers with the same fields are one.
 laid : {a b c d : ℕ} → a ≡ b → c ≡ d → _≡_ {A = Laid} (record { end = a; count = c }) (record { end = b; count = d })
 laid p q = cc
 
+-- Once the first tree is written the others are left.
 left-add : (d end len : ℕ) (out z out′ : List ℕ) (y : Laid) (t : Tree) (q : Reading) → Left d end len out z y (addT t q) → out′ ≡ (take len out ++ words (cut t (d - 1))) ++ drop (len + length (words (cut t (d - 1)))) out → Left d (end + length (words t)) (len + length (words (cut t (d - 1)))) out′ z y q
 unfolding wordsF cutF
 left-add d end len out z out′ y t broken h o = h
@@ -206,6 +230,7 @@ abbrev Walks : List ℕ → ℕ → ℕ → ℕ → ℕ → List ℕ → List �
 Walks s d end len left out z y w Broken = ⊥
 Walks s d end len left out z y w (Whole e h c) = Child s d end len left out z y (record { end = e; count = c }) w
 
+-- So it is of what was read.
 walks-of : (s : List ℕ) (d end len left : ℕ) (out z : List ℕ) (y : Laid) (p : Reading) → readTrees (drop end s) left ≡ thenF (left - 1) p → Sound 1 (drop end s) p → Left d end len out z y (readTrees (drop end s) left) → Walks s d end len left out z y (cutWords (d - 1) p) (walked end (d - 1) p)
 unfolding walked cutWords count wordsF
 walks-of s d end len left out z y broken e g h = rw e at h
@@ -225,6 +250,7 @@ walks-of s d end len left out z y (read (cons t bare) r) e g h =
 walks-of s d end len left out z y (read (cons t (cons u f)) r) e g h = absurd (omega (arith, g .1))
 
 module _ (s : List ℕ) (d end len left : ℕ) (out z : List ℕ) (y : Laid) (more : 0 < left) (inv : Left d end len out z y (readTrees (drop end s) left)) where
+  -- So it is of the walk of the first tree that is left.
   walks : Walks s d end len left out z y (cutOf s end (d - 1)) (walkOf s end (d - 1))
   unfolding walkOf cutOf
   walks =

@@ -16,9 +16,11 @@ mutual
   depth-cutF bare d = omega arith
   depth-cutF (cons t f) d = omega (arith, depth-cut t d, depth-cutF f d)
 
+-- The cut at d is at most d deep.
 pub cut-depth : (t : Tree) (d : ℕ) → depth (cut t d) ≤ d
 cut-depth t d = omega (arith, depth-cut t d)
 
+-- The cut at d of a tree that is at least d deep is d deep.
 pub cut-deep : (t : Tree) (d : ℕ) → d ≤ depth t → depth (cut t d) ≡ d
 cut-deep t d h = omega (arith, depth-cut t d)
 

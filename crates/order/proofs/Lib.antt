@@ -3,6 +3,7 @@ pub mod Cutting
 pub mod Unique
 pub mod Once
 pub mod Paper
+pub mod LineParts
 pub mod Reading
 pub mod Orders
 pub mod Walks

@@ -21,18 +21,21 @@ use Rattle.order.proofs.Orders.{Passed, Seen, stopped, passed, seen, re
 
 -- ---- a place in a list of trees
 
+-- A place in the first of two lists.
 at-left : (us vs : List Tree) (i : ℕ) → i < length us → treeAt (us ++ vs) i ≡ treeAt us i
 unfolding treeAt
 at-left [] vs i h = absurd (omega arith)
 at-left (u ∷ us) vs zero h = refl
 at-left (u ∷ us) vs (suc i) h = at-left us vs i (omega arith)
 
+-- A place in the second of two lists.
 at-right : (us vs : List Tree) (i : ℕ) → length us ≤ i → treeAt (us ++ vs) i ≡ treeAt vs (i - length us)
 unfolding treeAt
 at-right [] vs i h = ap (treeAt vs) (omega arith)
 at-right (u ∷ us) vs zero h = absurd (omega arith)
 at-right (u ∷ us) vs (suc i) h = at-right us vs i (omega arith) ∙ ap (treeAt vs) (omega arith)
 
+-- A place past the last.
 at-past : (us : List Tree) (i : ℕ) → length us ≤ i → treeAt us i ≡ missing
 unfolding treeAt
 at-past [] i h = refl
@@ -49,9 +52,11 @@ pub record Spot (s : List ℕ) (at : ℕ) (x : Found) : Type 0 where
   pub here : drop at s ≡ words tree ++ after
   pub is : x ≡ found tree
 
+-- Below a number, or not.
 pick : {A : Type 0} (i n : ℕ) → (i < n → A) → (n ≤ i → A) → A
 pick i n f g = elim (decLt i n) [ yes h ↦ f h | no h ↦ g (omega arith) ]
 
+-- A spot below a node.
 spot-down : (c k i : ℕ) (s : List ℕ) (u : Tree) (us : List Tree) → Spot s (i * 2) (treeAt us i) → Spot (c ∷ k ∷ s) (suc i * 2) (treeAt (u ∷ us) (suc i))
 unfolding treeAt
 spot-down c k i s u us p = record {
@@ -62,6 +67,7 @@ spot-down c k i s u us p = record {
   is = p .is;
 }
 
+-- A spot in the first of two runs of words.
 spot-left : (i : ℕ) (xs ys s : List ℕ) (us vs : List Tree) → i < length us → Spot (xs ++ (ys ++ s)) (i * 2) (treeAt us i) → Spot ((xs ++ ys) ++ s) (i * 2) (treeAt (us ++ vs) i)
 spot-left i xs ys s us vs l p = record {
   tree = p .tree;
@@ -71,6 +77,7 @@ spot-left i xs ys s us vs l p = record {
   is = at-left us vs i l ∙ p .is;
 }
 
+-- A spot in the second of two runs of words.
 spot-right : (i : ℕ) (xs ys s : List ℕ) (us vs : List Tree) → length us ≤ i → length xs ≡ length us * 2 → Spot (ys ++ s) ((i - length us) * 2) (treeAt vs (i - length us)) → Spot ((xs ++ ys) ++ s) (i * 2) (treeAt (us ++ vs) i)
 spot-right i xs ys s us vs l e p = record {
   tree = p .tree;
@@ -80,6 +87,7 @@ spot-right i xs ys s us vs l e p = record {
   is = at-right us vs i l ∙ p .is;
 }
 
+-- Each subtree has its spot in the words.
 mutual
   unfolding words subtrees Good treeAt
 
@@ -96,14 +104,17 @@ mutual
 
 -- What the walk finds at a spot, the words of the cut there, and the words of the tree.
 module _ (s : List ℕ) (at : ℕ) (x : Found) (p : Spot s at x) where
+  -- The walk finds the tree.
   pub walk-spot : (d : ℕ) → walkOf s at d ≡ Whole (at + length (words (p .tree))) (depth (p .tree)) (length (words (cut (p .tree) d)))
   unfolding walkOf walked
   walk-spot d = rw (p .here, complete (p .tree) (p .good) 0 (p .after), reads-none (p .after)) refl
 
+  -- The cut is that of the tree.
   pub cut-spot : (d : ℕ) → cutOf s at d ≡ words (cut (p .tree) d)
   unfolding cutOf cutWords
   cut-spot d = rw (p .here, complete (p .tree) (p .good) 0 (p .after), reads-none (p .after)) refl
 
+  -- The words are those of the tree.
   pub tree-spot : wordsAtOf s at ≡ words (p .tree)
   unfolding wordsAtOf treeWords
   tree-spot = rw (p .here, complete (p .tree) (p .good) 0 (p .after), reads-none (p .after)) refl
@@ -116,6 +127,7 @@ pub record HasLine (s : List ℕ) (line at : ℕ) : Type 0 where
   pub is : orderOf s ≡ order top
   pub spot : Spot s at (lineOf line (subtrees top))
 
+-- The order passes, and the line is one that it lacks.
 pub record LacksLine (s : List ℕ) (line : ℕ) : Type 0 where
   pub top : Tree
   pub is : orderOf s ≡ order top
@@ -127,6 +139,7 @@ Placed s line (Refused n) = orderOf s ≡ refused n
 Placed s line Lacking = LacksLine s line
 Placed s line (At at) = HasLine s line at
 
+-- So it is for an order that passes.
 placed-line : (s : List ℕ) (line : ℕ) (t : Tree) → Passed s t → Placed s line (linePlace (length (subtrees t)) line)
 unfolding linePlace lineOf if_then_else_
 placed-line s zero t p = record { top = t; is = p .is; lacks = refl }
@@ -138,6 +151,7 @@ placed-line s (suc i) t p = pick i (length (subtrees t))
     }))
     (λ l. rw (le-ltb i (length (subtrees t)) l) (record { top = t; is = p .is; lacks = at-past (subtrees t) i l }))
 
+-- So it is for any words.
 placed-of : (s : List ℕ) (line : ℕ) → Placed s line (placeOf s line)
 unfolding placeOf byOrder
 placed-of s line = go (seen s)
@@ -146,20 +160,24 @@ placed-of s line = go (seen s)
     go (stopped k e) = rw e e
     go (passed t k p) = rw (p .is) (placed-line s line t p)
 
+-- So it is of the result w of a call, once it is known to be v.
 pub placed : (s : List ℕ) (line : ℕ) (w v : Place) → w ≡ placeOf s line → w ≡ v → Placed s line v
 placed s line w v e f = subst (Placed s line) (sym e ∙ f) (placed-of s line)
 
 -- ---- the place by the order's length
 
 module _ (s : List ℕ) (line : ℕ) where
+  -- A cause refuses.
   pub place-refused : (causeOf s ≡ done → ⊥) → placeOf s line ≡ Refused (causeOf s)
   unfolding placeOf byOrder
   place-refused h = rw (refused-by s h)
 
+  -- An order has half as many lines as words.
   lines : (t : Tree) → Passed s t → placeOf s line ≡ linePlace (length s / 2) line
   unfolding placeOf byOrder
   lines t p = let n : length (subtrees t) ≡ length s / 2 = omega (arith, size t, ap length (p .spelt)) in rw (p .is, n)
 
+  -- An order without a cause has the lines that its length says.
   by-length : causeOf s ≡ done → placeOf s line ≡ linePlace (length s / 2) line
   by-length e = go (seen s)
     where
@@ -167,23 +185,28 @@ module _ (s : List ℕ) (line : ℕ) where
       go (stopped k f) = absurd (k e)
       go (passed t k p) = lines t p
 
+  -- There is no line 0.
   pub place-none : causeOf s ≡ done → line ≡ 0 → placeOf s line ≡ Lacking
   unfolding linePlace
   place-none e z = by-length e ∙ rw z refl
 
+-- A line past the last.
 line-past : (n line : ℕ) → n < line → linePlace n line ≡ Lacking
 unfolding linePlace if_then_else_
 line-past n zero h = refl
 line-past n (suc i) h = rw (le-ltb i n (omega arith))
 
+-- A line that is there.
 line-at : (n line : ℕ) → (line ≡ 0 → ⊥) → line ≤ n → linePlace n line ≡ At ((line - 1) * 2)
 unfolding linePlace if_then_else_
 line-at n zero z h = absurd (z refl)
 line-at n (suc i) z h = let y : suc i - 1 ≡ i = omega arith in rw (lt-ltb i n (omega arith), y)
 
 module _ (s : List ℕ) (line : ℕ) (passes : causeOf s ≡ done) where
+  -- A line past the last is lacking.
   pub place-past : length s / 2 < line → placeOf s line ≡ Lacking
   place-past h = by-length s line passes ∙ line-past (length s / 2) line h
 
+  -- Any other line stands at its word.
   pub place-at : (line ≡ 0 → ⊥) → line ≤ length s / 2 → placeOf s line ≡ At ((line - 1) * 2)
   place-at z h = by-length s line passes ∙ line-at (length s / 2) line z h

@@ -26,6 +26,7 @@ module _ {A : Type 0} where
       go true e (there n) later = later n
       go false e n later = later n
 
+  -- What passes the test is kept.
   pub in-kept : (p : A → Bool) {s : A} {ts : List A} → s ∈ ts → p s ≡ true → s ∈ keep p ts
   unfolding keep if_then_else_
   in-kept p (here {x} e) h = let y : p x ≡ true = cc in rw y (here e)
@@ -42,6 +43,7 @@ once-from [] m = m
 once-from (t ∷ ts) (here e) = here e
 once-from (t ∷ ts) (there m) = there (once-from ts (kept-in _ _ m .0))
 
+-- And nothing is lost.
 pub once-to : {s : Tree} {ts : List Tree} → s ∈ ts → s ∈ eachOnce ts
 unfolding eachOnce
 once-to (here e) = here e
@@ -56,6 +58,7 @@ unfoldable pub NoRepeats : List Tree → Type 0
 NoRepeats [] = Unit {0}
 NoRepeats (t ∷ ts) = (t ∈ ts → ⊥) × NoRepeats ts
 
+-- Keeping some of a list without repeats brings none.
 kept-no-repeats : (p : Tree → Bool) (ts : List Tree) → NoRepeats ts → NoRepeats (keep p ts)
 unfolding keep if_then_else_ NoRepeats
 kept-no-repeats p [] h = tt
@@ -65,6 +68,7 @@ kept-no-repeats p (t ∷ ts) h = go (p t) (kept-no-repeats p ts (h .1))
     go true n = (λ m. h .0 (kept-in p ts m .0), n)
     go false n = n
 
+-- Each part stands there once.
 pub once-no-repeats : (ts : List Tree) → NoRepeats (eachOnce ts)
 unfolding eachOnce NoRepeats
 once-no-repeats [] = tt

@@ -9,7 +9,7 @@ use borrow.Author.Tests.{ne-eqb, eq-eqb, le-ltb, lt-ltb, le-leb, lt-leb, leb-tru
 use lib.ListN.{length, length-append}
 use lib.Dec.{leb, ltb}
 use Rattle.words.specs.Base.{if_then_else_}
-use Rattle.order.specs.Limits.{most-nodes, most-words, greatest-depth}
+use Rattle.order.specs.Limits.{least-code, greatest-code, most-nodes, most-words, greatest-depth}
 use Rattle.order.specs.Numbers.{done, no-order, too-large}
 use Rattle.order.specs.Trees.{Tree, node, Forest, bare, cons, count, words, wordsF, depth, Good, GoodF, subtrees, subtreesF}
 use Rattle.order.specs.Reading.{Reading, broken, read, readTrees, Found, missing, found, only, treeOf, Order, refused, order, byOrder, shallow, orderOf, causeOf}
@@ -25,6 +25,7 @@ abbrev pub IsTree : List ℕ → Found → Type 0
 IsTree s missing = Unit {0}
 IsTree s (found t) = (s ≡ words t) × Good t
 
+-- So it is of what was read.
 is-tree-of : (s : List ℕ) (p : Reading) → Sound 1 s p → IsTree s (only p)
 unfolding only count wordsF GoodF
 is-tree-of s broken g = tt
@@ -34,6 +35,7 @@ is-tree-of s (read (cons t bare) (x ∷ r)) g = tt
 is-tree-of s (read (cons t (cons u f)) []) g = absurd (omega (arith, g .1))
 is-tree-of s (read (cons t (cons u f)) (x ∷ r)) g = absurd (omega (arith, g .1))
 
+-- So it is of any words.
 pub is-tree : (s : List ℕ) → IsTree s (treeOf s)
 unfolding treeOf
 is-tree s = is-tree-of s (readTrees s 1) (sound s 1)
@@ -67,18 +69,22 @@ pub record Sized (s : List ℕ) : Type 0 where
   pub short : length s ≤ most-words
 
 module _ (s : List ℕ) where
+  -- No words: 1.
   pub cause-empty : length s ≡ 0 → causeOf s ≡ no-order
   unfolding causeOf byOrder orderOf if_then_else_
   cause-empty e = rw (eq-eqb _ _ e)
 
+  -- An odd number of words: 1.
   pub cause-odd : (length s ≡ 0 → ⊥) → length s % 2 ≡ 1 → causeOf s ≡ no-order
   unfolding causeOf byOrder orderOf if_then_else_
   cause-odd a e = rw (ne-eqb _ _ a, eq-eqb _ _ e)
 
+  -- More words than an order has: 2, whatever they are.
   pub cause-long : (length s ≡ 0 → ⊥) → (length s % 2 ≡ 1 → ⊥) → most-words < length s → causeOf s ≡ too-large
   unfolding causeOf byOrder orderOf if_then_else_
   cause-long a b l = rw (ne-eqb _ _ a, ne-eqb _ _ b, lt-ltb _ _ l)
 
+  -- Past the length the tree decides.
   pub sized-order : Sized s → orderOf s ≡ shallow (treeOf s)
   unfolding orderOf if_then_else_
   sized-order z = rw (ne-eqb _ _ (z .some), ne-eqb _ _ (z .even), le-ltb _ _ (z .short))
@@ -90,14 +96,17 @@ pub record FoundDeep (x : Found) (h : ℕ) : Type 0 where
   pub deep : depth tree ≡ h
 
 module _ (s : List ℕ) (z : Sized s) where
+  -- Words that are not exactly one good tree: 1.
   pub cause-missing : treeOf s ≡ missing → causeOf s ≡ no-order
   unfolding causeOf byOrder shallow
   cause-missing e = rw (sized-order s z, e)
 
+  -- A tree that is too deep: 2.
   pub cause-deep : (h : ℕ) → FoundDeep (treeOf s) h → greatest-depth < h → causeOf s ≡ too-large
   unfolding causeOf byOrder shallow if_then_else_
   cause-deep h f l = rw (sized-order s z, f .is, f .deep, lt-leb _ _ l)
 
+  -- No cause is left.
   pub cause-none : (h : ℕ) → FoundDeep (treeOf s) h → h ≤ greatest-depth → causeOf s ≡ done
   unfolding causeOf byOrder shallow if_then_else_
   cause-none h f l = rw (sized-order s z, f .is, f .deep, le-leb _ _ l)
@@ -107,6 +116,7 @@ abbrev pub FromTop : List ℕ → Found → Walked → Type 0
 FromTop s x Broken = x ≡ missing
 FromTop s x (Whole e h c) = (e < length s → x ≡ missing) × (length s ≤ e → FoundDeep x h)
 
+-- So it is of what was read.
 from-top-of : (s : List ℕ) (p : Reading) → Sound 1 s p → FromTop s (only p) (walked 0 0 p)
 unfolding walked only count wordsF
 from-top-of s broken g = refl
@@ -120,6 +130,7 @@ from-top-of s (read (cons t bare) (x ∷ r)) g =
 from-top-of s (read (cons t (cons u f)) []) g = absurd (omega (arith, g .1))
 from-top-of s (read (cons t (cons u f)) (x ∷ r)) g = absurd (omega (arith, g .1))
 
+-- So it is of the result w of a walk, once it is known to be v.
 pub from-top : (s : List ℕ) (w v : Walked) → w ≡ walkOf s 0 0 → w ≡ v → FromTop s (treeOf s) v
 unfolding walkOf treeOf
 from-top s w v e f = subst (FromTop s (treeOf s)) (sym e ∙ f) (from-top-of s (readTrees s 1) (sound s 1))
@@ -131,6 +142,7 @@ data Causes (long : Bool) (x : Found) (o : Order) : Type 0 where
   named : (n : ℕ) → o ≡ refused (suc n) → Causes long x o
   clear : (t : Tree) → o ≡ order t → long ≡ false → x ≡ found t → leb (depth t) greatest-depth ≡ true → Causes long x o
 
+-- So it is whatever the tests say.
 causes : (empty odd long : Bool) (x : Found) →
     Causes long x (if empty then refused no-order else if odd then refused no-order else if long then refused too-large else shallow x)
 unfolding if_then_else_ shallow
@@ -157,6 +169,7 @@ pub data Seen (s : List ℕ) : Type 0 where
   stopped : (causeOf s ≡ done → ⊥) → orderOf s ≡ refused (causeOf s) → Seen s
   passed : (t : Tree) → causeOf s ≡ done → Passed s t → Seen s
 
+-- So it is of any words.
 pub seen : (s : List ℕ) → Seen s
 unfolding orderOf causeOf byOrder
 seen s = go (causes _ _ _ (treeOf s))
@@ -188,3 +201,16 @@ tree-passes t g n d =
     let q : 1 ≤ length (subtrees t) = some-lines t in
     sized-order (words t) (record { some = λ e. omega arith; even = λ e. omega arith; short = omega arith })
     ∙ rw (words-read t g, le-leb _ _ d)
+
+-- A single node is an order: document 000 decides, and not the automata of 001, which accept no tree of one node.
+pub single-node : (c : ℕ) → least-code ≤ c → c ≤ greatest-code → orderOf (c ∷ 0 ∷ []) ≡ order (node c bare)
+unfolding words count subtrees depth Good
+single-node c l g = tree-passes (node c bare) ((l, g, omega arith), tt) (omega arith) (omega arith)
+
+-- The number is 0 exactly for the words of a good tree within the limits: this way, and `tree-passes` the other.
+pub passes : (s : List ℕ) → causeOf s ≡ done → (t : Tree) × Passed s t
+passes s e = go (seen s)
+  where
+    go : Seen s → (t : Tree) × Passed s t
+    go (stopped k f) = absurd (k e)
+    go (passed t f p) = (t, p)

@@ -25,6 +25,7 @@ use Rattle.order.proofs.Once.{_∈_, kept-in, in-kept, once-from, once-
 abbrev rootedIn : ℕ → Position → Forest → Found
 rootedIn i x f = byFound (childOf i f) missing (rootedAt x)
 
+-- The label there.
 abbrev labelIn : ℕ → Position → Forest → Option ℕ
 labelIn i x f = byFound (rootedIn i x f) none (λ s. some (code s))
 
@@ -32,6 +33,7 @@ labelIn i x f = byFound (rootedIn i x f) none (λ s. some (code s))
 not-found : {A : Type 0} {s : Tree} → missing ≡ found s → A
 not-found e = absurd (let z : _≡_ {A = ℕ} 0 1 = cc in omega arith)
 
+-- What has no label has none.
 no-label : {A : Type 0} {c : ℕ} → none ≡ some c → A
 no-label e = absurd (let z : _≡_ {A = ℕ} 0 1 = cc in omega arith)
 
@@ -41,6 +43,7 @@ unfolding childOf
 no-child bare = refl
 no-child (cons t f) = refl
 
+-- A position below a row is one child further on below the row with one more in front.
 next-child : (i : ℕ) (x : Position) {s : Tree} (t : Tree) (f : Forest) → rootedIn i x f ≡ found s
     → rootedIn (suc i) x (cons t f) ≡ found s
 unfolding childOf byFound
@@ -63,9 +66,11 @@ mutual
   rooted-depthF (cons t f) (suc zero) x s e = omega (arith, rooted-depth t x s e)
   rooted-depthF (cons t f) (suc (suc i)) x s e = omega (arith, rooted-depthF f (suc i) x s e)
 
+-- No position is longer than the tree is deep.
 within-depth : (t : Tree) (x : Position) → InDomain t x → length x ≤ depth t
 within-depth t x a = omega (arith, rooted-depth t x (a .subtree) (a .is))
 
+-- A subtree is no deeper than the tree.
 pub subtree-depth : {t s : Tree} → Subtree t s → depth s ≤ depth t
 subtree-depth {t} {s} a = omega (arith, rooted-depth t (a .position) s (a .is))
 
@@ -73,6 +78,7 @@ subtree-depth {t} {s} a = omega (arith, rooted-depth t (a .position) s (a .is))
 abbrev Reached : Tree → ℕ → Type 0
 Reached t d = (x : Position) × InDomain t x × (length x ≡ d)
 
+-- The deepest position below a node lies below its first child or below the others.
 deeper : (c : ℕ) (t : Tree) (f : Forest) → Reached t (depth t) → Reached (node c f) (depthF f)
     → Reached (node c (cons t f)) (depthF (cons t f))
 unfolding depth rootedAt childOf byFound
@@ -87,6 +93,7 @@ deeper c t f r q =
     later [] a e h = absurd (omega arith)
     later (i ∷ x) a e h = (suc i ∷ x, record { subtree = a .subtree; is = next-child i x t f (a .is) }, omega arith)
 
+-- So every tree and every row has one.
 mutual
   unfolding depth rootedAt
 
@@ -101,6 +108,7 @@ mutual
 pub depth-is : (t : Tree) → IsDepth t (depth t)
 depth-is t = let d = deepest t in record { position = d .0; there = d .1; reached = d .2; most = within-depth t }
 
+-- No other number is the depth.
 pub depth-only : {t : Tree} {d e : ℕ} → IsDepth t d → IsDepth t e → d ≡ e
 depth-only a b = omega (arith, a .most (b .position) (b .there), b .most (a .position) (a .there))
 
@@ -120,6 +128,7 @@ mutual
         | inr n ↦ let r = subtreeF-from f n in (suc (r .0), r .1, next-child (r .0) (r .1) t f (r .2))
       ]
 
+-- A tree at a position is one of the subtrees.
 mutual
   unfolding subtrees rootedAt childOf byFound
 
@@ -133,6 +142,7 @@ mutual
   rooted-inF (cons t f) (suc zero) x e = Memᴰ·append-left (subtreesF f) (rooted-in t x e)
   rooted-inF (cons t f) (suc (suc i)) x e = Memᴰ·append-right (subtrees t) (rooted-inF f (suc i) x e)
 
+-- And each t/x is one of them.
 pub subtree-to : {t s : Tree} → Subtree t s → s ∈ subtrees t
 subtree-to {t} a = rooted-in t (a .position) (a .is)
 
@@ -145,6 +155,7 @@ unfolding childOf byFound
 next-labels t u f g h zero x = rw (no-child f, no-child g)
 next-labels t u f g h (suc i) x = h (suc (suc i)) x
 
+-- Trees with the same mapping are one, and so are rows.
 mutual
   unfolding labelAt rootedAt childOf byFound
 
@@ -199,9 +210,11 @@ cut-is-r t n l =
       labels = λ h x a. cut-label t d x (short x a);
     }
 
+-- Two trees that are r have the same domain.
 r-domain : {t u v : Tree} (n : ℕ) → n - 1 < depth t → IsR n t u → IsR n t v → (x : Position) → InDomain u x → InDomain v x
 r-domain n h a b x i = let r = a .domain h x i in b .whole h x (r .0) (r .1)
 
+-- Nothing else is r.
 pub r-only : {t u v : Tree} (n : ℕ) → 1 ≤ n → IsR n t u → IsR n t v → u ≡ v
 unfolding labelAt byFound
 r-only {t} {u} {v} n l a b =
@@ -222,6 +235,7 @@ pub top-is-r : (k : ℕ) (t : Tree) → 2 ≤ k → IsR (k - 1) t (top k t)
 unfolding top
 top-is-r k t l = let e : k - 1 - 1 ≡ k - 2 = omega arith in rw e at (cut-is-r t (k - 1) (omega arith))
 
+-- At k = 2 the top is the node alone.
 pub first-top : (c : ℕ) (f : Forest) → top 2 (node c f) ≡ node c bare
 unfolding top cut
 first-top c f = refl
@@ -236,6 +250,7 @@ module _ (k : ℕ) {t s : Tree} (two : 2 ≤ k) where
       let r = kept-in (isLow k) (subtrees t) (once-from _ m) in
       record { subtree = subtree-from t (r .0); shallow = omega (arith, leb-true (depth s) (k - 2) (r .1)) }
 
+  -- And all of l are low parts.
   pub l-is-low : IsL (k - 1) t s → s ∈ lowParts k t
   unfolding lowParts lows isLow
   l-is-low a = once-to (in-kept (isLow k) (subtree-to (a .subtree)) (le-leb (depth s) (k - 2) (omega arith)))
@@ -256,6 +271,7 @@ module _ (k : ℕ) {t s : Tree} (two : 2 ≤ k) where
         is = rw (q .2) at (cut-is-r (q .0) k (omega arith));
       }
 
+  -- And all of p are middle parts.
   pub p-is-middle : IsP k t s → s ∈ middleParts k t
   unfolding middleParts middles isMiddle middle
   p-is-middle a =
@@ -268,6 +284,7 @@ no-members : {A : Type 0} (l : List A) → ((a : A) → a ∈ l → ⊥) → l �
 no-members [] h = refl
 no-members (a ∷ l) h = absurd (h a (here refl))
 
+-- A tree less than k-1 deep has no middle part.
 pub no-middle : (k : ℕ) (t : Tree) → depth t < k - 1 → middleParts k t ≡ []
 no-middle k t h = no-members (middleParts k t) (λ u m. let p : IsP k t u = middle-is-p k (omega arith) m in omega arith)
 

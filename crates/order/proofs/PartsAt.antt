@@ -11,18 +11,22 @@ use Rattle.order.specs.declared.PartAt.the-variants.{NoPart, LowTo, Midd
 
 -- The walk w at depth d = k-1 found nothing, a subtree of depth at most k-2, or a deeper one.
 module _ (s : List ℕ) (at k d : ℕ) (w v : Walked) (deep : d ≡ k - 1) (is : w ≡ walkOf s at d) (told : w ≡ v) where
+  -- The part is what the walk says.
   part-walked : partAtOf s at k ≡ partWalked k v
   unfolding partAtOf
   part-walked = ap (λ (n : ℕ). partWalked k (walkOf s at n)) (sym deep) ∙ ap (partWalked k) (sym is ∙ told)
 
+  -- No tree, no part.
   pub part-broken : v ≡ Broken → partAtOf s at k ≡ NoPart
   unfolding partWalked
   part-broken e = part-walked ∙ ap (partWalked k) e
 
+  -- A subtree of depth at most k-2 is a low part.
   pub part-low : (e h c b : ℕ) → v ≡ Whole e h c → b ≡ k - 2 → h ≤ b → partAtOf s at k ≡ LowTo e
   unfolding partWalked if_then_else_
   part-low e h c b q f l = part-walked ∙ ap (partWalked k) q ∙ rw (← f, le-leb h b l) refl
 
+  -- A deeper one is a middle part.
   pub part-middle : (e h c b : ℕ) → v ≡ Whole e h c → b ≡ k - 2 → b < h → partAtOf s at k ≡ MiddleTo e c
   unfolding partWalked if_then_else_
   part-middle e h c b q f l = part-walked ∙ ap (partWalked k) q ∙ rw (← f, lt-leb h b l) refl

@@ -19,10 +19,12 @@ abbrev pub join : Forest → Forest → Forest
 join bare g = g
 join (cons t f) g = cons t (join f g)
 
+-- A tree put before what was read.
 abbrev pub addT : Tree → Reading → Reading
 addT t broken = broken
 addT t (read f r) = read (cons t f) r
 
+-- A row put before what was read.
 abbrev pub addF : Forest → Reading → Reading
 addF g broken = broken
 addF g (read f r) = read (join g f) r
@@ -34,24 +36,28 @@ count-take zero n f e = refl
 count-take (suc k) n bare e = omega arith
 count-take (suc k) n (cons t f) e = ap suc (count-take k n f (omega arith))
 
+-- The second part has the other trees.
 count-drop : (k n : ℕ) (f : Forest) → count f ≡ k + n → count (laterTrees k f) ≡ n
 unfolding count laterTrees
 count-drop zero n f e = omega arith
 count-drop (suc k) n bare e = omega arith
 count-drop (suc k) n (cons t f) e = count-drop k n f (omega arith)
 
+-- The words of the parts are those of the row.
 words-split : (k : ℕ) (f : Forest) → wordsF (firstTrees k f) ++ wordsF (laterTrees k f) ≡ wordsF f
 unfolding wordsF firstTrees laterTrees
 words-split zero f = refl
 words-split (suc k) bare = refl
 words-split (suc k) (cons t f) = append-assoc (words t) (wordsF (firstTrees k f)) (wordsF (laterTrees k f)) ∙ ap (λ (l : List ℕ). words t ++ l) (words-split k f)
 
+-- The first part of a good row is good.
 good-take : (k : ℕ) (f : Forest) → GoodF f → GoodF (firstTrees k f)
 unfolding GoodF firstTrees
 good-take zero f g = tt
 good-take (suc k) bare g = tt
 good-take (suc k) (cons t f) g = (g .0, good-take k f (g .1))
 
+-- So is the second.
 good-drop : (k : ℕ) (f : Forest) → GoodF f → GoodF (laterTrees k f)
 unfolding GoodF laterTrees
 good-drop zero f g = g
@@ -65,6 +71,7 @@ ok-node c k f e m =
     let a : (leb least-code c and leb c greatest-code) ≡ true = and-left _ _ e in
     (leb-true _ _ (and-left _ _ a), leb-true _ _ (and-right _ _ a), rw m (leb-true _ _ (and-right _ _ e)))
 
+-- A node that a good tree may have is sound.
 pub node-ok : (c k : ℕ) → (least-code ≤ c) × (c ≤ greatest-code) × (k ≤ most-children) → soundNode c k ≡ true
 unfolding soundNode
 node-ok c k h = and-both (and-both (le-leb _ _ (h .0)) (le-leb _ _ (h .1))) (le-leb _ _ (h .2))
@@ -74,6 +81,7 @@ abbrev pub Sound : ℕ → List ℕ → Reading → Type 0
 Sound n s broken = Unit {0}
 Sound n s (read f r) = (s ≡ wordsF f ++ r) × (count f ≡ n) × GoodF f
 
+-- A node over what was read right is read right.
 sound-node : (b : Bool) (c k n : ℕ) (s : List ℕ) (p : Reading) → soundNode c k ≡ b → Sound (k + n) s p → Sound (suc n) (c ∷ k ∷ s) (nodeOver b c k p)
 unfolding nodeOver soundNode wordsF count GoodF
 sound-node false c k n s p e h = tt
@@ -101,20 +109,24 @@ unfolding count firstTrees
 take-all bare g = refl
 take-all (cons t f) g = ap (cons t) (take-all f g)
 
+-- The second row is what is left.
 drop-all : (f g : Forest) → laterTrees (count f) (join f g) ≡ g
 unfolding count laterTrees
 drop-all bare g = refl
 drop-all (cons t f) g = drop-all f g
 
+-- A node is put over its own children.
 node-joined : (c : ℕ) (f : Forest) (p : Reading) → nodeOver true c (count f) (addF f p) ≡ addT (node c f) p
 unfolding nodeOver
 node-joined c f broken = refl
 node-joined c f (read g r) = rw (take-all f g, drop-all f g)
 
+-- A row of no trees changes nothing.
 addF-bare : (p : Reading) → addF bare p ≡ p
 addF-bare broken = refl
 addF-bare (read g r) = refl
 
+-- A row is put before by its trees, the last first.
 addF-cons : (t : Tree) (f : Forest) (p : Reading) → addF (cons t f) p ≡ addT t (addF f p)
 addF-cons t f broken = refl
 addF-cons t f (read g r) = refl
@@ -144,6 +156,7 @@ thenF n broken = broken
 thenF n (read bare r) = broken
 thenF n (read (cons t f) r) = addT t (readTrees r n)
 
+-- Where no tree is read, no more are.
 no-more : (s : List ℕ) (n : ℕ) (q : Reading) → readTrees s 1 ≡ broken → Sound (suc n) s q → q ≡ broken
 unfolding count wordsF GoodF
 no-more s n broken e h = refl
@@ -154,6 +167,7 @@ no-more s n (read (cons t f) r) e h =
     let z : broken ≡ read (cons t bare) (wordsF f ++ r) = sym e ∙ b ∙ ap (addT t) (reads-none (wordsF f ++ r)) in
     cc
 
+-- So it is for each reading of one tree.
 first-of : (s : List ℕ) (n : ℕ) (p : Reading) → readTrees s 1 ≡ p → Sound 1 s p → readTrees s (suc n) ≡ thenF n p
 unfolding count wordsF GoodF
 first-of s n broken e h = no-more s n (readTrees s (suc n)) e (sound s (suc n))
@@ -161,5 +175,6 @@ first-of s n (read bare r) e h = absurd (omega (arith, h .1))
 first-of s n (read (cons t bare) r) e h = rw (h .0) (rw (append-assoc (words t) [] r) (complete t (h .2 .0) n r))
 first-of s n (read (cons t (cons u f)) r) e h = absurd (omega (arith, h .1))
 
+-- So it is for any words.
 pub first : (s : List ℕ) (n : ℕ) → readTrees s (suc n) ≡ thenF n (readTrees s 1)
 first s n = first-of s n (readTrees s 1) refl (sound s 1)

@@ -37,6 +37,7 @@ pub same-tree : (t : Tree) → sameTree t t ≡ true
 unfolding sameTree
 same-tree t = same-words (words t)
 
+-- And only for the same trees.
 pub tree-same : (t u : Tree) → sameTree t u ≡ true → t ≡ u
 unfolding sameTree
 tree-same t u e = words-unique t u (words-same (words t) (words u) e)

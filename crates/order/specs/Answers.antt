@@ -67,6 +67,7 @@ pub record Writing : Type 0 where
   pub answer : Written
   pub out : List ℕ
 
+-- The answer and the output, as a call has them.
 abbrev pub writing : Written → List ℕ → Writing
 writing a out = record { answer = a; out = out }
 
@@ -93,6 +94,7 @@ pub record PartWriting : Type 0 where
   pub answer : PartWritten
   pub out : List ℕ
 
+-- The answer and the output, as a call has them.
 abbrev pub partWriting : PartWritten → List ℕ → PartWriting
 partWriting a out = record { answer = a; out = out }
 

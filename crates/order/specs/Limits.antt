@@ -6,6 +6,7 @@ use Prim.Native.Nat.{ℕ, _*_}
 abbrev pub least-code : ℕ
 least-code = 1
 
+-- "to 9999"
 abbrev pub greatest-code : ℕ
 greatest-code = 9999
 
@@ -17,6 +18,7 @@ most-children = 8
 abbrev pub most-nodes : ℕ
 most-nodes = 64
 
+-- "over 128 words": two words a node
 abbrev pub most-words : ℕ
 most-words = 2 * most-nodes
 
@@ -28,5 +30,6 @@ greatest-depth = 12
 abbrev pub least-k : ℕ
 least-k = 2
 
+-- "to 6"
 abbrev pub greatest-k : ℕ
 greatest-k = 6

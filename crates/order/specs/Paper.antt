@@ -21,9 +21,11 @@ childOf zero (cons t f) = missing
 childOf (suc zero) (cons t f) = found t
 childOf (suc (suc i)) (cons t f) = childOf (suc i) f
 
+-- The children of the top.
 abbrev pub children : Tree → Forest
 children (node c f) = f
 
+-- The label of the top.
 abbrev pub code : Tree → ℕ
 code (node c f) = c
 

@@ -24,9 +24,11 @@ lows k t = keep (isLow k) (subtrees t)
 unfoldable pub middle : ℕ → Tree → Tree
 middle k s = cut s (k - 1)
 
+-- A subtree of depth at least k-1 has a middle part.
 unfoldable pub isMiddle : ℕ → Tree → Bool
 isMiddle k s = leb (k - 1) (depth s)
 
+-- The middle parts, as often as they occur.
 unfoldable pub middles : ℕ → Tree → List Tree
 middles k t = map (middle k) (keep (isMiddle k) (subtrees t))
 
@@ -39,9 +41,11 @@ unfoldable pub eachOnce : List Tree → List Tree
 eachOnce [] = []
 eachOnce (t ∷ ts) = t ∷ keep (λ s. not (sameTree t s)) (eachOnce ts)
 
+-- The low parts of an order, each once.
 unfoldable pub lowParts : ℕ → Tree → List Tree
 lowParts k t = eachOnce (lows k t)
 
+-- The middle parts of an order, each once.
 unfoldable pub middleParts : ℕ → Tree → List Tree
 middleParts k t = eachOnce (middles k t)
 
@@ -50,5 +54,6 @@ pub record Part : Type 0 where
   pub kind : Kind
   pub tree : Tree
 
+-- The subtree itself if it is low, and otherwise its cut.
 unfoldable pub partOf : ℕ → Tree → Part
 partOf k s = if isLow k s then record { kind = Low; tree = s } else record { kind = Middle; tree = middle k s }

@@ -20,6 +20,7 @@ firstTrees zero f = bare
 firstTrees (suc n) bare = bare
 firstTrees (suc n) (cons t f) = cons t (firstTrees n f)
 
+-- The trees of a row past the first n.
 unfoldable pub laterTrees : ℕ → Forest → Forest
 laterTrees zero f = f
 laterTrees (suc n) bare = bare
@@ -57,6 +58,7 @@ only (read bare ws) = missing
 only (read (cons t f) []) = found t
 only (read (cons t f) (w ∷ ws)) = missing
 
+-- The tree that words are, if they are exactly one.
 unfoldable pub treeOf : List ℕ → Found
 treeOf ws = only (readTrees ws 1)
 

@@ -22,6 +22,7 @@ walked at d broken = Broken
 walked at d (read bare ws) = Broken
 walked at d (read (cons t f) ws) = Whole (at + length (words t)) (depth t) (length (words (cut t d)))
 
+-- What a walk at a word finds.
 unfoldable pub walkOf : List ℕ → ℕ → ℕ → Walked
 walkOf ws at d = walked at d (readTrees (drop at ws) 1)
 
@@ -36,6 +37,7 @@ cutWords d broken = []
 cutWords d (read bare ws) = []
 cutWords d (read (cons t f) ws) = words (cut t d)
 
+-- The words of the cut at d of the tree at a word.
 unfoldable pub cutOf : List ℕ → ℕ → ℕ → List ℕ
 cutOf ws at d = cutWords d (readTrees (drop at ws) 1)
 
@@ -45,6 +47,7 @@ treeWords broken = []
 treeWords (read bare ws) = []
 treeWords (read (cons t f) ws) = words t
 
+-- The words of the tree at a word.
 unfoldable pub wordsAtOf : List ℕ → ℕ → List ℕ
 wordsAtOf ws at = treeWords (readTrees (drop at ws) 1)
 
@@ -58,6 +61,7 @@ abbrev pub endOf : Walked → ℕ
 endOf Broken = 0
 endOf (Whole e h c) = e
 
+-- The number of words of its cut.
 abbrev pub cutLength : Walked → ℕ
 cutLength Broken = 0
 cutLength (Whole e h c) = c
@@ -71,6 +75,7 @@ unfoldable pub linePlace : ℕ → ℕ → Place
 linePlace nodes zero = Lacking
 linePlace nodes (suc i) = if ltb i nodes then At (i * 2) else Lacking
 
+-- Where a line of an order stands, if the words are an order and have the line.
 unfoldable pub placeOf : List ℕ → ℕ → Place
 placeOf ws line = byOrder (orderOf ws) Refused (λ t. linePlace (length (subtrees t)) line)
 
@@ -79,6 +84,7 @@ unfoldable pub partWalked : ℕ → Walked → PartAt
 partWalked k Broken = NoPart
 partWalked k (Whole e h c) = if leb h (k - 2) then LowTo e else MiddleTo e c
 
+-- The part at a word.
 unfoldable pub partAtOf : List ℕ → ℕ → ℕ → PartAt
 partAtOf ws at k = partWalked k (walkOf ws at (k - 1))
 

@@ -1,7 +1,8 @@
 // How deep the book looks: k, with its least and its greatest. Assumes nothing.
 ghost use mathlib.Core.Path.{_≡_};
 ghost use Prim.Native.Nat.{_-_};
-ghost use Rattle.order.specs.Answers.{depthOf};
+ghost use Rattle.order.specs.Answers.{depthOf, numberOf};
+use crate::numbers;
 
 // A k. The field is the module's own: other code has a `Depth` from the checked constructor alone.
 pub struct Depth {
@@ -12,6 +13,18 @@ pub struct Depth {
 pub enum Asked {
     Allowed(Depth),
     Outside,
+}
+
+impl Asked {
+    // 01's number for what was asked: 0, or 3 for a k outside 2 to 6.
+    pub fn number(self) -> u16
+        ensures { λ r. ⌜ r ≡ numberOf self ⌝ }
+    {
+        match self {
+            Asked::Allowed(_) => numbers::DONE,
+            Asked::Outside => numbers::K_OUTSIDE,
+        }
+    }
 }
 
 impl Depth {

@@ -9,8 +9,8 @@ ghost use Rattle.order.specs.Walks.{walkOf, keptOf, Room, cutOf, wordsAt
 ghost use Rattle.order.specs.Answers.{checkOf, subtreeOf, wrote, writing, write, cutIntoOf, noPart, partWriting, partIntoOf};
 
 mod depths;
-mod limits;
-mod numbers;
+pub mod limits;
+pub mod numbers;
 
 pub use depths::Asked;
 pub use depths::Depth;

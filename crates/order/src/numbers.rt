@@ -9,5 +9,8 @@ pub const NO_ORDER: u16 = 1;
 // the order is too long or too deep
 pub const TOO_LARGE: u16 = 2;
 
+// k is outside 2 to 6
+pub const K_OUTSIDE: u16 = 3;
+
 // the lent output is too short
 pub const SHORT_OUTPUT: u16 = 11;

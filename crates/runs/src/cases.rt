@@ -1,11 +1,7 @@
 // What `check` answers at the limits of orders and for each cause of 1 and 2, and which k are allowed.
 use crate::say;
 use crate::trees;
-use order::Asked;
 use order::Depth;
-
-// 01's number for a k that is not allowed.
-const K_OUTSIDE: u16 = 3;
 
 // Says what `check` answers.
 fn check(name: &[u8], words: &[u16]) {
@@ -74,10 +70,7 @@ pub fn shapes() {
 
 // Says whether a k is allowed.
 fn ask(name: &[u8], k: u16) {
-    match Depth::new(k) {
-        Asked::Allowed(_) => say::answer(name, 0),
-        Asked::Outside => say::answer(name, K_OUTSIDE),
-    }
+    say::answer(name, Depth::new(k).number());
 }
 
 // The least and the greatest k, and those beside them.

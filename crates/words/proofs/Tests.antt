@@ -11,16 +11,19 @@ use Rattle.words.specs.Base.{_and_, sameWords}
 pub no-test : {A : Type 0} → false ≡ true → A
 no-test e = absurd (let z : _≡_ {A = ℕ} 0 1 = cc in omega arith)
 
+-- Of two tests that both pass, the first does.
 pub and-left : (a b : Bool) → (a and b) ≡ true → a ≡ true
 unfolding _and_
 and-left true b e = refl
 and-left false b e = e
 
+-- And the second.
 pub and-right : (a b : Bool) → (a and b) ≡ true → b ≡ true
 unfolding _and_
 and-right true b e = e
 and-right false b e = no-test e
 
+-- Two tests that pass pass together.
 pub and-both : {a b : Bool} → a ≡ true → b ≡ true → (a and b) ≡ true
 unfolding _and_
 and-both p q = rw (p, q)
@@ -31,6 +34,7 @@ unfolding sameWords
 same-words [] = refl
 same-words (a ∷ x) = and-both (eq-eqb a a refl) (same-words x)
 
+-- And only for the same words.
 pub words-same : (x y : List ℕ) → sameWords x y ≡ true → x ≡ y
 unfolding sameWords
 words-same [] [] e = refl

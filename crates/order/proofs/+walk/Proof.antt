@@ -52,7 +52,7 @@ Inv o at d code children end₀ depth₀ cut₀ left₀ end depth cut left =
 abbrev μ : lts.MeasureT-loop
 μ o at d code children end₀ depth₀ cut₀ left₀ end depth cut left = left
 
--- what the walk of a child that is whole says
+-- What the walk of a child that is whole says.
 told : (t : ℕ) (c : lts.After-e (claims t) (walk-at t) walk.Post Inv μ) →
     let a = c .before .before .before .before .before .before .before .before .before .before .before .before .before .args in
     let l = c .before .before .before .before .before .loop in

@@ -1,3 +1,4 @@
+-- `order::no_part` meets its contract: the number is handed on. Assumes nothing.
 use borrow.Author.Needs.{needs}
 use Rattle.order.proofs.no_part.Statement.{statement}
 use Rattle.order.proofs.no_part.Tie as tie

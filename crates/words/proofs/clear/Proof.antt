@@ -1,3 +1,4 @@
+-- `words::clear` meets its contract: after i turns the first i words are zero. Assumes nothing.
 use mathlib.Core.List.{append-nil}
 use lib.Seq.{drop-length}
 use Prim.Native.Nat.{_≤_, _<_, _-_}

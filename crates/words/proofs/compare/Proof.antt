@@ -1,3 +1,4 @@
+-- `words::compare` meets its contract: what is left from i on decides how the whole slices stand. Assumes nothing.
 use Prim.Native.Nat.{_≤_, _-_}
 use mathlib.Core.Path.{_≡_, _∙_, sym}
 use native.Mathlib.Omega.{arith}

@@ -1,3 +1,4 @@
+-- `words::copy` meets its contract: after i turns the first i words are copied. Assumes nothing.
 use Prim.Native.Nat.{_≤_, _-_}
 use mathlib.Core.Path.{_≡_, refl}
 use mathlib.Core.List.{[]}
