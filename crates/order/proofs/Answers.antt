@@ -16,6 +16,7 @@ use Rattle.order.specs.Answers.{byFound, subtreeOf, wrote, refuse, write
 use Rattle.order.specs.declared.Walked.the-variants.{Whole}
 use Rattle.order.proofs.Cutting.{cut-shallow}
 use Rattle.order.proofs.Cuts.{no-words}
+use Rattle.order.proofs.PartsAt.{part-short}
 use Rattle.order.proofs.Lines.{walk-spot, cut-spot, tree-spot, HasLine, LacksLine}
 
 -- ---- an order that is refused
@@ -87,7 +88,7 @@ module _ (s : List ℕ) (line at : ℕ) (has : HasLine s line at) where
 
   -- The kind and the words are those of the tree there.
   pub part-has : (k : ℕ) (out : List ℕ) → partIntoOf s line k out ≡ ofKind (kindOf (partAtOf s at k)) (write (cutOf s at (k - 1)) out)
-  unfolding partIntoOf byOrder byFound partAtOf
+  unfolding partIntoOf byOrder byFound
   part-has k out =
       let t : Tree = has .spot .tree in
-      rw (has .is, has .spot .is, walk-spot s at _ (has .spot) (k - 1), cut-spot s at _ (has .spot) (k - 1), part-kind k t, part-words k t) refl
+      rw (has .is, has .spot .is, part-short s at k (has .short), walk-spot s at _ (has .spot) (k - 1), cut-spot s at _ (has .spot) (k - 1), part-kind k t, part-words k t) refl

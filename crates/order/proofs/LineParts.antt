@@ -1,7 +1,7 @@
 -- The parts that the lines of an order stand for are its low and middle parts, which are l and p of document 000: each line's part is
 -- one of them, and each of them is the part of a line. Assumes nothing.
 use Prim.Native.Nat.{ℕ, zero, suc, _-_, _≤_}
-use mathlib.Core.Path.{_≡_, refl, ap, sym, _∙_}
+use mathlib.Core.Path.{_≡_, refl, ap, sym}
 use mathlib.Core.Bool.{Bool, true, false}
 use mathlib.Core.List.{List, [], _∷_, List·Memᴰ·head as here, List·Memᴰ·tail as there}
 use native.Mathlib.Omega.{arith}
@@ -9,11 +9,10 @@ use borrow.Author.Tests.{leb-true, leb-false, le-leb, lt-leb}
 use lib.Dec.{leb}
 use Rattle.words.specs.Base.{if_then_else_}
 use Rattle.order.specs.Trees.{Tree, depth, cut, subtrees}
-use Rattle.order.specs.Reading.{Found, missing, found}
+use Rattle.order.specs.Reading.{missing, found}
 use Rattle.order.specs.Answers.{treeAt, lineOf}
 use Rattle.order.specs.Parts.{isLow, middle, partOf}
 use Rattle.order.specs.Paper.{IsL, IsP}
-use Rattle.order.specs.declared.Kind.{Kind}
 use Rattle.order.specs.declared.Kind.the-variants.{Low, Middle}
 use Rattle.order.proofs.Once.{_∈_}
 use Rattle.order.proofs.Paper.{subtree-from, subtree-to, subtree-depth, cut-is-r, r-only}

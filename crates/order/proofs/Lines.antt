@@ -8,6 +8,7 @@ use borrow.Author.Tests.{lt-ltb, le-ltb}
 use lib.ListN.{length, drop, length-append}
 use lib.Seq.{drop-append-add}
 use Rattle.words.specs.Base.{if_then_else_}
+use Rattle.order.specs.Limits.{most-words}
 use Rattle.order.specs.Numbers.{done}
 use Rattle.order.specs.Trees.{Tree, node, Forest, bare, cons, count, words, wordsF, depth, cut, Good, GoodF, subtrees, subtreesF}
 use Rattle.order.specs.Reading.{Found, missing, found, refused, order, byOrder, orderOf, causeOf}
@@ -125,6 +126,7 @@ module _ (s : List ℕ) (at : ℕ) (x : Found) (p : Spot s at x) where
 pub record HasLine (s : List ℕ) (line at : ℕ) : Type 0 where
   pub top : Tree
   pub is : orderOf s ≡ order top
+  pub short : length s ≤ most-words
   pub spot : Spot s at (lineOf line (subtrees top))
 
 -- The order passes, and the line is one that it lacks.
@@ -147,6 +149,7 @@ placed-line s (suc i) t p = pick i (length (subtrees t))
     (λ l. rw (lt-ltb i (length (subtrees t)) l) (record {
       top = t;
       is = p .is;
+      short = omega (arith, size t, ap length (p .spelt), p .nodes);
       spot = subst (λ (w : List ℕ). Spot w (i * 2) (treeAt (subtrees t) i)) (append-nil (words t) ∙ sym (p .spelt)) (spot t (p .good) [] i l);
     }))
     (λ l. rw (le-ltb i (length (subtrees t)) l) (record { top = t; is = p .is; lacks = at-past (subtrees t) i l }))

@@ -2,19 +2,31 @@
 use mathlib.Core.Path.{_≡_, refl, ap, sym, _∙_}
 use mathlib.Core.List.{List}
 use Prim.Native.Nat.{ℕ, _-_, _≤_, _<_}
-use borrow.Author.Tests.{le-leb, lt-leb}
+use borrow.Author.Tests.{le-ltb, lt-ltb, le-leb, lt-leb}
+use lib.ListN.{length}
 use Rattle.words.specs.Base.{if_then_else_}
+use Rattle.order.specs.Limits.{most-words}
 use Rattle.order.specs.Walks.{walkOf, partWalked, partAtOf}
 use Rattle.order.specs.declared.Walked.{Walked}
 use Rattle.order.specs.declared.Walked.the-variants.{Broken, Whole}
 use Rattle.order.specs.declared.PartAt.the-variants.{NoPart, LowTo, MiddleTo}
 
--- The walk w at depth d = k-1 found nothing, a subtree of depth at most k-2, or a deeper one.
-module _ (s : List ℕ) (at k d : ℕ) (w v : Walked) (deep : d ≡ k - 1) (is : w ≡ walkOf s at d) (told : w ≡ v) where
+module _ (s : List ℕ) (at k : ℕ) where
+  -- More words than an order has.
+  pub part-long : most-words < length s → partAtOf s at k ≡ NoPart
+  unfolding partAtOf if_then_else_
+  part-long h = rw (lt-ltb most-words (length s) h)
+
+  -- Otherwise the walk decides.
+  pub part-short : length s ≤ most-words → partAtOf s at k ≡ partWalked k (walkOf s at (k - 1))
+  unfolding partAtOf if_then_else_
+  part-short h = rw (le-ltb most-words (length s) h)
+
+-- The result w of a walk at depth d = k-1 is known to be v: nothing, a subtree of depth at most k-2, or a deeper one.
+module _ (s : List ℕ) (at k d : ℕ) (w v : Walked) (short : length s ≤ most-words) (deep : d ≡ k - 1) (is : w ≡ walkOf s at d) (told : w ≡ v) where
   -- The part is what the walk says.
   part-walked : partAtOf s at k ≡ partWalked k v
-  unfolding partAtOf
-  part-walked = ap (λ (n : ℕ). partWalked k (walkOf s at n)) (sym deep) ∙ ap (partWalked k) (sym is ∙ told)
+  part-walked = part-short s at k short ∙ ap (λ (n : ℕ). partWalked k (walkOf s at n)) (sym deep) ∙ ap (partWalked k) (sym is ∙ told)
 
   -- No tree, no part.
   pub part-broken : v ≡ Broken → partAtOf s at k ≡ NoPart

@@ -4,6 +4,7 @@ use Prim.Native.Nat.{ℕ, zero, suc, _+_, _-_, _*_, _≤_}
 use lib.Dec.{leb, ltb}
 use lib.ListN.{length, drop}
 use Rattle.words.specs.Base.{if_then_else_}
+use Rattle.order.specs.Limits.{most-words}
 use Rattle.order.specs.Trees.{bare, cons, words, depth, cut, subtrees}
 use Rattle.order.specs.Reading.{Reading, broken, read, readTrees, byOrder, orderOf}
 use Rattle.order.specs.declared.Walked.{Walked}
@@ -84,9 +85,9 @@ unfoldable pub partWalked : ℕ → Walked → PartAt
 partWalked k Broken = NoPart
 partWalked k (Whole e h c) = if leb h (k - 2) then LowTo e else MiddleTo e c
 
--- The part at a word.
+-- The part at a word; none in more words than an order has.
 unfoldable pub partAtOf : List ℕ → ℕ → ℕ → PartAt
-partAtOf ws at k = partWalked k (walkOf ws at (k - 1))
+partAtOf ws at k = if ltb most-words (length ws) then NoPart else partWalked k (walkOf ws at (k - 1))
 
 -- The kind of a part.
 abbrev pub kindOf : PartAt → Kind

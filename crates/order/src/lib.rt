@@ -1,5 +1,5 @@
 // Orders: trees as 16-bit words in a lent slice. Whether words are an order, the subtree of a line, its cut, and the part that it
-// stands for at k. Assumes nothing; `put` and `part_at` are for the repository's own crates.
+// stands for at k. Assumes nothing. `put` and `part_at` are inner functions, for the repository's own crates.
 ghost use mathlib.Core.Path.{_≡_};
 ghost use Prim.Native.Nat.{ℕ, suc, _+_, _-_, _^_, _<_, max};
 ghost use lib.ListN.{length};
@@ -127,8 +127,8 @@ fn kept(d: usize, n: usize) -> usize
     if d == 0 { 0 } else { n }
 }
 
-// The tree at word `at`, and how long its cut at d is. It calls itself for each child, with fewer words left each time; who calls
-// it has tested the order's length, so it is at most 64 calls deep.
+// The tree at word `at`, and how long its cut at d is. It calls itself for each child, with fewer words left each time. Every public
+// function tests the order's length first, so that it is at most 64 calls deep.
 fn walk(order: &[u16], at: usize, d: usize) -> Walked
     ensures { λ r. ⌜ r ≡ walkOf (now (order .entry)) at d ⌝ }
 {
@@ -218,9 +218,9 @@ fn find_line(order: &[u16], line: usize) -> Place
     Place::At(at)
 }
 
-// The tree at word `at`, as that part of the order; an empty part where there is none.
-fn tree_at(order: &[u16], at: usize) -> &[u16]
-    ensures { λ r. ⌜ now r ≡ wordsAtOf (now (order .entry)) at ⌝ }
+// The word past the tree at word `at`; 0 where there is none.
+fn past(order: &[u16], at: usize) -> usize
+    ensures { λ r. ⌜ r ≡ endOf (walkOf (now (order .entry)) at 0) ⌝ }
 {
     let Walked::Whole {
         end,
@@ -228,8 +228,19 @@ fn tree_at(order: &[u16], at: usize) -> &[u16]
         cut: _,
     } = walk(order, at, 0)
     else {
-        return &order[0..0];
+        return 0;
     };
+    end
+}
+
+// The tree at word `at`, as that part of the order; an empty part where there is none.
+fn tree_at(order: &[u16], at: usize) -> &[u16]
+    ensures { λ r. ⌜ now r ≡ wordsAtOf (now (order .entry)) at ⌝ }
+{
+    let end = past(order, at);
+    if end <= at {
+        return &order[0..0];
+    }
     &order[at..end]
 }
 
@@ -243,21 +254,6 @@ pub fn subtree(order: &[u16], line: usize) -> &[u16]
         Place::Lacking => &order[0..0],
         Place::At(at) => tree_at(order, at),
     }
-}
-
-// The word past the tree at word `at`.
-fn past(order: &[u16], at: usize) -> usize
-    ensures { λ r. ⌜ r ≡ endOf (walkOf (now (order .entry)) at 0) ⌝ }
-{
-    let Walked::Whole {
-        end,
-        depth: _,
-        cut: _,
-    } = walk(order, at, 0)
-    else {
-        return 0;
-    };
-    end
 }
 
 // Writes the cut at d of the tree at word `at` to the front of `out`, which has room for it. It calls itself for each child, on the
@@ -318,10 +314,13 @@ pub fn cut_into(order: &[u16], line: usize, d: usize, out: &mut [u16]) -> Writte
     }
 }
 
-// The part that the tree at word `at` stands for at k, with nothing written.
+// The part that the tree at word `at` stands for at k, with nothing written; none in more words than an order has.
 pub fn part_at(order: &[u16], at: usize, k: Depth) -> PartAt
     ensures { λ r. ⌜ r ≡ partAtOf (now (order .entry)) at (k .k) ⌝ }
 {
+    if limits::MOST_WORDS < order.len() {
+        return PartAt::NoPart;
+    }
     let Walked::Whole { end, depth, cut } = walk(order, at, k.of_middles()) else {
         return PartAt::NoPart;
     };

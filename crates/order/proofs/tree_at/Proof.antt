@@ -1,26 +1,18 @@
--- `order::tree_at` meets its contract: what the walk found is that part of the order. Assumes nothing.
+-- `order::tree_at` meets its contract: the tree is the part up to the word past it. Assumes nothing.
+use Prim.Native.Nat.{_≤_}
 use native.Mathlib.Omega.{arith}
+use lib.ListN.{length}
 use borrow.Author.Needs.{needs}
-use Rattle.order.specs.declared.Walked.the-variants.{Whole}
-use Rattle.order.proofs.Walks.{TreeHere, tree-here}
+use Rattle.order.proofs.Walks.{tree-here}
 use Rattle.order.proofs.tree_at.Statement.{statement}
 use Rattle.order.proofs.tree_at.Tie as tie
 
--- What the walk says of the tree that it found.
-told : (c : tie.After-known-told) →
-    let a = c .before .before .before .before .before .args in
-    let g = c .before .end .given .0 in
-    TreeHere (a .order .now) (a .at) (Whole (g .0) (g .1 .0) (g .1 .1 .0))
-told c = tree-here _ _ _ _ (c .before .before .before .walk .ensures) (c .before .end .given .1)
+-- A tree ends within the order.
+within : (c : tie.Else1) → c .before .past .result ≤ length (c .before .before .before .args .order .now)
+within c = tree-here _ _ _ (c .before .past .ensures) .within (c .if1 .left)
 
-walk-requires : tie.Need-walk-requires
-walk-requires c κs = search needs
-
-enum-known-end : tie.Need-enum-known-end
-enum-known-end c = search needs
-
-enum-told : tie.Need-enum-told
-enum-told c = search needs
+past-requires : tie.Need-past-requires
+past-requires c κs = search needs
 
 sub-result : tie.Need-sub-result
 sub-result c = search needs
@@ -32,30 +24,28 @@ part-result-end : tie.Need-part-result-end
 part-result-end c = search needs
 
 returns : tie.Need-returns
-returns c = tree-here _ _ _ _ (c .before .before .before .walk .ensures) (c .before .enum-told .given .1)
+returns c = tree-here _ _ _ (c .before .before .past .ensures) .no-tree (c .before .if1 .taken)
 
 mul-result : tie.Need-mul-result
-mul-result c = let h = told c in omega arith
+mul-result c = let h = within c in omega arith
 
 sub-result-2 : tie.Need-sub-result-2
-sub-result-2 c = let h = told c in omega arith
+sub-result-2 c = search needs
 
 part-result-start-2 : tie.Need-part-result-start-2
-part-result-start-2 c = let h = told c in omega arith
+part-result-start-2 c = search needs
 
 part-result-end-2 : tie.Need-part-result-end-2
-part-result-end-2 c = let h = told c in omega arith
+part-result-end-2 c = within c
 
 returns-2 : tie.Need-returns-2
-returns-2 c = told (c .before) .2
+returns-2 c = tree-here _ _ _ (c .before .before .past .ensures) .part (c .before .if1 .left)
 
 pub tree-at-spec : {M : Type 1} → statement M
 tree-at-spec =
     tie.close
     (tie.spec
-    walk-requires
-    enum-known-end
-    enum-told
+    past-requires
     sub-result
     part-result-start
     part-result-end
