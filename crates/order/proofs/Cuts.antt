@@ -11,15 +11,16 @@ use lib.Dec.{leb}
 use lib.ListN.{length, take, drop, getD, set, length-append, length-drop, length-set, take-append-drop, drop-of-length-le}
 use lib.Seq.{take-all as whole-take, drop-set-lt, drop-drop, take-at, drop-at, length-take-le}
 use Rattle.words.specs.Base.{if_then_else_, over}
-use Rattle.order.specs.Numbers.{done, short-output}
+use Rattle.figures.specs.Numbers.{done, short-output}
 use Rattle.order.specs.Trees.{Tree, Forest, bare, cons, count, words, wordsF, cut, cutF}
 use Rattle.order.specs.Reading.{Reading, broken, read, soundNode, nodeOver, readTrees}
 use Rattle.order.specs.Walks.{walked, walkOf, cutWords, cutOf, Room, endOf, cutLength, laidOf}
-use Rattle.order.specs.Answers.{writing, wrote, write}
+use Rattle.order.specs.Answers.{writing, write}
+use Rattle.figures.specs.Answers.{wrote}
 use Rattle.order.specs.declared.Walked.{Walked}
 use Rattle.order.specs.declared.Walked.the-variants.{Broken, Whole}
 use Rattle.order.specs.declared.Laid.{Laid}
-use Rattle.order.specs.declared.Written.{Written}
+use Rattle.figures.specs.declared.Written.{Written}
 use Rattle.order.proofs.Reading.{Sound, sound, first, reads-none, thenF, addT}
 use Rattle.order.proofs.Walks.{two, take-all, two-words, past, short, no-node, start, rest}
 

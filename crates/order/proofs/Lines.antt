@@ -8,8 +8,8 @@ use borrow.Author.Tests.{lt-ltb, le-ltb}
 use lib.ListN.{length, drop, length-append}
 use lib.Seq.{drop-append-add}
 use Rattle.words.specs.Base.{if_then_else_}
-use Rattle.order.specs.Limits.{most-words}
-use Rattle.order.specs.Numbers.{done}
+use Rattle.figures.specs.Limits.{most-words}
+use Rattle.figures.specs.Numbers.{done}
 use Rattle.order.specs.Trees.{Tree, node, Forest, bare, cons, count, words, wordsF, depth, cut, Good, GoodF, subtrees, subtreesF}
 use Rattle.order.specs.Reading.{Found, missing, found, refused, order, byOrder, orderOf, causeOf}
 use Rattle.order.specs.Walks.{walked, walkOf, cutWords, cutOf, treeWords, wordsAtOf, linePlace, placeOf}

@@ -9,8 +9,8 @@ use borrow.Author.Tests.{ne-eqb, eq-eqb, le-ltb, lt-ltb, le-leb, lt-leb, leb-tru
 use lib.ListN.{length, length-append}
 use lib.Dec.{leb, ltb}
 use Rattle.words.specs.Base.{if_then_else_}
-use Rattle.order.specs.Limits.{least-code, greatest-code, most-nodes, most-words, greatest-depth}
-use Rattle.order.specs.Numbers.{done, no-order, too-large}
+use Rattle.figures.specs.Limits.{least-code, greatest-code, most-nodes, most-words, greatest-depth}
+use Rattle.figures.specs.Numbers.{done, no-order, too-large}
 use Rattle.order.specs.Trees.{Tree, node, Forest, bare, cons, count, words, wordsF, depth, Good, GoodF, subtrees, subtreesF}
 use Rattle.order.specs.Reading.{Reading, broken, read, readTrees, Found, missing, found, only, treeOf, Order, refused, order, byOrder, shallow, orderOf, causeOf}
 use Rattle.order.specs.Walks.{walked, walkOf}

@@ -5,7 +5,7 @@ use Prim.Native.Nat.{ℕ, _-_, _≤_, _<_}
 use borrow.Author.Tests.{le-ltb, lt-ltb, le-leb, lt-leb}
 use lib.ListN.{length}
 use Rattle.words.specs.Base.{if_then_else_}
-use Rattle.order.specs.Limits.{most-words}
+use Rattle.figures.specs.Limits.{most-words}
 use Rattle.order.specs.Walks.{walkOf, partWalked, partAtOf}
 use Rattle.order.specs.declared.Walked.{Walked}
 use Rattle.order.specs.declared.Walked.the-variants.{Broken, Whole}

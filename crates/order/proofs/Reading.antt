@@ -10,7 +10,7 @@ use borrow.Author.Tests.{leb-true, le-leb}
 use lib.Dec.{leb}
 use Rattle.words.specs.Base.{_and_}
 use Rattle.words.proofs.Tests.{and-left, and-right, and-both}
-use Rattle.order.specs.Limits.{least-code, greatest-code, most-children}
+use Rattle.figures.specs.Limits.{least-code, greatest-code, most-children}
 use Rattle.order.specs.Trees.{Tree, node, Forest, bare, cons, count, words, wordsF, Good, GoodF}
 use Rattle.order.specs.Reading.{Reading, broken, read, firstTrees, laterTrees, soundNode, nodeOver, readTrees}
 

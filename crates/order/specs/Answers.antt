@@ -3,30 +3,17 @@ use mathlib.Core.List.{List, [], _∷_}
 use Prim.Native.Nat.{ℕ, zero, suc}
 use lib.Dec.{leb}
 use lib.ListN.{length}
-use Rattle.words.specs.Base.{if_then_else_, over, within}
-use Rattle.order.specs.Limits.{least-k, greatest-k}
-use Rattle.order.specs.Numbers.{done, k-outside, short-output}
+use Rattle.words.specs.Base.{if_then_else_, over}
+use Rattle.figures.specs.Numbers.{done, short-output}
+use Rattle.figures.specs.Answers.{wrote}
 use Rattle.order.specs.Trees.{Tree, words, cut, subtrees}
 use Rattle.order.specs.Reading.{Found, missing, found, byOrder, orderOf, causeOf}
 use Rattle.order.specs.Parts.{partOf}
-use Rattle.order.specs.declared.Answer.{Answer}
-use Rattle.order.specs.declared.Written.{Written}
+use Rattle.figures.specs.declared.Answer.{Answer}
+use Rattle.figures.specs.declared.Written.{Written}
 use Rattle.order.specs.declared.Kind.{Kind}
 use Rattle.order.specs.declared.Kind.the-variants.{Absent}
 use Rattle.order.specs.declared.PartWritten.{PartWritten}
-use Rattle.order.specs.declared.depths.Asked.{Asked}
-use Rattle.order.specs.declared.depths.Asked.the-variants.{Allowed, Outside}
-
--- ---- k
-
--- "k is 2 to 6."
-unfoldable pub depthOf : ℕ → Asked
-depthOf k = if within least-k greatest-k k then Allowed (record { k = k }) else Outside
-
--- 01's number for each case: "3: k outside 2 to 6".
-abbrev pub numberOf : Asked → ℕ
-numberOf (Allowed k) = done
-numberOf Outside = k-outside
 
 -- ---- check
 
@@ -57,10 +44,6 @@ unfoldable pub subtreeOf : List ℕ → ℕ → List ℕ
 subtreeOf ws line = byOrder (orderOf ws) (λ n. []) (λ t. byFound (lineOf line (subtrees t)) [] words)
 
 -- ---- writing words to the front of a lent output
-
--- A number with line 0, and how many words were written.
-abbrev pub wrote : ℕ → ℕ → Written
-wrote n count = record { number = n; line = 0; count = count }
 
 -- What a call that writes answers, and the output's words then.
 pub record Writing : Type 0 where

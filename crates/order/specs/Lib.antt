@@ -1,6 +1,4 @@
--- The definitions of the crate, from the figures of 01 to what each function answers.
-pub mod Limits
-pub mod Numbers
+-- The definitions of the crate, from trees to what each function answers.
 pub mod Trees
 pub mod Reading
 pub mod Parts

@@ -5,8 +5,8 @@ use Prim.Native.Nat.{ℕ, zero, suc, _+_, _%_}
 use lib.Dec.{leb, ltb, eqb}
 use lib.ListN.{length}
 use Rattle.words.specs.Base.{_and_, if_then_else_, within}
-use Rattle.order.specs.Limits.{least-code, greatest-code, most-children, most-words, greatest-depth}
-use Rattle.order.specs.Numbers.{done, no-order, too-large}
+use Rattle.figures.specs.Limits.{least-code, greatest-code, most-children, most-words, greatest-depth}
+use Rattle.figures.specs.Numbers.{done, no-order, too-large}
 use Rattle.order.specs.Trees.{Tree, node, Forest, bare, cons, depth}
 
 -- What reading words gives: some trees in a row and the words past them, or a fault.

@@ -2,7 +2,7 @@
 -- definitions.
 use mathlib.Core.List.{List, [], _∷_, _++_}
 use Prim.Native.Nat.{ℕ, zero, suc, _≤_, max}
-use Rattle.order.specs.Limits.{least-code, greatest-code, most-children}
+use Rattle.figures.specs.Limits.{least-code, greatest-code, most-children}
 
 -- A node has an option code and its children, which are a row of trees.
 mutual

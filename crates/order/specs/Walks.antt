@@ -4,7 +4,7 @@ use Prim.Native.Nat.{ℕ, zero, suc, _+_, _-_, _*_, _≤_}
 use lib.Dec.{leb, ltb}
 use lib.ListN.{length, drop}
 use Rattle.words.specs.Base.{if_then_else_}
-use Rattle.order.specs.Limits.{most-words}
+use Rattle.figures.specs.Limits.{most-words}
 use Rattle.order.specs.Trees.{bare, cons, words, depth, cut, subtrees}
 use Rattle.order.specs.Reading.{Reading, broken, read, readTrees, byOrder, orderOf}
 use Rattle.order.specs.declared.Walked.{Walked}

@@ -6,27 +6,13 @@ ghost use lib.ListN.{length};
 ghost use Rattle.words.specs.Base.{over};
 ghost use Rattle.order.specs.Reading.{soundNode, causeOf};
 ghost use Rattle.order.specs.Walks.{walkOf, keptOf, Room, cutOf, wordsAtOf, endOf, laidOf, placeOf, partAtOf, kindOf};
-ghost use Rattle.order.specs.Answers.{checkOf, subtreeOf, wrote, writing, write, cutIntoOf, noPart, partWriting, partIntoOf};
-
-mod depths;
-pub mod limits;
-pub mod numbers;
-
-pub use depths::Asked;
-pub use depths::Depth;
-
-// An answer: its number by 01's table, and its line.
-pub struct Answer {
-    pub number: u16,
-    pub line: usize,
-}
-
-// The answer of a call that writes words or bytes: how many it wrote besides.
-pub struct Written {
-    pub number: u16,
-    pub line: usize,
-    pub count: usize,
-}
+ghost use Rattle.order.specs.Answers.{checkOf, subtreeOf, writing, write, cutIntoOf, noPart, partWriting, partIntoOf};
+use figures::Answer;
+use figures::Depth;
+use figures::Written;
+use figures::limits;
+use figures::numbers;
+use figures::wrote;
 
 // What reading one tree at a word finds: the word past it, its depth, and the number of words of its cut.
 pub enum Walked {
@@ -69,17 +55,6 @@ pub enum PartAt {
 pub struct PartWritten {
     pub kind: Kind,
     pub written: Written,
-}
-
-// A number with line 0, and how many words were written.
-fn wrote(number: u16, count: usize) -> Written
-    ensures { λ r. ⌜ r ≡ wrote number count ⌝ }
-{
-    Written {
-        number,
-        line: 0,
-        count,
-    }
 }
 
 // A number, and no part.

@@ -1,8 +1,8 @@
 // The tops, low parts and middle parts of examples 1 to 3 of document 000.
 use crate::say;
 use crate::trees;
-use order::Asked;
-use order::Depth;
+use figures::Asked;
+use figures::Depth;
 use order::Kind;
 
 // Says which example and which k a line is about.

@@ -2,7 +2,7 @@
 use mathlib.Core.Path.{ap, sym, _∙_}
 use borrow.Author.Needs.{needs}
 use Rattle.order.specs.Answers.{writing}
-use Rattle.order.specs.declared.Written.{Written}
+use Rattle.figures.specs.declared.Written.{Written}
 use Rattle.order.proofs.Lines.{placed}
 use Rattle.order.proofs.Answers.{cut-refused, cut-lacks, cut-has}
 use Rattle.order.proofs.cut_into.Statement.{statement}

@@ -1,7 +1,7 @@
 -- `order::node_ok` meets its contract: each test that led to a return decides one part of `soundNode`. Assumes nothing.
 use borrow.Author.Tests.{le-leb, lt-leb}
 use Rattle.words.specs.Base.{_and_}
-use Rattle.order.specs.Limits.{least-code, greatest-code}
+use Rattle.figures.specs.Limits.{least-code, greatest-code}
 use Rattle.order.specs.Reading.{soundNode}
 use Rattle.order.proofs.node_ok.Statement.{statement}
 use Rattle.order.proofs.node_ok.Tie as tie

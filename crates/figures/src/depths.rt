@@ -1,7 +1,7 @@
 // How deep the book looks: k, with its least and its greatest. Assumes nothing.
 ghost use mathlib.Core.Path.{_≡_};
 ghost use Prim.Native.Nat.{_-_};
-ghost use Rattle.order.specs.Answers.{depthOf, numberOf};
+ghost use Rattle.figures.specs.Answers.{depthOf, numberOf};
 use crate::numbers;
 
 // A k. The field is the module's own: other code has a `Depth` from the checked constructor alone.

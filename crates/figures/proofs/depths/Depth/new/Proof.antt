@@ -1,10 +1,10 @@
--- `order::depths::Depth::new` meets its contract: each test that led to a return decides one part of `depthOf`. Assumes nothing.
+-- `figures::depths::Depth::new` meets its contract: each test that led to a return decides one part of `depthOf`. Assumes nothing.
 use borrow.Author.Tests.{le-leb, lt-leb}
 use Rattle.words.specs.Base.{_and_, if_then_else_}
-use Rattle.order.specs.Limits.{least-k, greatest-k}
-use Rattle.order.specs.Answers.{depthOf}
-use Rattle.order.proofs.depths.Depth.new.Statement.{statement}
-use Rattle.order.proofs.depths.Depth.new.Tie as tie
+use Rattle.figures.specs.Limits.{least-k, greatest-k}
+use Rattle.figures.specs.Answers.{depthOf}
+use Rattle.figures.proofs.depths.Depth.new.Statement.{statement}
+use Rattle.figures.proofs.depths.Depth.new.Tie as tie
 
 returns : tie.Need-returns
 unfolding depthOf _and_ if_then_else_

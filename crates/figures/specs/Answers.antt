@@ -1,0 +1,21 @@
+-- What asking for a k gives, and answers as calls make them. Assumes nothing: these are definitions.
+use Prim.Native.Nat.{ℕ}
+use Rattle.words.specs.Base.{if_then_else_, within}
+use Rattle.figures.specs.Limits.{least-k, greatest-k}
+use Rattle.figures.specs.Numbers.{done, k-outside}
+use Rattle.figures.specs.declared.Written.{Written}
+use Rattle.figures.specs.declared.depths.Asked.{Asked}
+use Rattle.figures.specs.declared.depths.Asked.the-variants.{Allowed, Outside}
+
+-- "k is 2 to 6."
+unfoldable pub depthOf : ℕ → Asked
+depthOf k = if within least-k greatest-k k then Allowed (record { k = k }) else Outside
+
+-- 01's number for each case: "3: k outside 2 to 6".
+abbrev pub numberOf : Asked → ℕ
+numberOf (Allowed k) = done
+numberOf Outside = k-outside
+
+-- A number with line 0, and how many words were written.
+abbrev pub wrote : ℕ → ℕ → Written
+wrote n count = record { number = n; line = 0; count = count }

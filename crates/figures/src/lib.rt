@@ -1,0 +1,34 @@
+// The figures and numbers of 01 by name, k, and the form of an answer: what every other crate counts with. Assumes nothing.
+ghost use mathlib.Core.Path.{_≡_};
+ghost use Rattle.figures.specs.Answers.{wrote};
+
+mod depths;
+pub mod limits;
+pub mod numbers;
+
+pub use depths::Asked;
+pub use depths::Depth;
+
+// An answer: its number by 01's table, and its line.
+pub struct Answer {
+    pub number: u16,
+    pub line: usize,
+}
+
+// The answer of a call that writes words or bytes: how many it wrote besides.
+pub struct Written {
+    pub number: u16,
+    pub line: usize,
+    pub count: usize,
+}
+
+// A number with line 0, and how many words were written.
+pub fn wrote(number: u16, count: usize) -> Written
+    ensures { λ r. ⌜ r ≡ wrote number count ⌝ }
+{
+    Written {
+        number,
+        line: 0,
+        count,
+    }
+}
