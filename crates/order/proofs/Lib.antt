@@ -6,6 +6,7 @@ pub mod Paper
 pub mod LineParts
 pub mod Reading
 pub mod Orders
+pub mod Causes
 pub mod Walks
 pub mod PartsAt
 pub mod Lines

@@ -189,7 +189,7 @@ refused-by s h = go (seen s)
     go (passed t e p) = absurd (h e)
 
 -- A tree has a first line.
-some-lines : (t : Tree) → 1 ≤ length (subtrees t)
+pub some-lines : (t : Tree) → 1 ≤ length (subtrees t)
 unfolding subtrees
 some-lines (node c f) = omega arith
 

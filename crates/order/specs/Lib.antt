@@ -1,6 +1,7 @@
 -- The definitions of the crate, from trees to what each function answers.
 pub mod Trees
 pub mod Reading
+pub mod Causes
 pub mod Parts
 pub mod Walks
 pub mod Answers

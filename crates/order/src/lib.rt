@@ -1,5 +1,5 @@
 // Orders: trees as 16-bit words in a lent slice. Whether words are an order, the subtree of a line, its cut, and the part that it
-// stands for at k. Assumes nothing. `put` and `part_at` are inner functions, for the repository's own crates.
+// stands for at k. Assumes nothing.
 ghost use mathlib.Core.Path.{_≡_};
 ghost use Prim.Native.Nat.{ℕ, suc, _+_, _-_, _^_, _<_, max};
 ghost use lib.ListN.{length};
@@ -233,7 +233,7 @@ pub fn subtree(order: &[u16], line: usize) -> &[u16]
 
 // Writes the cut at d of the tree at word `at` to the front of `out`, which has room for it. It calls itself for each child, on the
 // part of `out` that is still to be written.
-pub fn put(order: &[u16], at: usize, d: usize, out: &mut [u16]) -> Laid
+fn put(order: &[u16], at: usize, d: usize, out: &mut [u16]) -> Laid
     requires { ⌜ Room (walkOf (now order) at d) (length (now out)) ⌝ }
     ensures came { λ r. ⌜ r ≡ laidOf (walkOf (now (order .entry)) at d) ⌝ }
     ensures wrote { λ _. ⌜ now (out .exit) ≡ over (cutOf (now (order .entry)) at d) (now (out .entry)) ⌝ }
