@@ -10,10 +10,10 @@ use Rattle.words.specs.Base.{if_then_else_}
 use Rattle.figures.specs.Numbers.{done}
 use Rattle.figures.specs.Answers.{wrote}
 use Rattle.order.specs.Trees.{Tree, depth, cut}
-use Rattle.order.specs.Reading.{refused, byOrder, orderOf}
+use Rattle.order.specs.Reading.{byFound, refused, byOrder, orderOf}
 use Rattle.order.specs.Parts.{isLow, middle, partOf}
 use Rattle.order.specs.Walks.{cutOf, wordsAtOf, partWalked, partAtOf, kindOf}
-use Rattle.order.specs.Answers.{byFound, subtreeOf, refuse, write, cutIntoOf, partWriting, noPart, ofKind, partIntoOf}
+use Rattle.order.specs.Answers.{subtreeOf, refuse, write, cutIntoOf, partWriting, noPart, ofKind, partIntoOf}
 use Rattle.order.specs.declared.Walked.the-variants.{Whole}
 use Rattle.order.proofs.Cutting.{cut-shallow}
 use Rattle.order.proofs.Cuts.{no-words}

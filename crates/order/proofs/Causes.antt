@@ -1,6 +1,6 @@
 -- The number of an order is given exactly by the rows of 01's table, as specs/Causes.antt states them: each number has its cause, and
--- words with a cause have its number. Assumes nothing.
-use Prim.Native.Nat.{ℕ, _*_, _%_, _≤_}
+-- words with a cause have its number; so an order passes, or its number refuses it. Assumes nothing.
+use Prim.Native.Nat.{ℕ, suc, _%_, _≤_}
 use mathlib.Core.Path.{_≡_, refl, ap, sym, _∙_}
 use mathlib.Core.Bool.{Bool, true, false}
 use mathlib.Core.List.{List}
@@ -9,21 +9,15 @@ use native.Mathlib.Omega.{arith}
 use borrow.Author.Tests.{eqb-true, eqb-false, ltb-true, ltb-false, leb-true, leb-false}
 use lib.Dec.{leb, ltb, eqb}
 use lib.ListN.{length}
-use Rattle.figures.specs.Limits.{most-words, greatest-depth}
+use Rattle.figures.specs.Limits.{most-nodes, most-words, greatest-depth}
 use Rattle.figures.specs.Numbers.{done, no-order, too-large}
 use Rattle.order.specs.Trees.{Tree, words, depth, Good, subtrees}
-use Rattle.order.specs.Reading.{Found, missing, found, treeOf, causeOf}
+use Rattle.order.specs.Reading.{Found, missing, found, treeOf, Order, refused, order, byOrder, orderOf, causeOf}
 use Rattle.order.specs.Causes.{Cause, empty, odd, long, no-tree, deep, none}
-use Rattle.order.proofs.Orders.{Sized, FoundDeep, size, some-lines, words-read, read-words, cause-empty, cause-odd, cause-long, cause-missing, cause-deep, cause-none}
+use Rattle.order.proofs.Reading.{not-found}
+use Rattle.order.proofs.Orders.{FoundDeep, size, words-read, read-words, cause-empty, cause-odd, cause-long, cause-missing, cause-deep, cause-none, tree-sized, tree-passes}
 
--- The words of a good tree have no cause in their length but being too many, and are read as that tree.
-tree-sized : (s : List ℕ) (t : Tree) → s ≡ words t → length s ≤ most-words → Sized s
-tree-sized s t e l =
-    let n : length s ≡ length (subtrees t) * 2 = ap length e ∙ size t in
-    let m : 1 ≤ length (subtrees t) = some-lines t in
-    record { some = λ h. omega arith; even = λ h. omega arith; short = l }
-
--- And the tree is found, with its depth.
+-- The words of a good tree are read as that tree.
 tree-found : (s : List ℕ) (t : Tree) → Good t → s ≡ words t → FoundDeep (treeOf s) (depth t)
 tree-found s t g e = record { tree = t; is = ap treeOf e ∙ words-read t g; deep = refl }
 
@@ -63,10 +57,7 @@ by-depth s t l g w = go (leb (depth t) greatest-depth) refl
 -- An even number of words that are not too many are those of a good tree, or of none.
 by-tree : (s : List ℕ) (x : Found) → treeOf s ≡ x → length s % 2 ≡ 0 → length s ≤ most-words → Cause s (causeOf s)
 by-tree s (found t) e v l = let r = read-words s t e in by-depth s t l (r .1) (r .0)
-by-tree s missing e v l = no-tree (no-tree-cause s v l e) v l (λ t g w. none-found t (sym e ∙ ap treeOf w ∙ words-read t g))
-  where
-    none-found : (t : Tree) → missing ≡ found t → ⊥
-    none-found t q = let z : _≡_ {A = ℕ} 0 1 = cc in omega arith
+by-tree s missing e v l = no-tree (no-tree-cause s v l e) v l (λ t g w. not-found (sym e ∙ ap treeOf w ∙ words-read t g))
 
 -- A number that is not odd is even.
 even : (n : ℕ) → (n % 2 ≡ 1 → ⊥) → n % 2 ≡ 0
@@ -83,3 +74,44 @@ cause-is s = by-odd (eqb (length s % 2) 1) refl
     by-odd : (b : Bool) → eqb (length s % 2) 1 ≡ b → Cause s (causeOf s)
     by-odd true e = let h = eqb-true _ _ e in odd (cause-only s no-order (odd refl h)) h
     by-odd false e = by-long (ltb most-words (length s)) refl (even (length s) (eqb-false _ _ e))
+
+-- ---- an order that passes, and one that does not
+
+-- What is known of the tree of an order that passes.
+pub record Passed (s : List ℕ) (t : Tree) : Type 0 where
+  pub is : orderOf s ≡ order t
+  pub spelt : s ≡ words t
+  pub good : Good t
+  pub nodes : length (subtrees t) ≤ most-nodes
+  pub deep : depth t ≤ greatest-depth
+
+-- Either the number is not 0, and refuses the order, or the order is a tree within the limits.
+pub data Seen (s : List ℕ) : Type 0 where
+  stopped : (causeOf s ≡ done → ⊥) → orderOf s ≡ refused (causeOf s) → Seen s
+  passed : (t : Tree) → causeOf s ≡ done → Passed s t → Seen s
+
+-- A number that is not 0 refuses the order.
+pub refused-by : (s : List ℕ) → (causeOf s ≡ done → ⊥) → orderOf s ≡ refused (causeOf s)
+unfolding causeOf byOrder
+refused-by s h = go (orderOf s) refl
+  where
+    go : (o : Order) → orderOf s ≡ o → orderOf s ≡ refused (byOrder (orderOf s) (λ n. n) (λ t. done))
+    go (refused n) e = rw e refl
+    go (order t) e = absurd (h (rw e refl))
+
+-- Any words are one or the other, by their cause.
+pub seen : (s : List ℕ) → Seen s
+seen s = go (cause-is s)
+  where
+    stop : (n : ℕ) → causeOf s ≡ suc n → Seen s
+    stop n e = let h : causeOf s ≡ done → ⊥ = λ z. omega arith in stopped h (refused-by s h)
+
+    go : Cause s (causeOf s) → Seen s
+    go (empty e h) = stop 0 e
+    go (odd e h) = stop 0 e
+    go (long e v h) = stop 1 e
+    go (no-tree e v l h) = stop 0 e
+    go (deep e l t g w h) = stop 1 e
+    go (none e l t g w h) =
+        let n : length (subtrees t) ≤ most-nodes = omega (arith, size t, ap length w) in
+        passed t e (record { is = ap orderOf w ∙ tree-passes t g n h; spelt = w; good = g; nodes = n; deep = h })

@@ -22,7 +22,7 @@ use Rattle.order.specs.declared.Walked.the-variants.{Broken, Whole}
 use Rattle.order.specs.declared.Laid.{Laid}
 use Rattle.figures.specs.declared.Written.{Written}
 use Rattle.order.proofs.Reading.{Sound, sound, first, reads-none, thenF, addT}
-use Rattle.order.proofs.Walks.{two, take-all, two-words, past, short, no-node, start, rest}
+use Rattle.order.proofs.Walks.{two, first-all, two-words, past, short, no-node, start, rest}
 
 -- What a cut at d comes to that has written its first len words, from a node whose children are read up to `end`, with the trees of a
 -- reading still to be written: the output is z, and the answer y.
@@ -149,7 +149,7 @@ count-cut (cons t f) d = ap suc (count-cut f d)
 -- Below depth 0 the node keeps its children, cut by one less.
 node-cut : (d c k : ℕ) (f : Forest) (r : List ℕ) → count f ≡ k → cutWords (suc d) (nodeOver true c k (read f r)) ≡ c ∷ k ∷ wordsF (cutF f d)
 unfolding cutWords nodeOver words cut
-node-cut d c k f r e = rw (take-all k f e) (rw (count-cut f d, e) refl)
+node-cut d c k f r e = rw (first-all k f e) (rw (count-cut f d, e) refl)
 
 -- After the node its children are left, by what was read of them.
 start-left : (d e c k : ℕ) (out l : List ℕ) (p : Reading) → (d ≡ 0 → ⊥) → Sound k l p → Room (rest d e 0 2 p) (length out) → take 2 out ≡ c ∷ k ∷ []
@@ -227,12 +227,12 @@ pub record Child (s : List ℕ) (d end len left : ℕ) (out z : List ℕ) (y r :
   pub next : (last : List ℕ) → last ≡ over w (take (length out - len) (drop len out)) → Left d (r .end) (len + r .count) (take len out ++ (last ++ drop (length out - len) (drop len out))) z y (readTrees (drop (r .end) s) (left - 1))
 
 -- The same of the walk of the child, which finds a tree.
-abbrev Walks : List ℕ → ℕ → ℕ → ℕ → ℕ → List ℕ → List ℕ → Laid → List ℕ → Walked → Type 0
-Walks s d end len left out z y w Broken = ⊥
-Walks s d end len left out z y w (Whole e h c) = Child s d end len left out z y (record { end = e; count = c }) w
+abbrev ChildWalked : List ℕ → ℕ → ℕ → ℕ → ℕ → List ℕ → List ℕ → Laid → List ℕ → Walked → Type 0
+ChildWalked s d end len left out z y w Broken = ⊥
+ChildWalked s d end len left out z y w (Whole e h c) = Child s d end len left out z y (record { end = e; count = c }) w
 
 -- So it is of what was read.
-walks-of : (s : List ℕ) (d end len left : ℕ) (out z : List ℕ) (y : Laid) (p : Reading) → readTrees (drop end s) left ≡ thenF (left - 1) p → Sound 1 (drop end s) p → Left d end len out z y (readTrees (drop end s) left) → Walks s d end len left out z y (cutWords (d - 1) p) (walked end (d - 1) p)
+walks-of : (s : List ℕ) (d end len left : ℕ) (out z : List ℕ) (y : Laid) (p : Reading) → readTrees (drop end s) left ≡ thenF (left - 1) p → Sound 1 (drop end s) p → Left d end len out z y (readTrees (drop end s) left) → ChildWalked s d end len left out z y (cutWords (d - 1) p) (walked end (d - 1) p)
 unfolding walked cutWords count wordsF
 walks-of s d end len left out z y broken e g h = rw e at h
 walks-of s d end len left out z y (read bare r) e g h = rw e at h
@@ -252,7 +252,7 @@ walks-of s d end len left out z y (read (cons t (cons u f)) r) e g h = absurd (o
 
 module _ (s : List ℕ) (d end len left : ℕ) (out z : List ℕ) (y : Laid) (more : 0 < left) (inv : Left d end len out z y (readTrees (drop end s) left)) where
   -- So it is of the walk of the first tree that is left.
-  walks : Walks s d end len left out z y (cutOf s end (d - 1)) (walkOf s end (d - 1))
+  walks : ChildWalked s d end len left out z y (cutOf s end (d - 1)) (walkOf s end (d - 1))
   unfolding walkOf cutOf
   walks =
       let q : left ≡ suc (left - 1) = omega arith in
@@ -262,7 +262,7 @@ module _ (s : List ℕ) (d end len left : ℕ) (out z : List ℕ) (y : Laid) (mo
   pub child-room : (len ≤ length out) × Room (walkOf s end (d - 1)) (length (take (length out - len) (drop len out)))
   child-room = go (walkOf s end (d - 1)) walks
     where
-      go : (v : Walked) → Walks s d end len left out z y (cutOf s end (d - 1)) v → (len ≤ length out) × Room v (length (take (length out - len) (drop len out)))
+      go : (v : Walked) → ChildWalked s d end len left out z y (cutOf s end (d - 1)) v → (len ≤ length out) × Room v (length (take (length out - len) (drop len out)))
       go Broken w = absurd w
       go (Whole e h c) w =
           let q : len + c ≤ length out = w .room in
@@ -272,7 +272,7 @@ module _ (s : List ℕ) (d end len left : ℕ) (out z : List ℕ) (y : Laid) (mo
   pub child : (r : Laid) → r ≡ laidOf (walkOf s end (d - 1)) → Child s d end len left out z y r (cutOf s end (d - 1))
   child r e = subst (λ (q : Laid). Child s d end len left out z y q (cutOf s end (d - 1))) (sym e) (go (walkOf s end (d - 1)) walks)
     where
-      go : (v : Walked) → Walks s d end len left out z y (cutOf s end (d - 1)) v → Child s d end len left out z y (laidOf v) (cutOf s end (d - 1))
+      go : (v : Walked) → ChildWalked s d end len left out z y (cutOf s end (d - 1)) v → Child s d end len left out z y (laidOf v) (cutOf s end (d - 1))
       go Broken w = absurd w
       go (Whole e h c) w = w
 

@@ -9,24 +9,25 @@ use borrow.Author.Tests.{leb-true, leb-false, le-leb, lt-leb}
 use lib.Dec.{leb}
 use Rattle.words.specs.Base.{if_then_else_}
 use Rattle.order.specs.Trees.{Tree, depth, cut, subtrees}
-use Rattle.order.specs.Reading.{missing, found}
+use Rattle.order.specs.Reading.{found}
 use Rattle.order.specs.Answers.{treeAt, lineOf}
 use Rattle.order.specs.Parts.{isLow, middle, partOf}
 use Rattle.order.specs.Paper.{IsL, IsP}
 use Rattle.order.specs.declared.Kind.the-variants.{Low, Middle}
+use Rattle.order.proofs.Reading.{not-found}
 use Rattle.order.proofs.Once.{_∈_}
 use Rattle.order.proofs.Paper.{subtree-from, subtree-to, subtree-depth, cut-is-r, r-only}
 
 -- ---- lines
 
 -- s is the subtree of this line of t.
-pub record LineOf (t s : Tree) (line : ℕ) : Type 0 where
+pub record OnLine (t s : Tree) (line : ℕ) : Type 0 where
   pub is : lineOf line (subtrees t) ≡ found s
 
 -- The tree of a line is one of the list, and each tree of a list has a line.
 at-in : (ts : List Tree) (i : ℕ) {s : Tree} → treeAt ts i ≡ found s → s ∈ ts
 unfolding treeAt
-at-in [] i e = absurd (let z : _≡_ {A = ℕ} 0 1 = cc in omega arith)
+at-in [] i e = not-found e
 at-in (t ∷ ts) zero {s} e = let z : s ≡ t = cc in here z
 at-in (t ∷ ts) (suc i) e = there (at-in ts i e)
 
@@ -37,13 +38,13 @@ in-at (here e) = (0, ap found (sym e))
 in-at (there m) = let r = in-at m in (suc (r .0), r .1)
 
 -- A line's tree is a subtree.
-line-in : (t s : Tree) (line : ℕ) → LineOf t s line → s ∈ subtrees t
+line-in : (t s : Tree) (line : ℕ) → OnLine t s line → s ∈ subtrees t
 unfolding lineOf
-line-in t s zero l = absurd (let e : missing ≡ found s = l .is in let z : _≡_ {A = ℕ} 0 1 = cc in omega arith)
+line-in t s zero l = not-found (l .is)
 line-in t s (suc i) l = at-in (subtrees t) i (l .is)
 
 -- A subtree has a line.
-in-line : {t s : Tree} → s ∈ subtrees t → (line : ℕ) × LineOf t s line
+in-line : {t s : Tree} → s ∈ subtrees t → (line : ℕ) × OnLine t s line
 unfolding lineOf
 in-line m = let r = in-at m in (suc (r .0), record { is = r .1 })
 
@@ -79,24 +80,24 @@ is-middle k s e = go (leb (depth s) (k - 2)) refl
 
 module _ (k : ℕ) (t : Tree) (two : 2 ≤ k) where
   -- A line's part is in l or in p.
-  pub low-line : (s : Tree) (line : ℕ) → LineOf t s line → partOf k s .kind ≡ Low → IsL (k - 1) t (partOf k s .tree)
+  pub low-line : (s : Tree) (line : ℕ) → OnLine t s line → partOf k s .kind ≡ Low → IsL (k - 1) t (partOf k s .tree)
   low-line s line l e =
       let h : depth s ≤ k - 2 = is-low k s e in
       rw (low-part k s h) (record { subtree = subtree-from t (line-in t s line l); shallow = omega arith })
 
   -- A middle line's part is in p.
-  pub middle-line : (s : Tree) (line : ℕ) → LineOf t s line → partOf k s .kind ≡ Middle → IsP k t (partOf k s .tree)
+  pub middle-line : (s : Tree) (line : ℕ) → OnLine t s line → partOf k s .kind ≡ Middle → IsP k t (partOf k s .tree)
   middle-line s line l e =
       let h : k - 1 ≤ depth s = is-middle k s e in
       let m = subtree-from t (line-in t s line l) in
       rw (middle-part k s two h) (record { some-middle = omega (arith, subtree-depth m); uncut = s; subtree = m; deep = h; is = cut-is-r s k (omega arith) })
 
   -- What is in l or in p is the part of a line.
-  pub l-has-line : (u : Tree) → IsL (k - 1) t u → (line : ℕ) × LineOf t u line × (partOf k u ≡ record { kind = Low; tree = u })
+  pub l-has-line : (u : Tree) → IsL (k - 1) t u → (line : ℕ) × OnLine t u line × (partOf k u ≡ record { kind = Low; tree = u })
   l-has-line u a = let r = in-line (subtree-to (a .subtree)) in (r .0, r .1, low-part k u (omega arith))
 
   -- What is in p is the part of the line of its uncut subtree.
-  pub p-has-line : (u : Tree) (a : IsP k t u) → (line : ℕ) × LineOf t (a .uncut) line × (partOf k (a .uncut) ≡ record { kind = Middle; tree = u })
+  pub p-has-line : (u : Tree) (a : IsP k t u) → (line : ℕ) × OnLine t (a .uncut) line × (partOf k (a .uncut) ≡ record { kind = Middle; tree = u })
   p-has-line u a =
       let r = in-line (subtree-to (a .subtree)) in
       let e : cut (a .uncut) (k - 1) ≡ u = r-only k (omega arith) (cut-is-r (a .uncut) k (omega arith)) (a .is) in

@@ -18,7 +18,8 @@ use Rattle.order.specs.declared.Walked.the-variants.{Whole}
 use Rattle.order.specs.declared.Place.{Place}
 use Rattle.order.specs.declared.Place.the-variants.{Refused, Lacking, At}
 use Rattle.order.proofs.Reading.{complete, reads-none}
-use Rattle.order.proofs.Orders.{Passed, Seen, stopped, passed, seen, refused-by, size}
+use Rattle.order.proofs.Orders.{size}
+use Rattle.order.proofs.Causes.{Passed, Seen, stopped, passed, seen, refused-by}
 
 -- ---- a place in a list of trees
 
@@ -122,18 +123,18 @@ module _ (s : List ℕ) (at : ℕ) (x : Found) (p : Spot s at x) where
 
 -- ---- where a line stands
 
--- The order passes, and the line is one that it has, at this word, or one that it lacks.
+-- The order passes, and the line is one that it has, at this word.
 pub record HasLine (s : List ℕ) (line at : ℕ) : Type 0 where
-  pub top : Tree
-  pub is : orderOf s ≡ order top
+  pub tree : Tree
+  pub is : orderOf s ≡ order tree
   pub short : length s ≤ most-words
-  pub spot : Spot s at (lineOf line (subtrees top))
+  pub spot : Spot s at (lineOf line (subtrees tree))
 
 -- The order passes, and the line is one that it lacks.
 pub record LacksLine (s : List ℕ) (line : ℕ) : Type 0 where
-  pub top : Tree
-  pub is : orderOf s ≡ order top
-  pub lacks : lineOf line (subtrees top) ≡ missing
+  pub tree : Tree
+  pub is : orderOf s ≡ order tree
+  pub lacks : lineOf line (subtrees tree) ≡ missing
 
 -- What a place says of the order and the line.
 abbrev pub Placed : List ℕ → ℕ → Place → Type 0
@@ -144,15 +145,15 @@ Placed s line (At at) = HasLine s line at
 -- So it is for an order that passes.
 placed-line : (s : List ℕ) (line : ℕ) (t : Tree) → Passed s t → Placed s line (linePlace (length (subtrees t)) line)
 unfolding linePlace lineOf if_then_else_
-placed-line s zero t p = record { top = t; is = p .is; lacks = refl }
+placed-line s zero t p = record { tree = t; is = p .is; lacks = refl }
 placed-line s (suc i) t p = pick i (length (subtrees t))
     (λ l. rw (lt-ltb i (length (subtrees t)) l) (record {
-      top = t;
+      tree = t;
       is = p .is;
       short = omega (arith, size t, ap length (p .spelt), p .nodes);
       spot = subst (λ (w : List ℕ). Spot w (i * 2) (treeAt (subtrees t) i)) (append-nil (words t) ∙ sym (p .spelt)) (spot t (p .good) [] i l);
     }))
-    (λ l. rw (le-ltb i (length (subtrees t)) l) (record { top = t; is = p .is; lacks = at-past (subtrees t) i l }))
+    (λ l. rw (le-ltb i (length (subtrees t)) l) (record { tree = t; is = p .is; lacks = at-past (subtrees t) i l }))
 
 -- So it is for any words.
 placed-of : (s : List ℕ) (line : ℕ) → Placed s line (placeOf s line)

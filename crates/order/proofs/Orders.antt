@@ -1,18 +1,16 @@
--- What an order's words say of its tree: the causes of 1 and 2 in their order, and that reading and writing undo each other. Assumes
--- nothing.
+-- Words and trees: reading and writing undo each other, the causes of 1 and 2 follow each other in their order, and a good tree within
+-- the limits is an order. Assumes nothing.
 use mathlib.Core.Path.{_≡_, refl, ap, sym, subst, _∙_}
 use mathlib.Core.List.{List, [], _∷_, _++_, append-nil}
-use mathlib.Core.Bool.{Bool, true, false}
 use Prim.Native.Nat.{ℕ, suc, _+_, _*_, _%_, _≤_, _<_}
 use native.Mathlib.Omega.{arith}
-use borrow.Author.Tests.{ne-eqb, eq-eqb, le-ltb, lt-ltb, le-leb, lt-leb, leb-true, ltb-false}
+use borrow.Author.Tests.{ne-eqb, eq-eqb, le-ltb, lt-ltb, le-leb, lt-leb}
 use lib.ListN.{length, length-append}
-use lib.Dec.{leb, ltb}
 use Rattle.words.specs.Base.{if_then_else_}
 use Rattle.figures.specs.Limits.{least-code, greatest-code, most-nodes, most-words, greatest-depth}
 use Rattle.figures.specs.Numbers.{done, no-order, too-large}
 use Rattle.order.specs.Trees.{Tree, node, Forest, bare, cons, count, words, wordsF, depth, Good, GoodF, subtrees, subtreesF}
-use Rattle.order.specs.Reading.{Reading, broken, read, readTrees, Found, missing, found, only, treeOf, Order, refused, order, byOrder, shallow, orderOf, causeOf}
+use Rattle.order.specs.Reading.{Reading, broken, read, readTrees, Found, missing, found, only, treeOf, order, byOrder, withinDepth, orderOf, causeOf}
 use Rattle.order.specs.Walks.{walked, walkOf}
 use Rattle.order.specs.declared.Walked.{Walked}
 use Rattle.order.specs.declared.Walked.the-variants.{Broken, Whole}
@@ -20,12 +18,12 @@ use Rattle.order.proofs.Reading.{Sound, sound, complete, reads-none}
 
 -- ---- words and trees
 
--- The tree of words is a good tree whose words they are.
+-- What words are read as, if anything, is a good tree whose words they are.
 abbrev pub IsTree : List ℕ → Found → Type 0
 IsTree s missing = Unit {0}
 IsTree s (found t) = (s ≡ words t) × Good t
 
--- So it is of what was read.
+-- `IsTree` holds of what was read, by cases.
 is-tree-of : (s : List ℕ) (p : Reading) → Sound 1 s p → IsTree s (only p)
 unfolding only count wordsF GoodF
 is-tree-of s broken g = tt
@@ -35,7 +33,7 @@ is-tree-of s (read (cons t bare) (x ∷ r)) g = tt
 is-tree-of s (read (cons t (cons u f)) []) g = absurd (omega (arith, g .1))
 is-tree-of s (read (cons t (cons u f)) (x ∷ r)) g = absurd (omega (arith, g .1))
 
--- So it is of any words.
+-- `IsTree` holds of any words.
 pub is-tree : (s : List ℕ) → IsTree s (treeOf s)
 unfolding treeOf
 is-tree s = is-tree-of s (readTrees s 1) (sound s 1)
@@ -85,7 +83,7 @@ module _ (s : List ℕ) where
   cause-long a b l = rw (ne-eqb _ _ a, ne-eqb _ _ b, lt-ltb _ _ l)
 
   -- Past the length the tree decides.
-  pub sized-order : Sized s → orderOf s ≡ shallow (treeOf s)
+  pub sized-order : Sized s → orderOf s ≡ withinDepth (treeOf s)
   unfolding orderOf if_then_else_
   sized-order z = rw (ne-eqb _ _ (z .some), ne-eqb _ _ (z .even), le-ltb _ _ (z .short))
 
@@ -98,17 +96,17 @@ pub record FoundDeep (x : Found) (h : ℕ) : Type 0 where
 module _ (s : List ℕ) (z : Sized s) where
   -- Words that are not exactly one good tree: 1.
   pub cause-missing : treeOf s ≡ missing → causeOf s ≡ no-order
-  unfolding causeOf byOrder shallow
+  unfolding causeOf byOrder withinDepth
   cause-missing e = rw (sized-order s z, e)
 
   -- A tree that is too deep: 2.
   pub cause-deep : (h : ℕ) → FoundDeep (treeOf s) h → greatest-depth < h → causeOf s ≡ too-large
-  unfolding causeOf byOrder shallow if_then_else_
+  unfolding causeOf byOrder withinDepth if_then_else_
   cause-deep h f l = rw (sized-order s z, f .is, f .deep, lt-leb _ _ l)
 
   -- No cause is left.
   pub cause-none : (h : ℕ) → FoundDeep (treeOf s) h → h ≤ greatest-depth → causeOf s ≡ done
-  unfolding causeOf byOrder shallow if_then_else_
+  unfolding causeOf byOrder withinDepth if_then_else_
   cause-none h f l = rw (sized-order s z, f .is, f .deep, le-leb _ _ l)
 
 -- What the walk from word 0 says of the order's tree: none if it breaks or ends early, and otherwise how deep it is.
@@ -116,7 +114,7 @@ abbrev pub FromTop : List ℕ → Found → Walked → Type 0
 FromTop s x Broken = x ≡ missing
 FromTop s x (Whole e h c) = (e < length s → x ≡ missing) × (length s ≤ e → FoundDeep x h)
 
--- So it is of what was read.
+-- `FromTop` holds of what was read, by cases.
 from-top-of : (s : List ℕ) (p : Reading) → Sound 1 s p → FromTop s (only p) (walked 0 0 p)
 unfolding walked only count wordsF
 from-top-of s broken g = refl
@@ -130,87 +128,33 @@ from-top-of s (read (cons t bare) (x ∷ r)) g =
 from-top-of s (read (cons t (cons u f)) []) g = absurd (omega (arith, g .1))
 from-top-of s (read (cons t (cons u f)) (x ∷ r)) g = absurd (omega (arith, g .1))
 
--- So it is of the result w of a walk, once it is known to be v.
+-- `FromTop` holds of what a call of the walk answered: its result w is known to be v.
 pub from-top : (s : List ℕ) (w v : Walked) → w ≡ walkOf s 0 0 → w ≡ v → FromTop s (treeOf s) v
 unfolding walkOf treeOf
 from-top s w v e f = subst (FromTop s (treeOf s)) (sym e ∙ f) (from-top-of s (readTrees s 1) (sound s 1))
 
--- ---- an order that passes
-
--- What an order may be: refused by a number that is not 0, or a tree with no cause.
-data Causes (long : Bool) (x : Found) (o : Order) : Type 0 where
-  named : (n : ℕ) → o ≡ refused (suc n) → Causes long x o
-  clear : (t : Tree) → o ≡ order t → long ≡ false → x ≡ found t → leb (depth t) greatest-depth ≡ true → Causes long x o
-
--- So it is whatever the tests say.
-causes : (empty odd long : Bool) (x : Found) →
-    Causes long x (if empty then refused no-order else if odd then refused no-order else if long then refused too-large else shallow x)
-unfolding if_then_else_ shallow
-causes true odd long x = named 0 refl
-causes false true long x = named 0 refl
-causes false false true x = named 1 refl
-causes false false false missing = named 0 refl
-causes false false false (found t) = by-depth (leb (depth t) greatest-depth) refl
-  where
-    by-depth : (b : Bool) → leb (depth t) greatest-depth ≡ b → Causes false (found t) (if leb (depth t) greatest-depth then order t else refused too-large)
-    by-depth true e = clear t (rw e) refl refl e
-    by-depth false e = named 1 (rw e)
-
--- What is known of the tree of an order that passes.
-pub record Passed (s : List ℕ) (t : Tree) : Type 0 where
-  pub is : orderOf s ≡ order t
-  pub spelt : s ≡ words t
-  pub good : Good t
-  pub nodes : length (subtrees t) ≤ most-nodes
-  pub deep : depth t ≤ greatest-depth
-
--- Either the cause is not 0, and refuses the order, or the order is a tree within limits.
-pub data Seen (s : List ℕ) : Type 0 where
-  stopped : (causeOf s ≡ done → ⊥) → orderOf s ≡ refused (causeOf s) → Seen s
-  passed : (t : Tree) → causeOf s ≡ done → Passed s t → Seen s
-
--- So it is of any words.
-pub seen : (s : List ℕ) → Seen s
-unfolding orderOf causeOf byOrder
-seen s = go (causes _ _ _ (treeOf s))
-  where
-    go : Causes (ltb most-words (length s)) (treeOf s) (orderOf s) → Seen s
-    go (named n e) = let z : causeOf s ≡ suc n = rw e in stopped (λ h. omega arith) (e ∙ ap refused (sym z))
-    go (clear t e l f d) =
-        let w = read-words s t f in
-        passed t (rw e) (record { is = e; spelt = w .0; good = w .1; nodes = omega (arith, size t, ap length (w .0), ltb-false most-words (length s) l); deep = leb-true (depth t) greatest-depth d })
-
--- An order with a cause has no tree, and an order without has one.
-pub refused-by : (s : List ℕ) → (causeOf s ≡ done → ⊥) → orderOf s ≡ refused (causeOf s)
-refused-by s h = go (seen s)
-  where
-    go : Seen s → orderOf s ≡ refused (causeOf s)
-    go (stopped k e) = e
-    go (passed t e p) = absurd (h e)
+-- ---- the words of a tree
 
 -- A tree has a first line.
 pub some-lines : (t : Tree) → 1 ≤ length (subtrees t)
 unfolding subtrees
 some-lines (node c f) = omega arith
 
+-- The length of a tree's words is a cause only if they are too many.
+pub tree-sized : (s : List ℕ) (t : Tree) → s ≡ words t → length s ≤ most-words → Sized s
+tree-sized s t e l =
+    let n : length s ≡ length (subtrees t) * 2 = ap length e ∙ size t in
+    let m : 1 ≤ length (subtrees t) = some-lines t in
+    record { some = λ h. omega arith; even = λ h. omega arith; short = l }
+
 -- A good tree of at most 64 nodes and a depth of at most 12 is an order.
 pub tree-passes : (t : Tree) → Good t → length (subtrees t) ≤ most-nodes → depth t ≤ greatest-depth → orderOf (words t) ≡ order t
-unfolding shallow if_then_else_
+unfolding withinDepth if_then_else_
 tree-passes t g n d =
-    let z = size t in
-    let q : 1 ≤ length (subtrees t) = some-lines t in
-    sized-order (words t) (record { some = λ e. omega arith; even = λ e. omega arith; short = omega arith })
+    sized-order (words t) (tree-sized (words t) t refl (omega (arith, size t)))
     ∙ rw (words-read t g, le-leb _ _ d)
 
 -- A single node is an order: document 000 decides, and not the automata of 001, which accept no tree of one node.
 pub single-node : (c : ℕ) → least-code ≤ c → c ≤ greatest-code → orderOf (c ∷ 0 ∷ []) ≡ order (node c bare)
 unfolding words count subtrees depth Good
 single-node c l g = tree-passes (node c bare) ((l, g, omega arith), tt) (omega arith) (omega arith)
-
--- The number is 0 exactly for the words of a good tree within the limits: this way, and `tree-passes` the other.
-pub passes : (s : List ℕ) → causeOf s ≡ done → (t : Tree) × Passed s t
-passes s e = go (seen s)
-  where
-    go : Seen s → (t : Tree) × Passed s t
-    go (stopped k f) = absurd (k e)
-    go (passed t f p) = (t, p)

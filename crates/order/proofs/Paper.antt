@@ -12,10 +12,10 @@ use borrow.Author.Tests.{leb-true, le-leb, lt-leb}
 use lib.ListN.{length}
 use Rattle.words.specs.Base.{keep}
 use Rattle.order.specs.Trees.{Tree, Forest, node, bare, cons, depth, depthF, cut, cutF, subtrees, subtreesF}
-use Rattle.order.specs.Reading.{Found, missing, found}
-use Rattle.order.specs.Answers.{byFound}
+use Rattle.order.specs.Reading.{byFound, Found, missing, found}
 use Rattle.order.specs.Parts.{top, isLow, lows, middle, isMiddle, middles, lowParts, middleParts}
 use Rattle.order.specs.Paper.{Position, childOf, code, rootedAt, labelAt, Subtree, InDomain, IsDepth, IsR, IsL, IsP}
+use Rattle.order.proofs.Reading.{not-found}
 use Rattle.order.proofs.Cutting.{cut-depth, cut-deep, cut-shallow}
 use Rattle.order.proofs.Once.{_∈_, kept-in, in-kept, once-from, once-to}
 
@@ -28,10 +28,6 @@ rootedIn i x f = byFound (childOf i f) missing (rootedAt x)
 -- The label there.
 abbrev labelIn : ℕ → Position → Forest → Option ℕ
 labelIn i x f = byFound (rootedIn i x f) none (λ s. some (code s))
-
--- What is missing is not found, and has no label.
-not-found : {A : Type 0} {s : Tree} → missing ≡ found s → A
-not-found e = absurd (let z : _≡_ {A = ℕ} 0 1 = cc in omega arith)
 
 -- What has no label has none.
 no-label : {A : Type 0} {c : ℕ} → none ≡ some c → A

@@ -12,9 +12,13 @@ use Rattle.words.specs.Base.{_and_}
 use Rattle.words.proofs.Tests.{and-left, and-right, and-both}
 use Rattle.figures.specs.Limits.{least-code, greatest-code, most-children}
 use Rattle.order.specs.Trees.{Tree, node, Forest, bare, cons, count, words, wordsF, Good, GoodF}
-use Rattle.order.specs.Reading.{Reading, broken, read, firstTrees, laterTrees, soundNode, nodeOver, readTrees}
+use Rattle.order.specs.Reading.{missing, found, Reading, broken, read, firstTrees, laterTrees, soundNode, nodeOver, readTrees}
 
--- Two rows of trees one after the other, and a tree or a row put before what was read.
+-- A tree that is missing is not found.
+pub not-found : {A : Type 0} {t : Tree} → missing ≡ found t → A
+not-found e = absurd (let z : _≡_ {A = ℕ} 0 1 = cc in omega arith)
+
+-- Two rows of trees one after the other.
 abbrev pub join : Forest → Forest → Forest
 join bare g = g
 join (cons t f) g = cons t (join f g)
@@ -29,7 +33,7 @@ abbrev pub addF : Forest → Reading → Reading
 addF g broken = broken
 addF g (read f r) = read (join g f) r
 
--- The two parts of a row that is split after k trees: their numbers of trees, their words, and that they are good.
+-- Of a row that is split after k trees the first part has k.
 pub count-take : (k n : ℕ) (f : Forest) → count f ≡ k + n → count (firstTrees k f) ≡ k
 unfolding count firstTrees
 count-take zero n f e = refl
@@ -103,30 +107,30 @@ sound (c ∷ []) (suc n) = tt
 sound (c ∷ k ∷ s) zero = (refl, refl, tt)
 sound (c ∷ k ∷ s) (suc n) = sound-node (soundNode c k) c k n s (readTrees s (k + n)) refl (sound s (k + n))
 
--- A row is split where it was joined.
-take-all : (f g : Forest) → firstTrees (count f) (join f g) ≡ f
+-- A row that is split where it was joined gives the first row back.
+split-first : (f g : Forest) → firstTrees (count f) (join f g) ≡ f
 unfolding count firstTrees
-take-all bare g = refl
-take-all (cons t f) g = ap (cons t) (take-all f g)
+split-first bare g = refl
+split-first (cons t f) g = ap (cons t) (split-first f g)
 
--- The second row is what is left.
-drop-all : (f g : Forest) → laterTrees (count f) (join f g) ≡ g
+-- And the second.
+split-later : (f g : Forest) → laterTrees (count f) (join f g) ≡ g
 unfolding count laterTrees
-drop-all bare g = refl
-drop-all (cons t f) g = drop-all f g
+split-later bare g = refl
+split-later (cons t f) g = split-later f g
 
 -- A node is put over its own children.
 node-joined : (c : ℕ) (f : Forest) (p : Reading) → nodeOver true c (count f) (addF f p) ≡ addT (node c f) p
 unfolding nodeOver
 node-joined c f broken = refl
-node-joined c f (read g r) = rw (take-all f g, drop-all f g)
+node-joined c f (read g r) = rw (split-first f g, split-later f g)
 
 -- A row of no trees changes nothing.
 addF-bare : (p : Reading) → addF bare p ≡ p
 addF-bare broken = refl
 addF-bare (read g r) = refl
 
--- A row is put before by its trees, the last first.
+-- A row put before is its first tree put before the others.
 addF-cons : (t : Tree) (f : Forest) (p : Reading) → addF (cons t f) p ≡ addT t (addF f p)
 addF-cons t f broken = refl
 addF-cons t f (read g r) = refl
@@ -150,7 +154,7 @@ reads-none [] = refl
 reads-none (c ∷ []) = refl
 reads-none (c ∷ k ∷ s) = refl
 
--- The reading of a tree and n more goes by the reading of one tree.
+-- What was read of one tree, and then n trees from the words past it.
 abbrev pub thenF : ℕ → Reading → Reading
 thenF n broken = broken
 thenF n (read bare r) = broken
@@ -167,7 +171,7 @@ no-more s n (read (cons t f) r) e h =
     let z : broken ≡ read (cons t bare) (wordsF f ++ r) = sym e ∙ b ∙ ap (addT t) (reads-none (wordsF f ++ r)) in
     cc
 
--- So it is for each reading of one tree.
+-- `first` for each reading of one tree.
 first-of : (s : List ℕ) (n : ℕ) (p : Reading) → readTrees s 1 ≡ p → Sound 1 s p → readTrees s (suc n) ≡ thenF n p
 unfolding count wordsF GoodF
 first-of s n broken e h = no-more s n (readTrees s (suc n)) e (sound s (suc n))
@@ -175,6 +179,6 @@ first-of s n (read bare r) e h = absurd (omega (arith, h .1))
 first-of s n (read (cons t bare) r) e h = rw (h .0) (rw (append-assoc (words t) [] r) (complete t (h .2 .0) n r))
 first-of s n (read (cons t (cons u f)) r) e h = absurd (omega (arith, h .1))
 
--- So it is for any words.
+-- Reading a tree and n more is reading one tree, and then n from the words past it.
 pub first : (s : List ℕ) (n : ℕ) → readTrees s (suc n) ≡ thenF n (readTrees s 1)
 first s n = first-of s n (readTrees s 1) refl (sound s 1)

@@ -37,24 +37,24 @@ two s at h =
     rw (add-one at, add-two at) (drop-cons s at 0 a ∙ ap (λ (l : List ℕ). getD s at 0 ∷ l) (drop-cons s (suc at) 0 b))
 
 -- A row split after all its trees is the first part.
-pub take-all : (k : ℕ) (f : Forest) → count f ≡ k → firstTrees k f ≡ f
+pub first-all : (k : ℕ) (f : Forest) → count f ≡ k → firstTrees k f ≡ f
 unfolding count firstTrees
-take-all zero bare e = refl
-take-all zero (cons t f) e = absurd (omega arith)
-take-all (suc k) bare e = refl
-take-all (suc k) (cons t f) e = ap (cons t) (take-all k f (omega arith))
+first-all zero bare e = refl
+first-all zero (cons t f) e = absurd (omega arith)
+first-all (suc k) bare e = refl
+first-all (suc k) (cons t f) e = ap (cons t) (first-all k f (omega arith))
 
 -- A cut has two words for its node, and those of its children.
-cut-node : (d c : ℕ) (f : Forest) → length (words (cut (node c f) d)) ≡ 2 + keptF d f
+cut-size : (d c : ℕ) (f : Forest) → length (words (cut (node c f) d)) ≡ 2 + keptF d f
 unfolding words wordsF cut
-cut-node zero c f = refl
-cut-node (suc d) c f = omega arith
+cut-size zero c f = refl
+cut-size (suc d) c f = omega arith
 
 -- A walk that has read the node has its children left, by what was read of them.
 start-of : (d at c k : ℕ) (s : List ℕ) (p : Reading) → Sound k s p → walked at d (nodeOver true c k p) ≡ rest d (at + 2) 0 2 p
 unfolding walked nodeOver words depth
 start-of d at c k s broken h = refl
-start-of d at c k s (read f r) h = rw (take-all k f (h .1)) (whole (omega arith) (omega arith) (cut-node d c f))
+start-of d at c k s (read f r) h = rw (first-all k f (h .1)) (whole (omega arith) (omega arith) (cut-size d c f))
 
 -- Fewer than two words are no tree.
 none-read : (l : List ℕ) → length l < 2 → readTrees l 1 ≡ broken
@@ -163,9 +163,9 @@ pub step-by : (s : List ℕ) (d pos deep len left b : ℕ) (w w′ : Walked) →
 step-by s d pos deep len left b w w′ h e f g = subst (Step s d pos deep len left) (ap (walkOf s pos) (sym e) ∙ sym f ∙ g) (step s d pos deep len left h)
 
 -- No tree is left to be read.
-pub done : (s : List ℕ) (d pos deep len left : ℕ) → left ≤ 0 → rest d pos deep len (readTrees (drop pos s) left) ≡ Whole pos deep len
+pub none-left : (s : List ℕ) (d pos deep len left : ℕ) → left ≤ 0 → rest d pos deep len (readTrees (drop pos s) left) ≡ Whole pos deep len
 unfolding wordsF depthF cutF
-done s d pos deep len left h =
+none-left s d pos deep len left h =
     let z : left ≡ 0 = omega arith in
     rw (z, reads-none (drop pos s)) (whole (omega arith) (omega arith) (bare-kept d len))
   where

@@ -7,7 +7,7 @@ use Rattle.words.specs.Base.{if_then_else_, over}
 use Rattle.figures.specs.Numbers.{done, short-output}
 use Rattle.figures.specs.Answers.{wrote}
 use Rattle.order.specs.Trees.{Tree, words, cut, subtrees}
-use Rattle.order.specs.Reading.{Found, missing, found, byOrder, orderOf, causeOf}
+use Rattle.order.specs.Reading.{Found, missing, found, byFound, byOrder, orderOf, causeOf}
 use Rattle.order.specs.Parts.{partOf}
 use Rattle.figures.specs.declared.Answer.{Answer}
 use Rattle.figures.specs.declared.Written.{Written}
@@ -33,11 +33,6 @@ treeAt (t ∷ ts) (suc i) = treeAt ts i
 unfoldable pub lineOf : ℕ → List Tree → Found
 lineOf zero ts = missing
 lineOf (suc i) ts = treeAt ts i
-
--- What follows a tree that is there, and what stands where there is none.
-unfoldable pub byFound : {A : Type 0} → Found → A → (Tree → A) → A
-byFound missing a f = a
-byFound (found t) a f = f t
 
 -- "handed out as that part, asked for by its line; for an order with a cause of 1 or 2, or a line the order lacks, an empty part"
 unfoldable pub subtreeOf : List ℕ → ℕ → List ℕ

@@ -7,8 +7,7 @@ use mathlib.Core.List.{List, [], _∷_}
 use mathlib.Core.Option.{Option, none, some}
 use lib.ListN.{length}
 use Rattle.order.specs.Trees.{Tree, node, Forest, bare, cons, depth}
-use Rattle.order.specs.Reading.{Found, missing, found}
-use Rattle.order.specs.Answers.{byFound}
+use Rattle.order.specs.Reading.{byFound, Found, missing, found}
 
 -- A position, x ∈ ℕ*: the numbers of the children on the way down, counted from 1; the empty list is the top, λ.
 abbrev pub Position : Type 0

@@ -14,7 +14,7 @@ pub data Reading : Type 0 where
   broken : Reading
   read : Forest → List ℕ → Reading
 
--- The first n trees of a row, and the others.
+-- The first n trees of a row.
 unfoldable pub firstTrees : ℕ → Forest → Forest
 firstTrees zero f = bare
 firstTrees (suc n) bare = bare
@@ -36,20 +36,25 @@ nodeOver false c n r = broken
 nodeOver true c n broken = broken
 nodeOver true c n (read f ws) = read (cons (node c (firstTrees n f)) (laterTrees n f)) ws
 
--- The first n trees that the words spell, and the words past them. A node with k children is read with k trees more, which are then
+-- The first m trees that the words spell, and the words past them. A node with n children is read with n trees more, which are then
 -- put under it.
 unfoldable pub readTrees : List ℕ → ℕ → Reading
 readTrees [] zero = read bare []
-readTrees [] (suc n) = broken
+readTrees [] (suc m) = broken
 readTrees (c ∷ []) zero = read bare (c ∷ [])
-readTrees (c ∷ []) (suc n) = broken
-readTrees (c ∷ k ∷ ws) zero = read bare (c ∷ k ∷ ws)
-readTrees (c ∷ k ∷ ws) (suc n) = nodeOver (soundNode c k) c k (readTrees ws (k + n))
+readTrees (c ∷ []) (suc m) = broken
+readTrees (c ∷ n ∷ ws) zero = read bare (c ∷ n ∷ ws)
+readTrees (c ∷ n ∷ ws) (suc m) = nodeOver (soundNode c n) c n (readTrees ws (n + m))
 
 -- A tree that may be missing.
 pub data Found : Type 0 where
   missing : Found
   found : Tree → Found
+
+-- What follows a tree that is there, and what stands where there is none.
+unfoldable pub byFound : {A : Type 0} → Found → A → (Tree → A) → A
+byFound missing a f = a
+byFound (found t) a f = f t
 
 -- "holds exactly one tree": a tree was read, and no word is left.
 unfoldable pub only : Reading → Found
@@ -73,9 +78,9 @@ byOrder (refused n) f g = f n
 byOrder (order t) f g = g t
 
 -- "the other causes of 1, depth"
-unfoldable pub shallow : Found → Order
-shallow missing = refused no-order
-shallow (found t) = if leb (depth t) greatest-depth then order t else refused too-large
+unfoldable pub withinDepth : Found → Order
+withinDepth missing = refused no-order
+withinDepth (found t) = if leb (depth t) greatest-depth then order t else refused too-large
 
 -- "Within an order: empty or odd length, over 128 words, the other causes of 1, depth."
 unfoldable pub orderOf : List ℕ → Order
@@ -83,7 +88,7 @@ orderOf ws =
     if eqb (length ws) 0 then refused no-order else
     if eqb (length ws % 2) 1 then refused no-order else
     if ltb most-words (length ws) then refused too-large else
-    shallow (treeOf ws)
+    withinDepth (treeOf ws)
 
 -- The number of an order: 0, or the first cause of 1 or 2.
 unfoldable pub causeOf : List ℕ → ℕ

@@ -11,7 +11,7 @@ use borrow.Fn.PlainCycle.{Measures, is, falls, and}
 use Rattle.order.specs.Reading.{readTrees}
 use Rattle.order.specs.Walks.{walkOf}
 use Rattle.order.specs.declared.Walked.the-variants.{Whole}
-use Rattle.order.proofs.Walks.{rest, short, no-node, start, Step, step-by, done}
+use Rattle.order.proofs.Walks.{rest, short, no-node, start, Step, step-by, none-left}
 use Rattle.order.proofs.walk.Reads as walk
 use Rattle.order.proofs.walk.Kinds as walk-kinds
 use Rattle.order.proofs.+walk.Lts-walk as lts
@@ -135,7 +135,7 @@ loop-again t c =
     )
 
 returns-5 : (t : ℕ) → lts.Need-returns-5 (claims t) (walk-at t) walk.Post Inv μ
-returns-5 t c = sym (c .before .loop .inv .3 ∙ done _ _ _ _ _ _ (c .loop-test .left))
+returns-5 t c = sym (c .before .loop .inv .3 ∙ none-left _ _ _ _ _ _ (c .loop-test .left))
 
 pub +walk-spec : {M : Type 1} → statement M
 +walk-spec = close μ-walk λ t. lts.spec (claims t) (walk-at t) walk.Post Inv μ (returns t) (sub-if2 t) (returns-2 t) (mul-code t) (shared-slice-read-code t) (add-children t) (mul-children t) (shared-slice-read-children t) (node-ok-requires t) (returns-3 t) (add-end t) (loop-holds t) (below-requires t) (walk-requires t) (enum-known-e t) (enum-told t) (returns-4 t) (deeper-requires t) (kept-requires t) (add-cut t) (sub-left t) (loop-less t) (loop-again t) (returns-5 t)
