@@ -58,7 +58,7 @@ module _ (s : List ℕ) (line : ℕ) (lack : LacksLine s line) where
 
 -- ---- a line that stands at a word
 
--- The part's words are the cut at k-1 for either kind, and its kind is what the walk there says.
+-- The part's words are the cut at k-1 for either kind.
 part-words : (k : ℕ) (t : Tree) → partOf k t .tree ≡ cut t (k - 1)
 unfolding partOf isLow middle if_then_else_
 part-words k t = go (leb (depth t) (k - 2)) refl

@@ -38,14 +38,14 @@ abbrev pub CutIs : List ℕ → Walked → Type 0
 CutIs w Broken = w ≡ []
 CutIs w (Whole e h c) = (length w ≡ c) × (2 ≤ c)
 
--- So it is of what was read.
+-- `CutIs` holds of what was read, by cases.
 cut-is : (at d : ℕ) (p : Reading) → CutIs (cutWords d p) (walked at d p)
 unfolding walked cutWords
 cut-is at d broken = refl
 cut-is at d (read bare r) = refl
 cut-is at d (read (cons t f) r) = (refl, two-words (cut t d))
 
--- So it is of the result w of a walk, once it is known to be v.
+-- `CutIs` holds of what a call of the walk answered: its result w is known to be v.
 pub cut-length : (s : List ℕ) (at d : ℕ) (w v : Walked) → w ≡ walkOf s at d → w ≡ v → CutIs (cutOf s at d) v
 unfolding walkOf cutOf
 cut-length s at d w v e f = subst (CutIs (cutOf s at d)) (sym e ∙ f) (cut-is at d (readTrees (drop at s) 1))
@@ -231,7 +231,7 @@ abbrev ChildWalked : List ℕ → ℕ → ℕ → ℕ → ℕ → List ℕ → L
 ChildWalked s d end len left out z y w Broken = ⊥
 ChildWalked s d end len left out z y w (Whole e h c) = Child s d end len left out z y (record { end = e; count = c }) w
 
--- So it is of what was read.
+-- `ChildWalked` holds of what was read, by cases.
 walks-of : (s : List ℕ) (d end len left : ℕ) (out z : List ℕ) (y : Laid) (p : Reading) → readTrees (drop end s) left ≡ thenF (left - 1) p → Sound 1 (drop end s) p → Left d end len out z y (readTrees (drop end s) left) → ChildWalked s d end len left out z y (cutWords (d - 1) p) (walked end (d - 1) p)
 unfolding walked cutWords count wordsF
 walks-of s d end len left out z y broken e g h = rw e at h
@@ -251,7 +251,7 @@ walks-of s d end len left out z y (read (cons t bare) r) e g h =
 walks-of s d end len left out z y (read (cons t (cons u f)) r) e g h = absurd (omega (arith, g .1))
 
 module _ (s : List ℕ) (d end len left : ℕ) (out z : List ℕ) (y : Laid) (more : 0 < left) (inv : Left d end len out z y (readTrees (drop end s) left)) where
-  -- So it is of the walk of the first tree that is left.
+  -- `ChildWalked` holds of the walk of the first tree that is left.
   walks : ChildWalked s d end len left out z y (cutOf s end (d - 1)) (walkOf s end (d - 1))
   unfolding walkOf cutOf
   walks =
@@ -276,7 +276,7 @@ module _ (s : List ℕ) (d end len left : ℕ) (out z : List ℕ) (y : Laid) (mo
       go Broken w = absurd w
       go (Whole e h c) w = w
 
--- Nothing is left to be written.
+-- Where nothing is left to be written, the output and the answer are right.
 pub put-done : (s : List ℕ) (d end len left : ℕ) (out z : List ℕ) (y : Laid) → left ≤ 0 → Left d end len out z y (readTrees (drop end s) left) → (out ≡ z) × (record { end = end; count = len } ≡ y)
 unfolding wordsF cutF
 put-done s d end len left out z y h k =

@@ -24,14 +24,14 @@ use Rattle.order.proofs.Paper.{subtree-from, subtree-to, subtree-depth,
 pub record OnLine (t s : Tree) (line : ℕ) : Type 0 where
   pub is : lineOf line (subtrees t) ≡ found s
 
--- The tree of a line is one of the list, and each tree of a list has a line.
+-- The tree at a place is a member of the list.
 at-in : (ts : List Tree) (i : ℕ) {s : Tree} → treeAt ts i ≡ found s → s ∈ ts
 unfolding treeAt
 at-in [] i e = not-found e
 at-in (t ∷ ts) zero {s} e = let z : s ≡ t = cc in here z
 at-in (t ∷ ts) (suc i) e = there (at-in ts i e)
 
--- Each tree of a list has a place.
+-- Each member of a list has a place.
 in-at : {ts : List Tree} {s : Tree} → s ∈ ts → (i : ℕ) × (treeAt ts i ≡ found s)
 unfolding treeAt
 in-at (here e) = (0, ap found (sym e))
@@ -50,7 +50,7 @@ in-line m = let r = in-at m in (suc (r .0), record { is = r .1 })
 
 -- ---- what a line stands for
 
--- By the depth of the uncut subtree.
+-- A subtree of depth at most k-2 stands for itself.
 low-part : (k : ℕ) (s : Tree) → depth s ≤ k - 2 → partOf k s ≡ record { kind = Low; tree = s }
 unfolding partOf isLow if_then_else_
 low-part k s h = rw (le-leb (depth s) (k - 2) h)
@@ -60,7 +60,7 @@ middle-part : (k : ℕ) (s : Tree) → 2 ≤ k → k - 1 ≤ depth s → partOf 
 unfolding partOf isLow middle if_then_else_
 middle-part k s l h = rw (lt-leb (depth s) (k - 2) (omega arith))
 
--- A low line is at most k-2 deep, and a middle line is deeper.
+-- A low line is at most k-2 deep.
 is-low : (k : ℕ) (s : Tree) → partOf k s .kind ≡ Low → depth s ≤ k - 2
 unfolding partOf isLow if_then_else_
 is-low k s e = go (leb (depth s) (k - 2)) refl
@@ -79,7 +79,7 @@ is-middle k s e = go (leb (depth s) (k - 2)) refl
     go false h = omega (arith, leb-false (depth s) (k - 2) h)
 
 module _ (k : ℕ) (t : Tree) (two : 2 ≤ k) where
-  -- A line's part is in l or in p.
+  -- A low line's part is in l.
   pub low-line : (s : Tree) (line : ℕ) → OnLine t s line → partOf k s .kind ≡ Low → IsL (k - 1) t (partOf k s .tree)
   low-line s line l e =
       let h : depth s ≤ k - 2 = is-low k s e in
@@ -92,7 +92,7 @@ module _ (k : ℕ) (t : Tree) (two : 2 ≤ k) where
       let m = subtree-from t (line-in t s line l) in
       rw (middle-part k s two h) (record { some-middle = omega (arith, subtree-depth m); uncut = s; subtree = m; deep = h; is = cut-is-r s k (omega arith) })
 
-  -- What is in l or in p is the part of a line.
+  -- What is in l is the part of a line.
   pub l-has-line : (u : Tree) → IsL (k - 1) t u → (line : ℕ) × OnLine t u line × (partOf k u ≡ record { kind = Low; tree = u })
   l-has-line u a = let r = in-line (subtree-to (a .subtree)) in (r .0, r .1, low-part k u (omega arith))
 

@@ -17,27 +17,27 @@ use Rattle.order.specs.Answers.{treeAt, lineOf}
 use Rattle.order.specs.declared.Walked.the-variants.{Whole}
 use Rattle.order.specs.declared.Place.{Place}
 use Rattle.order.specs.declared.Place.the-variants.{Refused, Lacking, At}
-use Rattle.order.proofs.Reading.{complete, reads-none}
+use Rattle.order.proofs.Reading.{not-found, complete, reads-none}
 use Rattle.order.proofs.Orders.{size}
 use Rattle.order.proofs.Causes.{Passed, Seen, stopped, passed, seen, refused-by}
 
 -- ---- a place in a list of trees
 
--- A place in the first of two lists.
+-- A place of the first of two lists is one of both.
 at-left : (us vs : List Tree) (i : ℕ) → i < length us → treeAt (us ++ vs) i ≡ treeAt us i
 unfolding treeAt
 at-left [] vs i h = absurd (omega arith)
 at-left (u ∷ us) vs zero h = refl
 at-left (u ∷ us) vs (suc i) h = at-left us vs i (omega arith)
 
--- A place in the second of two lists.
+-- A place of the second of two lists is one of both, past the first.
 at-right : (us vs : List Tree) (i : ℕ) → length us ≤ i → treeAt (us ++ vs) i ≡ treeAt vs (i - length us)
 unfolding treeAt
 at-right [] vs i h = ap (treeAt vs) (omega arith)
 at-right (u ∷ us) vs zero h = absurd (omega arith)
 at-right (u ∷ us) vs (suc i) h = at-right us vs i (omega arith) ∙ ap (treeAt vs) (omega arith)
 
--- A place past the last.
+-- Past the last place there is no tree.
 at-past : (us : List Tree) (i : ℕ) → length us ≤ i → treeAt us i ≡ missing
 unfolding treeAt
 at-past [] i h = refl
@@ -54,11 +54,11 @@ pub record Spot (s : List ℕ) (at : ℕ) (x : Found) : Type 0 where
   pub here : drop at s ≡ words tree ++ after
   pub is : x ≡ found tree
 
--- Below a number, or not.
+-- A choice by whether i is below n.
 pick : {A : Type 0} (i n : ℕ) → (i < n → A) → (n ≤ i → A) → A
 pick i n f g = elim (decLt i n) [ yes h ↦ f h | no h ↦ g (omega arith) ]
 
--- A spot below a node.
+-- A spot among the children is one of the node, two words on.
 spot-down : (c k i : ℕ) (s : List ℕ) (u : Tree) (us : List Tree) → Spot s (i * 2) (treeAt us i) → Spot (c ∷ k ∷ s) (suc i * 2) (treeAt (u ∷ us) (suc i))
 unfolding treeAt
 spot-down c k i s u us p = record {
@@ -69,7 +69,7 @@ spot-down c k i s u us p = record {
   is = p .is;
 }
 
--- A spot in the first of two runs of words.
+-- A spot in the first of two runs of words is one of both.
 spot-left : (i : ℕ) (xs ys s : List ℕ) (us vs : List Tree) → i < length us → Spot (xs ++ (ys ++ s)) (i * 2) (treeAt us i) → Spot ((xs ++ ys) ++ s) (i * 2) (treeAt (us ++ vs) i)
 spot-left i xs ys s us vs l p = record {
   tree = p .tree;
@@ -79,7 +79,7 @@ spot-left i xs ys s us vs l p = record {
   is = at-left us vs i l ∙ p .is;
 }
 
--- A spot in the second of two runs of words.
+-- A spot in the second of two runs of words is one of both, past the first.
 spot-right : (i : ℕ) (xs ys s : List ℕ) (us vs : List Tree) → length us ≤ i → length xs ≡ length us * 2 → Spot (ys ++ s) ((i - length us) * 2) (treeAt vs (i - length us)) → Spot ((xs ++ ys) ++ s) (i * 2) (treeAt (us ++ vs) i)
 spot-right i xs ys s us vs l e p = record {
   tree = p .tree;
@@ -103,6 +103,16 @@ mutual
       (λ l. spot-left i (words t) (wordsF f) s (subtrees t) (subtreesF f) l (spot t (g .0) (wordsF f ++ s) i l))
       (λ l. spot-right i (words t) (wordsF f) s (subtrees t) (subtreesF f) l (size t)
       (spotF f (g .1) s (i - length (subtrees t)) (omega (arith, length-append (subtrees t) (subtreesF f)))))
+
+-- "A subtree is a contiguous part of the order's words": the subtree of line i + 1 is the words from word 2 i on.
+pub subtree-part : (s : List ℕ) (t u : Tree) (i : ℕ) → Passed s t → lineOf (suc i) (subtrees t) ≡ found u → (after : List ℕ) × (drop (i * 2) s ≡ words u ++ after)
+unfolding lineOf
+subtree-part s t u i p l = pick i (length (subtrees t))
+    (λ h.
+    let q = spot t (p .good) [] i h in
+    let e : u ≡ q .tree = cc (q .is) in
+    (q .after, rw (e, p .spelt, sym (append-nil (words t))) (q .here)))
+    (λ h. not-found (sym (at-past (subtrees t) i h) ∙ l))
 
 -- What the walk finds at a spot, the words of the cut there, and the words of the tree.
 module _ (s : List ℕ) (at : ℕ) (x : Found) (p : Spot s at x) where
@@ -142,7 +152,7 @@ Placed s line (Refused n) = orderOf s ≡ refused n
 Placed s line Lacking = LacksLine s line
 Placed s line (At at) = HasLine s line at
 
--- So it is for an order that passes.
+-- `Placed` holds of the lines of an order that passes.
 placed-line : (s : List ℕ) (line : ℕ) (t : Tree) → Passed s t → Placed s line (linePlace (length (subtrees t)) line)
 unfolding linePlace lineOf if_then_else_
 placed-line s zero t p = record { tree = t; is = p .is; lacks = refl }
@@ -155,7 +165,7 @@ placed-line s (suc i) t p = pick i (length (subtrees t))
     }))
     (λ l. rw (le-ltb i (length (subtrees t)) l) (record { tree = t; is = p .is; lacks = at-past (subtrees t) i l }))
 
--- So it is for any words.
+-- `Placed` holds of any words and any line.
 placed-of : (s : List ℕ) (line : ℕ) → Placed s line (placeOf s line)
 unfolding placeOf byOrder
 placed-of s line = go (seen s)
@@ -164,14 +174,14 @@ placed-of s line = go (seen s)
     go (stopped k e) = rw e e
     go (passed t k p) = rw (p .is) (placed-line s line t p)
 
--- So it is of the result w of a call, once it is known to be v.
+-- `Placed` holds of what a call of `find_line` answered: its result w is known to be v.
 pub placed : (s : List ℕ) (line : ℕ) (w v : Place) → w ≡ placeOf s line → w ≡ v → Placed s line v
 placed s line w v e f = subst (Placed s line) (sym e ∙ f) (placed-of s line)
 
 -- ---- the place by the order's length
 
 module _ (s : List ℕ) (line : ℕ) where
-  -- A cause refuses.
+  -- A number that is not 0 refuses the line too.
   pub place-refused : (causeOf s ≡ done → ⊥) → placeOf s line ≡ Refused (causeOf s)
   unfolding placeOf byOrder
   place-refused h = rw (refused-by s h)
@@ -194,13 +204,13 @@ module _ (s : List ℕ) (line : ℕ) where
   unfolding linePlace
   place-none e z = by-length e ∙ rw z refl
 
--- A line past the last.
+-- A line past the last is lacking.
 line-past : (n line : ℕ) → n < line → linePlace n line ≡ Lacking
 unfolding linePlace if_then_else_
 line-past n zero h = refl
 line-past n (suc i) h = rw (le-ltb i n (omega arith))
 
--- A line that is there.
+-- A line that is there stands at its word.
 line-at : (n line : ℕ) → (line ≡ 0 → ⊥) → line ≤ n → linePlace n line ≡ At ((line - 1) * 2)
 unfolding linePlace if_then_else_
 line-at n zero z h = absurd (z refl)

@@ -36,14 +36,14 @@ module _ {A : Type 0} where
       go true n = there n
       go false n = n
 
--- The list with each tree once has the same members.
+-- Every member of the list with each tree once is one of the list.
 pub once-from : {s : Tree} (ts : List Tree) → s ∈ eachOnce ts → s ∈ ts
 unfolding eachOnce
 once-from [] m = m
 once-from (t ∷ ts) (here e) = here e
 once-from (t ∷ ts) (there m) = there (once-from ts (kept-in _ _ m .0))
 
--- And nothing is lost.
+-- And every member of the list is one of it.
 pub once-to : {s : Tree} {ts : List Tree} → s ∈ ts → s ∈ eachOnce ts
 unfolding eachOnce
 once-to (here e) = here e
@@ -53,7 +53,7 @@ once-to {s} (there {x} {xs} m) = go (sameTree x s) refl (once-to m)
     go true e n = here (sym (tree-same x s e))
     go false e n = there (in-kept _ n (ap not e))
 
--- No tree stands twice in the list, and so it is where each stands once.
+-- No tree stands twice in the list.
 unfoldable pub NoRepeats : List Tree → Type 0
 NoRepeats [] = Unit {0}
 NoRepeats (t ∷ ts) = (t ∈ ts → ⊥) × NoRepeats ts

@@ -4,7 +4,7 @@ use mathlib.Core.Path.{_≡_, refl, ap, ap₂, sym, _∙_}
 use mathlib.Core.Bool.{not}
 use mathlib.Core.Option.{Option, none, some}
 use mathlib.Core.Logic.{inl, inr}
-use mathlib.Core.List.{List, [], _∷_, List·Memᴰ·head as here, List·Memᴰ·tail as there, List·Memᴰ·not-nil, List·Memᴰ·append-cases}
+use mathlib.Core.List.{List, [], _∷_, _++_, List·Memᴰ·head as here, List·Memᴰ·tail as there, List·Memᴰ·not-nil, List·Memᴰ·append-cases}
 use mathlib.Core.List.{Memᴰ·append-left, Memᴰ·append-right, Memᴰ·cast, Memᴰ·map, Memᴰ·of-map}
 use native.Mathlib.Decide.{decLt}
 use native.Mathlib.Omega.{arith}
@@ -33,7 +33,7 @@ labelIn i x f = byFound (rootedIn i x f) none (λ s. some (code s))
 no-label : {A : Type 0} {c : ℕ} → none ≡ some c → A
 no-label e = absurd (let z : _≡_ {A = ℕ} 0 1 = cc in omega arith)
 
--- Children are counted from 1, and one more child in front moves the others by one.
+-- Children are counted from 1: there is no child 0.
 no-child : (f : Forest) → childOf zero f ≡ missing
 unfolding childOf
 no-child bare = refl
@@ -100,7 +100,7 @@ mutual
   deepestF bare c = ([], record { subtree = node c bare; is = refl }, refl)
   deepestF (cons t f) c = deeper c t f (deepest t) (deepestF f c)
 
--- The depth is the greatest length of a position, and no other number is.
+-- The depth is the greatest length of a position.
 pub depth-is : (t : Tree) → IsDepth t (depth t)
 depth-is t = let d = deepest t in record { position = d .0; there = d .1; reached = d .2; most = within-depth t }
 
@@ -144,7 +144,7 @@ subtree-to {t} a = rooted-in t (a .position) (a .is)
 
 -- ---- a tree is its mapping
 
--- Trees, and rows of trees, with the same label at each position are one.
+-- Rows with the same labels have the same labels past their first trees.
 next-labels : (t u : Tree) (f g : Forest) → ((i : ℕ) (x : Position) → labelIn i x (cons t f) ≡ labelIn i x (cons u g))
     → (i : ℕ) (x : Position) → labelIn i x f ≡ labelIn i x g
 unfolding childOf byFound
@@ -165,6 +165,21 @@ mutual
   same-labels bare (cons u g) h = no-label (h 1 [])
   same-labels (cons t f) bare h = no-label (sym (h 1 []))
   same-labels (cons t f) (cons u g) h = ap₂ cons (same-mapping t u (h 1)) (same-labels f g (next-labels t u f g h))
+
+-- t/x is the document's: its domain is the positions y with x.y in dom(t), and its label at y is that of t at x.y. (A label is none
+-- outside the domain, so that this says both.)
+mutual
+  unfolding labelAt rootedAt childOf byFound
+
+  pub rooted-label : (t : Tree) (x y : Position) {s : Tree} → rootedAt x t ≡ found s → labelAt y s ≡ labelAt (x ++ y) t
+  rooted-label (node c f) [] y {s} e = let is : node c f ≡ s = cc in rw (← is) refl
+  rooted-label (node c f) (i ∷ x) y e = rooted-labelF f i x y e
+
+  rooted-labelF : (f : Forest) (i : ℕ) (x y : Position) {s : Tree} → rootedIn i x f ≡ found s → labelAt y s ≡ labelIn i (x ++ y) f
+  rooted-labelF bare i x y e = not-found e
+  rooted-labelF (cons t f) zero x y e = not-found e
+  rooted-labelF (cons t f) (suc zero) x y e = rooted-label t x y e
+  rooted-labelF (cons t f) (suc (suc i)) x y e = rooted-labelF f (suc i) x y e
 
 -- ---- r, the cut
 
@@ -193,7 +208,7 @@ same-domain t u x e a = go (rootedAt x u) refl
     go missing p = no-label (sym (rw (p, a .is) at e))
     go (found s) p = record { subtree = s; is = p }
 
--- The cut at n-1 is r of index n, and nothing else is.
+-- The cut at n-1 is r of index n.
 pub cut-is-r : (t : Tree) (n : ℕ) → 1 ≤ n → IsR n t (cut t (n - 1))
 cut-is-r t n l =
     let d : ℕ = n - 1 in
@@ -226,12 +241,12 @@ r-only {t} {u} {v} n l a b =
         let i : InDomain u x = record { subtree = s; is = p } in
         a .labels h x i ∙ sym (b .labels h x (r-domain n h a b x i))
 
--- The top is r of index k-1; at k = 2 that is the node alone, which document 001 calls the 0-root.
+-- The top is r of index k-1.
 pub top-is-r : (k : ℕ) (t : Tree) → 2 ≤ k → IsR (k - 1) t (top k t)
 unfolding top
 top-is-r k t l = let e : k - 1 - 1 ≡ k - 2 = omega arith in rw e at (cut-is-r t (k - 1) (omega arith))
 
--- At k = 2 the top is the node alone.
+-- At k = 2 the top is r of index 1, the node alone, which document 001 calls the 0-root.
 pub first-top : (c : ℕ) (f : Forest) → top 2 (node c f) ≡ node c bare
 unfolding top cut
 first-top c f = refl
@@ -275,7 +290,7 @@ module _ (k : ℕ) {t s : Tree} (two : 2 ≤ k) where
       let is : s ≡ middle k (a .uncut) = r-only k (omega arith) (a .is) (cut-is-r (a .uncut) k (omega arith)) in
       once-to (Memᴰ·cast is (Memᴰ·map (middle k) kept))
 
--- A tree that is too shallow has no middle part.
+-- A list without members is empty.
 no-members : {A : Type 0} (l : List A) → ((a : A) → a ∈ l → ⊥) → l ≡ []
 no-members [] h = refl
 no-members (a ∷ l) h = absurd (h a (here refl))

@@ -32,12 +32,12 @@ mutual
 pub words-unique : (t u : Tree) → words t ≡ words u → t ≡ u
 words-unique t u e = words-prefix t u [] [] (ap (λ (l : List ℕ). l ++ []) e) .0
 
--- The test of two trees passes exactly if they are one.
+-- The test passes for a tree and itself.
 pub same-tree : (t : Tree) → sameTree t t ≡ true
 unfolding sameTree
 same-tree t = same-words (words t)
 
--- And only for the same trees.
+-- It passes only for the same tree.
 pub tree-same : (t u : Tree) → sameTree t u ≡ true → t ≡ u
 unfolding sameTree
 tree-same t u e = words-unique t u (words-same (words t) (words u) e)

@@ -136,7 +136,7 @@ step-add d pos deep len t (read f r) = whole (omega (arith, length-append (words
 pub past : (s r : List ℕ) (pos : ℕ) (t : Tree) → drop pos s ≡ words t ++ r → r ≡ drop (pos + length (words t)) s
 past s r pos t e = sym (drop-append-seam (words t) r) ∙ ap (drop (length (words t))) (sym e) ∙ drop-drop (length (words t)) pos s
 
--- So it is of what was read.
+-- `Step` holds of what was read, by cases.
 step-of : (s : List ℕ) (d pos deep len left : ℕ) (p : Reading) → 0 < left → readTrees (drop pos s) left ≡ thenF (left - 1) p → Sound 1 (drop pos s) p → Step s d pos deep len left (walked pos (d - 1) p)
 unfolding walked count wordsF
 step-of s d pos deep len left broken h e g = rw e refl
@@ -153,16 +153,16 @@ step-of s d pos deep len left (read (cons t bare) r) h e g =
     )
 step-of s d pos deep len left (read (cons t (cons u f)) r) h e g = absurd (omega (arith, g .1))
 
--- So it is of the walk of the first tree left.
+-- `Step` holds of the walk of the first tree left.
 pub step : (s : List ℕ) (d pos deep len left : ℕ) → 0 < left → Step s d pos deep len left (walkOf s pos (d - 1))
 unfolding walkOf
 step s d pos deep len left h = step-of s d pos deep len left (readTrees (drop pos s) 1) h (let z : left ≡ suc (left - 1) = omega arith in ap (λ (n : ℕ). readTrees (drop pos s) n) z ∙ first (drop pos s) (left - 1)) (sound (drop pos s) 1)
 
--- The same of the call's result w, once it is known to be w′.
+-- `Step` holds of what a call of the walk answered: its result w is known to be w′.
 pub step-by : (s : List ℕ) (d pos deep len left b : ℕ) (w w′ : Walked) → 0 < left → b ≡ d - 1 → w ≡ walkOf s pos b → w ≡ w′ → Step s d pos deep len left w′
 step-by s d pos deep len left b w w′ h e f g = subst (Step s d pos deep len left) (ap (walkOf s pos) (sym e) ∙ sym f ∙ g) (step s d pos deep len left h)
 
--- No tree is left to be read.
+-- Where no tree is left to be read, the walk answers what it has come to.
 pub none-left : (s : List ℕ) (d pos deep len left : ℕ) → left ≤ 0 → rest d pos deep len (readTrees (drop pos s) left) ≡ Whole pos deep len
 unfolding wordsF depthF cutF
 none-left s d pos deep len left h =
@@ -179,7 +179,7 @@ pub record TreeHere (s : List ℕ) (at e : ℕ) : Type 0 where
   pub within : at < e → e ≤ length s
   pub part : at < e → take (e - at) (drop at s) ≡ wordsAtOf s at
 
--- So it is of what was read.
+-- `TreeHere` holds of what was read, by cases.
 tree-here-of : (s : List ℕ) (at : ℕ) (p : Reading) → readTrees (drop at s) 1 ≡ p → Sound 1 (drop at s) p → TreeHere s at (endOf (walked at 0 p))
 unfolding walked wordsAtOf treeWords wordsF
 tree-here-of s at broken e g = record { no-tree = λ h. rw e refl; within = λ h. absurd (omega arith); part = λ h. absurd (omega arith) }
@@ -195,7 +195,7 @@ tree-here-of s at (read (cons t f) r) e g =
       part = λ h. rw (e, z, a) (take-append-seam (words t) (wordsF f ++ r));
     }
 
--- So it is of the word that a walk came to.
+-- `TreeHere` holds of the word that a walk came to.
 pub tree-here : (s : List ℕ) (at e : ℕ) → e ≡ endOf (walkOf s at 0) → TreeHere s at e
 unfolding walkOf
 tree-here s at e f = subst (TreeHere s at) (sym f) (tree-here-of s at (readTrees (drop at s) 1) refl (sound (drop at s) 1))

@@ -20,15 +20,15 @@ isLow k s = leb (depth s) (k - 2)
 unfoldable pub lows : ℕ → Tree → List Tree
 lows k t = keep (isLow k) (subtrees t)
 
--- "middle parts: cut(s, k-1) for every subtree s of depth at least k-1", as often as they occur
+-- What a middle part is of its subtree: "cut(s, k-1)"
 unfoldable pub middle : ℕ → Tree → Tree
 middle k s = cut s (k - 1)
 
--- A subtree of depth at least k-1 has a middle part.
+-- "every subtree s of depth at least k-1" has a middle part.
 unfoldable pub isMiddle : ℕ → Tree → Bool
 isMiddle k s = leb (k - 1) (depth s)
 
--- The middle parts, as often as they occur.
+-- "middle parts: cut(s, k-1) for every subtree s of depth at least k-1", as often as they occur
 unfoldable pub middles : ℕ → Tree → List Tree
 middles k t = map (middle k) (keep (isMiddle k) (subtrees t))
 

@@ -18,7 +18,7 @@ unfoldable pub count : Forest → ℕ
 count bare = 0
 count (cons t f) = suc (count f)
 
--- "A node is two words: an option code, then its number of children. An order is its nodes in preorder, top first."
+-- "A node is two words": its code, "then its number of children". "An order is its nodes in preorder, top first".
 unfoldable mutual
   pub words : Tree → List ℕ
   words (node c f) = c ∷ count f ∷ wordsF f

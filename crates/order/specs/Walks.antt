@@ -57,12 +57,12 @@ abbrev pub Room : Walked → ℕ → Type 0
 Room Broken n = ⊥
 Room (Whole e h c) n = c ≤ n
 
--- The word past the tree that a walk found, and the number of words of its cut.
+-- The word past the tree that a walk found; 0 where it found none.
 abbrev pub endOf : Walked → ℕ
 endOf Broken = 0
 endOf (Whole e h c) = e
 
--- The number of words of its cut.
+-- The number of words of the cut that a walk found.
 abbrev pub cutLength : Walked → ℕ
 cutLength Broken = 0
 cutLength (Whole e h c) = c

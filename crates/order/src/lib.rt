@@ -1,7 +1,7 @@
 // Orders: trees as 16-bit words in a lent slice. Whether words are an order, the subtree of a line, its cut, and the part that it
 // stands for at k. Assumes nothing.
 ghost use mathlib.Core.Path.{_≡_};
-ghost use Prim.Native.Nat.{ℕ, suc, _+_, _-_, _^_, _<_, max};
+ghost use Prim.Native.Nat.{suc, _+_, _-_, _^_, _<_, max};
 ghost use lib.ListN.{length};
 ghost use Rattle.words.specs.Base.{over};
 ghost use Rattle.order.specs.Reading.{soundNode, causeOf};
@@ -103,7 +103,7 @@ fn kept(d: usize, n: usize) -> usize
 }
 
 // The tree at word `at`, and how long its cut at d is. It calls itself for each child, with fewer words left each time. Every public
-// function tests the order's length first, so that it is at most 64 calls deep.
+// function tests the order's length first, so that the calls go no deeper than an order has nodes, and one more for a child that lacks.
 fn walk(order: &[u16], at: usize, d: usize) -> Walked
     ensures { λ r. ⌜ r ≡ walkOf (now (order .entry)) at d ⌝ }
 {

@@ -43,9 +43,9 @@ fn kind(kind: Kind) {
 // Says the part that a line stands for.
 fn part(name: &[u8], tree: &[u16], line: usize, k: Depth) {
     let mut out = [0u16; 128];
-    let part = order::part_into(tree, line, k, &mut out);
-    let sort = part.kind;
-    let written = part.written;
+    let found = order::part_into(tree, line, k, &mut out);
+    let sort = found.kind;
+    let written = found.written;
     let count = written.count;
     head(name, k);
     say::text(b", line ");

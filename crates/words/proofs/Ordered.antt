@@ -17,7 +17,7 @@ data Word (a b : ℕ) : Type 0 where
   same : a ≡ b → ltb a b ≡ false → ltb b a ≡ false → Word a b
   more : b < a → ltb a b ≡ false → ltb b a ≡ true → Word a b
 
--- So any two words stand.
+-- Any two words stand in one of the three ways.
 word : (a b : ℕ) → Word a b
 word a b =
     elim (decLt a b) [
@@ -96,7 +96,7 @@ pub data Stand (x y : List ℕ) : Type 0 where
   equal : x ≡ y → compareOf x y ≡ Equal → Stand x y
   above : y ≺ x → compareOf x y ≡ Higher → Stand x y
 
--- So any two lists stand.
+-- Any two lists stand in one of the three ways.
 pub stand : (x y : List ℕ) → Stand x y
 stand x y = go (compareOf x y) refl
   where

@@ -17,7 +17,7 @@ unfolding _and_
 and-left true b e = refl
 and-left false b e = e
 
--- And the second.
+-- Of two tests that both pass, the second does.
 pub and-right : (a b : Bool) → (a and b) ≡ true → b ≡ true
 unfolding _and_
 and-right true b e = e
@@ -28,13 +28,13 @@ pub and-both : {a b : Bool} → a ≡ true → b ≡ true → (a and b) ≡ true
 unfolding _and_
 and-both p q = rw (p, q)
 
--- The test of two lists passes exactly if they are one.
+-- The test passes for a list and itself.
 pub same-words : (x : List ℕ) → sameWords x x ≡ true
 unfolding sameWords
 same-words [] = refl
 same-words (a ∷ x) = and-both (eq-eqb a a refl) (same-words x)
 
--- And only for the same words.
+-- It passes only for the same words.
 pub words-same : (x y : List ℕ) → sameWords x y ≡ true → x ≡ y
 unfolding sameWords
 words-same [] [] e = refl
