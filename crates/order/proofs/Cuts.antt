@@ -13,8 +13,8 @@ use lib.Seq.{take-all as whole-take, drop-set-lt, drop-drop, take-at, drop-at, l
 use Rattle.words.specs.Base.{if_then_else_, over}
 use Rattle.figures.specs.Numbers.{done, short-output}
 use Rattle.order.specs.Trees.{Tree, Forest, bare, cons, count, words, wordsF, cut, cutF}
-use Rattle.order.specs.Reading.{Reading, broken, read, soundNode, nodeOver, readTrees}
-use Rattle.order.specs.Walks.{walked, walkOf, cutWords, cutOf, Room, endOf, cutLength, laidOf}
+use Rattle.order.specs.Reading.{byFound, Reading, broken, read, soundNode, nodeOver, readTrees}
+use Rattle.order.specs.Walks.{firstTree, treeFrom, walked, walkOf, cutOf, Room, endOf, cutLength, laidOf}
 use Rattle.order.specs.Answers.{writing, write}
 use Rattle.figures.specs.Answers.{wrote}
 use Rattle.order.specs.declared.Walked.{Walked}
@@ -31,6 +31,10 @@ Left d end len out z y broken = ⊥
 Left d end len out z y (read f r) =
     (len + length (wordsF (cutF f (d - 1))) ≤ length out) × (z ≡ (take len out ++ wordsF (cutF f (d - 1))) ++ drop (len + length (wordsF (cutF f (d - 1)))) out) × (y ≡ record { end = end + length (wordsF f); count = len + length (wordsF (cutF f (d - 1))) })
 
+-- The words of the cut of the first tree that was read.
+abbrev cutWords : ℕ → Reading → List ℕ
+cutWords d p = byFound (firstTree p) [] (λ (t : Tree). words (cut t d))
+
 -- ---- how long a cut is
 
 -- The length of the cut is what the walk says.
@@ -39,15 +43,15 @@ CutIs w Broken = w ≡ []
 CutIs w (Whole e h c) = (length w ≡ c) × (2 ≤ c)
 
 -- `CutIs` holds of what was read, by cases.
-cut-is : (at d : ℕ) (p : Reading) → CutIs (cutWords d p) (walked at d p)
-unfolding walked cutWords
+cut-is : (at d : ℕ) (p : Reading) → CutIs (cutWords d p) (walked at d (firstTree p))
+unfolding walked firstTree byFound
 cut-is at d broken = refl
 cut-is at d (read bare r) = refl
 cut-is at d (read (cons t f) r) = (refl, two-words (cut t d))
 
 -- `CutIs` holds of what a call of the walk answered: its result w is known to be v.
 pub cut-length : (s : List ℕ) (at d : ℕ) (w v : Walked) → w ≡ walkOf s at d → w ≡ v → CutIs (cutOf s at d) v
-unfolding walkOf cutOf
+unfolding walkOf treeFrom cutOf
 cut-length s at d w v e f = subst (CutIs (cutOf s at d)) (sym e ∙ f) (cut-is at d (readTrees (drop at s) 1))
 
 -- ---- where a tree has room
@@ -99,7 +103,7 @@ module _ (s : List ℕ) (at d n : ℕ) (room : Room (walkOf s at d) n) where
 
   -- The cut is that of the node over its children.
   cut-node : cutOf s at d ≡ cutWords d (nodeOver true (getD s at 0) (getD s (at + 1) 0) (readTrees (drop (at + 2) s) (getD s (at + 1) 0)))
-  unfolding cutOf readTrees
+  unfolding cutOf treeFrom readTrees
   cut-node = rw (two s at room-at) (rw (room-ok, add-zero) refl)
 
 -- ---- the node
@@ -112,7 +116,7 @@ set-two (x ∷ y ∷ l) a b h = refl
 
 -- At depth 0 the children are left out.
 zero-of : (e c k n : ℕ) (p : Reading) → Room (rest 0 e 0 2 p) n → cutWords 0 (nodeOver true c k p) ≡ c ∷ 0 ∷ []
-unfolding cutWords nodeOver words cut count
+unfolding firstTree byFound nodeOver words cut count
 zero-of e c k n broken h = absurd h
 zero-of e c k n (read f r) h = refl
 
@@ -148,7 +152,7 @@ count-cut (cons t f) d = ap suc (count-cut f d)
 
 -- Below depth 0 the node keeps its children, cut by one less.
 node-cut : (d c k : ℕ) (f : Forest) (r : List ℕ) → count f ≡ k → cutWords (suc d) (nodeOver true c k (read f r)) ≡ c ∷ k ∷ wordsF (cutF f d)
-unfolding cutWords nodeOver words cut
+unfolding firstTree byFound nodeOver words cut
 node-cut d c k f r e = rw (first-all k f e) (rw (count-cut f d, e) refl)
 
 -- After the node its children are left, by what was read of them.
@@ -232,8 +236,8 @@ ChildWalked s d end len left out z y w Broken = ⊥
 ChildWalked s d end len left out z y w (Whole e h c) = Child s d end len left out z y (record { end = e; count = c }) w
 
 -- `ChildWalked` holds of what was read, by cases.
-walks-of : (s : List ℕ) (d end len left : ℕ) (out z : List ℕ) (y : Laid) (p : Reading) → readTrees (drop end s) left ≡ thenF (left - 1) p → Sound 1 (drop end s) p → Left d end len out z y (readTrees (drop end s) left) → ChildWalked s d end len left out z y (cutWords (d - 1) p) (walked end (d - 1) p)
-unfolding walked cutWords count wordsF
+walks-of : (s : List ℕ) (d end len left : ℕ) (out z : List ℕ) (y : Laid) (p : Reading) → readTrees (drop end s) left ≡ thenF (left - 1) p → Sound 1 (drop end s) p → Left d end len out z y (readTrees (drop end s) left) → ChildWalked s d end len left out z y (cutWords (d - 1) p) (walked end (d - 1) (firstTree p))
+unfolding walked firstTree byFound count wordsF
 walks-of s d end len left out z y broken e g h = rw e at h
 walks-of s d end len left out z y (read bare r) e g h = rw e at h
 walks-of s d end len left out z y (read (cons t bare) r) e g h =
@@ -253,7 +257,7 @@ walks-of s d end len left out z y (read (cons t (cons u f)) r) e g h = absurd (o
 module _ (s : List ℕ) (d end len left : ℕ) (out z : List ℕ) (y : Laid) (more : 0 < left) (inv : Left d end len out z y (readTrees (drop end s) left)) where
   -- `ChildWalked` holds of the walk of the first tree that is left.
   walks : ChildWalked s d end len left out z y (cutOf s end (d - 1)) (walkOf s end (d - 1))
-  unfolding walkOf cutOf
+  unfolding walkOf treeFrom cutOf
   walks =
       let q : left ≡ suc (left - 1) = omega arith in
       walks-of s d end len left out z y (readTrees (drop end s) 1) (ap (λ (n : ℕ). readTrees (drop end s) n) q ∙ first (drop end s) (left - 1)) (sound (drop end s) 1) inv

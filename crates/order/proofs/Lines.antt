@@ -11,8 +11,8 @@ use Rattle.words.specs.Base.{if_then_else_}
 use Rattle.figures.specs.Limits.{most-words}
 use Rattle.figures.specs.Numbers.{done}
 use Rattle.order.specs.Trees.{Tree, node, Forest, bare, cons, count, words, wordsF, depth, cut, Good, GoodF, subtrees, subtreesF}
-use Rattle.order.specs.Reading.{Found, missing, found, refused, order, byOrder, orderOf, causeOf}
-use Rattle.order.specs.Walks.{walked, walkOf, cutWords, cutOf, treeWords, wordsAtOf, linePlace, placeOf}
+use Rattle.order.specs.Reading.{byFound, Found, missing, found, refused, order, byOrder, orderOf, causeOf}
+use Rattle.order.specs.Walks.{firstTree, treeFrom, walked, walkOf, cutOf, wordsAtOf, linePlace, placeOf}
 use Rattle.order.specs.Answers.{treeAt, lineOf}
 use Rattle.order.specs.declared.Walked.the-variants.{Whole}
 use Rattle.order.specs.declared.Place.{Place}
@@ -114,22 +114,27 @@ subtree-part s t u i p l = pick i (length (subtrees t))
     (q .after, rw (e, p .spelt, sym (append-nil (words t))) (q .here)))
     (λ h. not-found (sym (at-past (subtrees t) i h) ∙ l))
 
--- What the walk finds at a spot, the words of the cut there, and the words of the tree.
+-- What stands at a spot: the tree, what the walk finds, the words of the cut, and the words of the tree.
 module _ (s : List ℕ) (at : ℕ) (x : Found) (p : Spot s at x) where
+  -- The words from there on begin with the tree.
+  from-spot : treeFrom s at ≡ found (p .tree)
+  unfolding treeFrom firstTree
+  from-spot = rw (p .here, complete (p .tree) (p .good) 0 (p .after), reads-none (p .after)) refl
+
   -- The walk finds the tree.
   pub walk-spot : (d : ℕ) → walkOf s at d ≡ Whole (at + length (words (p .tree))) (depth (p .tree)) (length (words (cut (p .tree) d)))
   unfolding walkOf walked
-  walk-spot d = rw (p .here, complete (p .tree) (p .good) 0 (p .after), reads-none (p .after)) refl
+  walk-spot d = rw from-spot refl
 
   -- The cut is that of the tree.
   pub cut-spot : (d : ℕ) → cutOf s at d ≡ words (cut (p .tree) d)
-  unfolding cutOf cutWords
-  cut-spot d = rw (p .here, complete (p .tree) (p .good) 0 (p .after), reads-none (p .after)) refl
+  unfolding cutOf byFound
+  cut-spot d = rw from-spot refl
 
   -- The words are those of the tree.
   pub tree-spot : wordsAtOf s at ≡ words (p .tree)
-  unfolding wordsAtOf treeWords
-  tree-spot = rw (p .here, complete (p .tree) (p .good) 0 (p .after), reads-none (p .after)) refl
+  unfolding wordsAtOf byFound
+  tree-spot = rw from-spot refl
 
 -- ---- where a line stands
 

@@ -11,7 +11,7 @@ use Rattle.figures.specs.Limits.{least-code, greatest-code, most-nodes, most-wo
 use Rattle.figures.specs.Numbers.{done, no-order, too-large}
 use Rattle.order.specs.Trees.{Tree, node, Forest, bare, cons, count, words, wordsF, depth, Good, GoodF, subtrees, subtreesF}
 use Rattle.order.specs.Reading.{Reading, broken, read, readTrees, Found, missing, found, only, treeOf, order, byOrder, withinDepth, orderOf, causeOf}
-use Rattle.order.specs.Walks.{walked, walkOf}
+use Rattle.order.specs.Walks.{firstTree, treeFrom, walked, walkOf}
 use Rattle.order.specs.declared.Walked.{Walked}
 use Rattle.order.specs.declared.Walked.the-variants.{Broken, Whole}
 use Rattle.order.proofs.Reading.{Sound, sound, complete, reads-none}
@@ -115,8 +115,8 @@ FromTop s x Broken = x ≡ missing
 FromTop s x (Whole e h c) = (e < length s → x ≡ missing) × (length s ≤ e → FoundDeep x h)
 
 -- `FromTop` holds of what was read, by cases.
-from-top-of : (s : List ℕ) (p : Reading) → Sound 1 s p → FromTop s (only p) (walked 0 0 p)
-unfolding walked only count wordsF
+from-top-of : (s : List ℕ) (p : Reading) → Sound 1 s p → FromTop s (only p) (walked 0 0 (firstTree p))
+unfolding walked firstTree only count wordsF
 from-top-of s broken g = refl
 from-top-of s (read bare r) g = refl
 from-top-of s (read (cons t bare) []) g =
@@ -130,7 +130,7 @@ from-top-of s (read (cons t (cons u f)) (x ∷ r)) g = absurd (omega (arith, g .
 
 -- `FromTop` holds of what a call of the walk answered: its result w is known to be v.
 pub from-top : (s : List ℕ) (w v : Walked) → w ≡ walkOf s 0 0 → w ≡ v → FromTop s (treeOf s) v
-unfolding walkOf treeOf
+unfolding walkOf treeFrom treeOf
 from-top s w v e f = subst (FromTop s (treeOf s)) (sym e ∙ f) (from-top-of s (readTrees s 1) (sound s 1))
 
 -- ---- the words of a tree

@@ -9,8 +9,8 @@ use native.Mathlib.Omega.{arith}
 use lib.ListN.{length, take, drop, getD, length-append, length-drop}
 use lib.Seq.{drop-cons, drop-drop, drop-append-seam, take-append-seam}
 use Rattle.order.specs.Trees.{Tree, node, Forest, bare, cons, count, words, wordsF, depth, depthF, cut, cutF}
-use Rattle.order.specs.Reading.{Reading, broken, read, firstTrees, soundNode, nodeOver, readTrees}
-use Rattle.order.specs.Walks.{walked, walkOf, keptOf, treeWords, wordsAtOf, endOf}
+use Rattle.order.specs.Reading.{byFound, Reading, broken, read, firstTrees, soundNode, nodeOver, readTrees}
+use Rattle.order.specs.Walks.{firstTree, treeFrom, walked, walkOf, keptOf, wordsAtOf, endOf}
 use Rattle.order.specs.declared.Walked.{Walked}
 use Rattle.order.specs.declared.Walked.the-variants.{Broken, Whole}
 use Rattle.order.proofs.Reading.{Sound, sound, first, reads-none, thenF, addT}
@@ -51,8 +51,8 @@ cut-size zero c f = refl
 cut-size (suc d) c f = omega arith
 
 -- A walk that has read the node has its children left, by what was read of them.
-start-of : (d at c k : ℕ) (s : List ℕ) (p : Reading) → Sound k s p → walked at d (nodeOver true c k p) ≡ rest d (at + 2) 0 2 p
-unfolding walked nodeOver words depth
+start-of : (d at c k : ℕ) (s : List ℕ) (p : Reading) → Sound k s p → walked at d (firstTree (nodeOver true c k p)) ≡ rest d (at + 2) 0 2 p
+unfolding walked firstTree nodeOver words depth
 start-of d at c k s broken h = refl
 start-of d at c k s (read f r) h = rw (first-all k f (h .1)) (whole (omega arith) (omega arith) (cut-size d c f))
 
@@ -66,17 +66,17 @@ none-read (c ∷ k ∷ l) h = absurd (omega arith)
 module _ (s : List ℕ) (at d : ℕ) where
   -- Where two words are not there, there is no tree.
   pub short : length s < at + 2 → walkOf s at d ≡ Broken
-  unfolding walkOf walked
-  short h = ap (walked at d) (none-read (drop at s) (rw length-drop (omega arith)))
+  unfolding walkOf treeFrom walked firstTree
+  short h = ap (λ (p : Reading). walked at d (firstTree p)) (none-read (drop at s) (rw length-drop (omega arith)))
 
   -- Where they are no node, there is no tree.
   pub no-node : at + 2 ≤ length s → soundNode (getD s at 0) (getD s (at + 1) 0) ≡ false → walkOf s at d ≡ Broken
-  unfolding walkOf walked readTrees nodeOver
+  unfolding walkOf treeFrom walked firstTree readTrees nodeOver
   no-node h e = rw (two s at h) (rw e refl)
 
   -- Where they are a node, its children are left to be read.
   pub start : at + 2 ≤ length s → soundNode (getD s at 0) (getD s (at + 1) 0) ≡ true → walkOf s at d ≡ rest d (at + 2) 0 2 (readTrees (drop (at + 2) s) (getD s (at + 1) 0))
-  unfolding walkOf readTrees
+  unfolding walkOf treeFrom readTrees
   start h e = rw (two s at h) (rw (e, add-zero) (start-of d at (getD s at 0) (getD s (at + 1) 0) (drop (at + 2) s) (readTrees (drop (at + 2) s) (getD s (at + 1) 0)) (sound (drop (at + 2) s) (getD s (at + 1) 0))))
 
 -- What a walk of the first tree left says of the whole.
@@ -137,8 +137,8 @@ pub past : (s r : List ℕ) (pos : ℕ) (t : Tree) → drop pos s ≡ words t ++
 past s r pos t e = sym (drop-append-seam (words t) r) ∙ ap (drop (length (words t))) (sym e) ∙ drop-drop (length (words t)) pos s
 
 -- `Step` holds of what was read, by cases.
-step-of : (s : List ℕ) (d pos deep len left : ℕ) (p : Reading) → 0 < left → readTrees (drop pos s) left ≡ thenF (left - 1) p → Sound 1 (drop pos s) p → Step s d pos deep len left (walked pos (d - 1) p)
-unfolding walked count wordsF
+step-of : (s : List ℕ) (d pos deep len left : ℕ) (p : Reading) → 0 < left → readTrees (drop pos s) left ≡ thenF (left - 1) p → Sound 1 (drop pos s) p → Step s d pos deep len left (walked pos (d - 1) (firstTree p))
+unfolding walked firstTree count wordsF
 step-of s d pos deep len left broken h e g = rw e refl
 step-of s d pos deep len left (read bare r) h e g = rw e refl
 step-of s d pos deep len left (read (cons t bare) r) h e g =
@@ -155,7 +155,7 @@ step-of s d pos deep len left (read (cons t (cons u f)) r) h e g = absurd (omega
 
 -- `Step` holds of the walk of the first tree left.
 pub step : (s : List ℕ) (d pos deep len left : ℕ) → 0 < left → Step s d pos deep len left (walkOf s pos (d - 1))
-unfolding walkOf
+unfolding walkOf treeFrom
 step s d pos deep len left h = step-of s d pos deep len left (readTrees (drop pos s) 1) h (let z : left ≡ suc (left - 1) = omega arith in ap (λ (n : ℕ). readTrees (drop pos s) n) z ∙ first (drop pos s) (left - 1)) (sound (drop pos s) 1)
 
 -- `Step` holds of what a call of the walk answered: its result w is known to be w′.
@@ -180,8 +180,8 @@ pub record TreeHere (s : List ℕ) (at e : ℕ) : Type 0 where
   pub part : at < e → take (e - at) (drop at s) ≡ wordsAtOf s at
 
 -- `TreeHere` holds of what was read, by cases.
-tree-here-of : (s : List ℕ) (at : ℕ) (p : Reading) → readTrees (drop at s) 1 ≡ p → Sound 1 (drop at s) p → TreeHere s at (endOf (walked at 0 p))
-unfolding walked wordsAtOf treeWords wordsF
+tree-here-of : (s : List ℕ) (at : ℕ) (p : Reading) → readTrees (drop at s) 1 ≡ p → Sound 1 (drop at s) p → TreeHere s at (endOf (walked at 0 (firstTree p)))
+unfolding walked firstTree wordsAtOf treeFrom byFound wordsF
 tree-here-of s at broken e g = record { no-tree = λ h. rw e refl; within = λ h. absurd (omega arith); part = λ h. absurd (omega arith) }
 tree-here-of s at (read bare r) e g = record { no-tree = λ h. rw e refl; within = λ h. absurd (omega arith); part = λ h. absurd (omega arith) }
 tree-here-of s at (read (cons t f) r) e g =
@@ -197,5 +197,5 @@ tree-here-of s at (read (cons t f) r) e g =
 
 -- `TreeHere` holds of the word that a walk came to.
 pub tree-here : (s : List ℕ) (at e : ℕ) → e ≡ endOf (walkOf s at 0) → TreeHere s at e
-unfolding walkOf
+unfolding walkOf treeFrom
 tree-here s at e f = subst (TreeHere s at) (sym f) (tree-here-of s at (readTrees (drop at s) 1) refl (sound (drop at s) 1))

@@ -6,7 +6,7 @@ use lib.ListN.{length, drop}
 use Rattle.words.specs.Base.{if_then_else_}
 use Rattle.figures.specs.Limits.{most-words}
 use Rattle.order.specs.Trees.{bare, cons, words, depth, cut, subtrees}
-use Rattle.order.specs.Reading.{Reading, broken, read, readTrees, byOrder, orderOf}
+use Rattle.order.specs.Reading.{Reading, broken, read, readTrees, Found, missing, found, byFound, byOrder, orderOf}
 use Rattle.order.specs.declared.Walked.{Walked}
 use Rattle.order.specs.declared.Walked.the-variants.{Broken, Whole}
 use Rattle.order.specs.declared.Place.{Place}
@@ -17,40 +17,37 @@ use Rattle.order.specs.declared.Laid.{Laid}
 use Rattle.order.specs.declared.Kind.{Kind}
 use Rattle.order.specs.declared.Kind.the-variants.{Absent, Low, Middle}
 
--- The tree that the words from `at` on begin with: the word past it, its depth, and the number of words of its cut at d.
-unfoldable pub walked : ℕ → ℕ → Reading → Walked
-walked at d broken = Broken
-walked at d (read bare ws) = Broken
-walked at d (read (cons t f) ws) = Whole (at + length (words t)) (depth t) (length (words (cut t d)))
+-- The first tree of what was read.
+unfoldable pub firstTree : Reading → Found
+firstTree broken = missing
+firstTree (read bare ws) = missing
+firstTree (read (cons t f) ws) = found t
+
+-- The tree that the words from `at` on begin with.
+unfoldable pub treeFrom : List ℕ → ℕ → Found
+treeFrom ws at = firstTree (readTrees (drop at ws) 1)
+
+-- What a walk says of a tree at a word: the word past it, its depth, and the number of words of its cut at d.
+unfoldable pub walked : ℕ → ℕ → Found → Walked
+walked at d missing = Broken
+walked at d (found t) = Whole (at + length (words t)) (depth t) (length (words (cut t d)))
 
 -- What a walk at a word finds.
 unfoldable pub walkOf : List ℕ → ℕ → ℕ → Walked
-walkOf ws at d = walked at d (readTrees (drop at ws) 1)
+walkOf ws at d = walked at d (treeFrom ws at)
+
+-- The words of the tree at a word; none where there is no tree.
+unfoldable pub wordsAtOf : List ℕ → ℕ → List ℕ
+wordsAtOf ws at = byFound (treeFrom ws at) [] words
+
+-- The words of the cut at d of the tree at a word; none where there is no tree.
+unfoldable pub cutOf : List ℕ → ℕ → ℕ → List ℕ
+cutOf ws at d = byFound (treeFrom ws at) [] (λ t. words (cut t d))
 
 -- What a child's cut of n words adds to its parent's cut at d: nothing at depth 0.
 unfoldable pub keptOf : ℕ → ℕ → ℕ
 keptOf zero n = 0
 keptOf (suc d) n = n
-
--- The words of the cut at d of the tree that the words from `at` on begin with; none where they begin with no tree.
-unfoldable pub cutWords : ℕ → Reading → List ℕ
-cutWords d broken = []
-cutWords d (read bare ws) = []
-cutWords d (read (cons t f) ws) = words (cut t d)
-
--- The words of the cut at d of the tree at a word.
-unfoldable pub cutOf : List ℕ → ℕ → ℕ → List ℕ
-cutOf ws at d = cutWords d (readTrees (drop at ws) 1)
-
--- The words of the tree that the words from `at` on begin with; none where they begin with no tree.
-unfoldable pub treeWords : Reading → List ℕ
-treeWords broken = []
-treeWords (read bare ws) = []
-treeWords (read (cons t f) ws) = words t
-
--- The words of the tree at a word.
-unfoldable pub wordsAtOf : List ℕ → ℕ → List ℕ
-wordsAtOf ws at = treeWords (readTrees (drop at ws) 1)
 
 -- A walk found a tree whose cut has at most n words.
 abbrev pub Room : Walked → ℕ → Type 0
