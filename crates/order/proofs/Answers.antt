@@ -61,9 +61,9 @@ module _ (s : List ℕ) (line : ℕ) (lack : LacksLine s line) where
 -- The part's words are the cut at k-1 for either kind.
 part-words : (k : ℕ) (t : Tree) → partOf k t .tree ≡ cut t (k - 1)
 unfolding partOf isLow middle if_then_else_
-part-words k t = go (leb (depth t) (k - 2)) refl
+part-words k t = go (isLow k t) refl
   where
-    go : (b : Bool) → leb (depth t) (k - 2) ≡ b → partOf k t .tree ≡ cut t (k - 1)
+    go : (b : Bool) → isLow k t ≡ b → partOf k t .tree ≡ cut t (k - 1)
     go true e = rw e (sym (cut-shallow t (k - 1) (omega (arith, leb-true (depth t) (k - 2) e))))
     go false e = rw e refl
 

@@ -103,7 +103,7 @@ fn kept(d: usize, n: usize) -> usize
 }
 
 // The tree at word `at`, and how long its cut at d is. It calls itself for each child, with fewer words left each time. Every public
-// function tests the order's length first, so that the calls go no deeper than an order has nodes, and one more for a child that lacks.
+// function tests the order's length first, so that the calls go no deeper than an order has nodes, and one more for a child that is not there.
 fn walk(order: &[u16], at: usize, d: usize) -> Walked
     ensures { λ r. ⌜ r ≡ walkOf (now (order .entry)) at d ⌝ }
 {
