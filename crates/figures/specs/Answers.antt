@@ -16,6 +16,10 @@ abbrev pub numberOf : Asked → ℕ
 numberOf (Allowed k) = done
 numberOf Outside = k-outside
 
--- A number with line 0, and how many words were written.
+-- A number with line 0, and how many words or bytes were written.
 abbrev pub wrote : ℕ → ℕ → Written
 wrote n count = record { number = n; line = 0; count = count }
+
+-- A refusal by a number at a line: "how many it wrote, 0 when it refuses".
+abbrev pub refusedAt : ℕ → ℕ → Written
+refusedAt n line = record { number = n; line = line; count = 0 }

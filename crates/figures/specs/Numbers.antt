@@ -1,4 +1,4 @@
--- The numbers of 01, "Numbers the desk hears", that an order or a part can be answered with. Assumes nothing: these are definitions.
+-- The numbers of 01, "Numbers the desk hears", that an order, a part or a form can be answered with. Assumes nothing: these are definitions.
 use Prim.Native.Nat.{ℕ}
 
 -- done
@@ -16,6 +16,10 @@ too-large = 2
 -- k is outside 2 to 6
 abbrev pub k-outside : ℕ
 k-outside = 3
+
+-- the text is no form
+abbrev pub no-form : ℕ
+no-form = 10
 
 -- the lent output is too short
 abbrev pub short-output : ℕ

@@ -1,6 +1,6 @@
 // The figures and numbers of 01 by name, k, and the form of an answer: what every other crate counts with. Assumes nothing.
 ghost use mathlib.Core.Path.{_≡_};
-ghost use Rattle.figures.specs.Answers.{wrote};
+ghost use Rattle.figures.specs.Answers.{refusedAt, wrote};
 
 mod depths;
 pub mod limits;
@@ -22,7 +22,7 @@ pub struct Written {
     pub count: usize,
 }
 
-// A number with line 0, and how many words were written.
+// A number with line 0, and how many words or bytes were written.
 pub fn wrote(number: u16, count: usize) -> Written
     ensures { λ r. ⌜ r ≡ wrote number count ⌝ }
 {
@@ -30,5 +30,16 @@ pub fn wrote(number: u16, count: usize) -> Written
         number,
         line: 0,
         count,
+    }
+}
+
+// A refusal by a number at a line: nothing was written.
+pub fn refused(number: u16, line: usize) -> Written
+    ensures { λ r. ⌜ r ≡ refusedAt number line ⌝ }
+{
+    Written {
+        number,
+        line,
+        count: 0,
     }
 }

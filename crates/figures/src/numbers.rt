@@ -12,5 +12,8 @@ pub const TOO_LARGE: u16 = 2;
 // k is outside 2 to 6
 pub const K_OUTSIDE: u16 = 3;
 
+// the text is no form
+pub const NO_FORM: u16 = 10;
+
 // the lent output is too short
 pub const SHORT_OUTPUT: u16 = 11;
