@@ -196,7 +196,7 @@ writes len out w v z out′ h e o =
     (omega arith, rw (t, d₂) (e ∙ ap (λ (x : List ℕ). x ++ drop (len + length (w ++ v)) out) (sym (append-assoc (take len out) w v))))
 
 -- The part of out behind len words comes back with w written over its front.
-part-back : (len : ℕ) (out w last : List ℕ) → len + length w ≤ length out → last ≡ over w (take (length out - len) (drop len out)) → take len out ++ (last ++ drop (length out - len) (drop len out)) ≡ (take len out ++ w) ++ drop (len + length w) out
+pub part-back : (len : ℕ) (out w last : List ℕ) → len + length w ≤ length out → last ≡ over w (take (length out - len) (drop len out)) → take len out ++ (last ++ drop (length out - len) (drop len out)) ≡ (take len out ++ w) ++ drop (len + length w) out
 part-back len out w last h e =
     let n : length (drop len out) ≤ length out - len = omega (arith, length-drop len out) in
     let a : take (length out - len) (drop len out) ≡ drop len out = whole-take (length out - len) (drop len out) n in

@@ -1,0 +1,17 @@
+-- What the proofs of several functions use, and the laws that crates above cite.
+pub mod Faults
+mod Spelling
+mod Steps
+mod Counts
+pub mod TreeLines
+pub mod Digits
+pub mod Unique
+pub mod RoundTrip
+pub mod Grow
+pub mod Trips
+pub mod Letters
+mod Turn
+mod Spelt
+mod Rows
+mod Written
+mod Answers

@@ -1,0 +1,119 @@
+-- What is written is read back: the lines of a good tree within the limits may stand behind each other, and the tree's text is read as
+-- its lines. Assumes nothing.
+use mathlib.Core.Path.{_≡_, refl, ap, sym, subst, _∙_}
+use mathlib.Core.List.{List, [], _∷_, _++_, append-nil}
+use mathlib.Core.Bool.{true}
+use Prim.Native.Nat.{ℕ, suc, _+_, _-_, _≤_, _<_}
+use native.Mathlib.Omega.{arith}
+use lib.ListN.{length, length-append}
+use borrow.Author.Tests.{le-leb, eq-eqb, ne-eqb, lt-ltb, le-ltb}
+use Rattle.words.specs.Base.{_and_, if_then_else_}
+use Rattle.figures.specs.Limits.{greatest-depth, most-nodes, most-children}
+use Rattle.order.specs.Trees.{Tree, Forest, node, bare, cons, count, depth, depthF, Good, GoodF, subtrees}
+use Rattle.form.specs.Text.{Line, linesOf, linesF, lineText, spell, textOf}
+use Rattle.form.specs.Reading.{allowed, siblings, inOrder, form, readLines, formOf}
+use Rattle.form.proofs.Faults.{read-done, some-bytes}
+use Rattle.form.proofs.TreeLines.{lines-count}
+use Rattle.form.proofs.Digits.{line-size, Legal, push, push-order, read-spelt}
+
+-- ---- lines behind others
+
+-- Lines that are read one after the other are read in two parts.
+push-append : (xs ys before : List Line) → push (xs ++ ys) before ≡ push ys (push xs before)
+unfolding push
+push-append [] ys before = refl
+push-append (x ∷ xs) ys before = push-append xs ys (x ∷ before)
+
+-- They may stand there if each of the two parts may.
+legal-append : (xs ys before : List Line) → Legal before xs → Legal (push xs before) ys → Legal before (xs ++ ys)
+unfolding push
+legal-append [] ys before g h = h
+legal-append (x ∷ xs) ys before g h = (g .0, g .1, legal-append xs ys (x ∷ before) (g .2) h)
+
+-- ---- siblings
+
+-- Deeper lines are no siblings.
+mutual
+  unfolding linesOf push siblings if_then_else_
+
+  past : (t : Tree) (l m : ℕ) (b : List Line) → l < m → siblings l (push (linesOf t m) b) ≡ siblings l b
+  past (node c f) l m b h = pastF f l (suc m) (record { level = m; code = c } ∷ b) (omega arith) ∙ rw (le-ltb m l (omega arith), ne-eqb m l (λ z. omega arith))
+
+  pastF : (f : Forest) (l m : ℕ) (b : List Line) → l < m → siblings l (push (linesF f m) b) ≡ siblings l b
+  pastF bare l m b h = refl
+  pastF (cons t f) l m b h = ap (siblings l) (push-append (linesOf t m) (linesF f m) b) ∙ pastF f l m (push (linesOf t m) b) h ∙ past t l m b h
+
+-- A tree is one sibling more to what follows at its level.
+pub one-more : (t : Tree) (l : ℕ) (b : List Line) → siblings l (push (linesOf t l) b) ≡ suc (siblings l b)
+unfolding linesOf push siblings if_then_else_
+one-more (node c f) l b = pastF f l (suc l) (record { level = l; code = c } ∷ b) (omega arith) ∙ rw (le-ltb l l (omega arith), eq-eqb l l refl)
+
+-- ---- levels
+
+-- The last line is of level m or deeper.
+data Top (m : ℕ) : List Line → Type 0 where
+  top : {x : Line} {xs : List Line} → m ≤ x .level → Top m (x ∷ xs)
+
+-- A last line that is deep enough is so for every lesser level.
+weaker : {m k : ℕ} {b : List Line} → Top m b → k ≤ m → Top k b
+weaker {m} {k} (top {x = x} h) e = let z : k ≤ x .level = omega arith in top z
+
+-- The last line of a tree is no higher than its top, and that of a row no higher than the line before it.
+mutual
+  unfolding linesOf push
+
+  tops : (t : Tree) (m : ℕ) (b : List Line) → Top m (push (linesOf t m) b)
+  tops (node c f) m b = let z : m ≤ m = omega arith in topsF f (suc m) m (record { level = m; code = c } ∷ b) (top z) (omega arith)
+
+  topsF : (f : Forest) (m k : ℕ) (b : List Line) → Top k b → k ≤ m → Top k (push (linesF f m) b)
+  topsF bare m k b o h = o
+  topsF (cons t f) m k b o h = subst (Top k) (sym (push-append (linesOf t m) (linesF f m) b)) (topsF f m k (push (linesOf t m) b) (weaker (tops t m b) h) h)
+
+-- Behind such a line the next level may follow.
+allows : (m : ℕ) (b : List Line) → Top m b → allowed (suc m) b ≡ true
+unfolding allowed _and_
+allows m (x ∷ b) (top h) = rw (le-leb 1 (suc m) (omega arith), le-leb (suc m) (suc (x .level)) (omega arith))
+
+-- ---- trees
+
+-- The lines of a good tree that is not too deep may stand where its top may, and so may those of a row.
+mutual
+  unfolding linesOf depth Good count siblings if_then_else_
+
+  legal : (t : Tree) (l : ℕ) (b : List Line) → Good t → l + depth t ≤ greatest-depth → allowed l b ≡ true → siblings l b < most-children → Legal b (linesOf t l)
+  legal (node c f) l b g d a s =
+      let z : l ≤ l = omega arith in (
+        g .0 .1,
+        record { option = g .0 .0; follows = a; shallow = omega arith; child = s },
+        legalF f l (record { level = l; code = c } ∷ b) (g .1) d (top z) (rw (lt-ltb l (suc l) (omega arith)) (omega (arith, g .0 .2))),
+      )
+
+  legalF : (f : Forest) (m : ℕ) (b : List Line) → GoodF f → m + depthF f ≤ greatest-depth → Top m b → siblings (suc m) b + count f ≤ most-children → Legal b (linesF f (suc m))
+  legalF bare m b g d o s = tt
+  legalF (cons t f) m b g d o s =
+      legal-append (linesOf t (suc m)) (linesF f (suc m)) b
+      (legal t (suc m) b (g .0) (omega arith) (allows m b o) (omega arith))
+      (legalF f m (push (linesOf t (suc m)) b) (g .1) (omega arith) (weaker (tops t (suc m) b) (omega arith)) (rw (one-more t (suc m) b) (omega arith)))
+
+-- The lines of a good tree within the limits may be a form's.
+tree-legal : (t : Tree) → Good t → depth t ≤ greatest-depth → Legal [] (linesOf t 0)
+unfolding allowed siblings
+tree-legal t g d = legal t 0 [] g (omega arith) refl (omega arith)
+
+-- The text of a tree has bytes.
+some-text : (t : Tree) → 0 < length (textOf t)
+unfolding textOf linesOf spell
+some-text (node c f) =
+    let x : Line = record { level = 0; code = c } in
+    omega (arith, length-append (lineText x) (spell (linesF f 1)), line-size x)
+
+-- The text of a good tree within the limits is read as the tree's lines.
+pub form-of : (t : Tree) → Good t → depth t ≤ greatest-depth → length (subtrees t) ≤ most-nodes → formOf (textOf t) ≡ form (linesOf t 0)
+unfolding textOf inOrder
+form-of t g d n =
+    let xs : List Line = linesOf t 0 in
+    some-bytes (textOf t) (some-text t)
+    ∙ ap (readLines most-nodes []) (sym (append-nil (spell xs)))
+    ∙ read-spelt most-nodes xs [] [] (tree-legal t g d) (omega (arith, lines-count t 0))
+    ∙ read-done (most-nodes - length xs) (push xs [])
+    ∙ ap form (push-order xs [])

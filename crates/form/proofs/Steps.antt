@@ -1,0 +1,128 @@
+-- The inner functions of reading, return by return: which level may follow, what the next line is read as, and what becomes of a
+-- parent's number of children. Assumes nothing.
+use mathlib.Core.Path.{_≡_, refl, sym, _∙_}
+use mathlib.Core.Bool.{Bool, true, false}
+use mathlib.Core.List.{List}
+use Prim.Native.Nat.{ℕ, _+_, _≤_, _<_}
+use native.Mathlib.Omega.{arith}
+use lib.Dec.{leb, ltb, eqb}
+use lib.ListN.{length, getD, set, length-set}
+use borrow.Author.Tests.{lt-leb, le-leb, lt-ltb, le-ltb, eq-eqb, ne-eqb, eqb-true, eqb-false, ltb-true, ltb-false}
+use Rattle.words.specs.Base.{_and_, if_then_else_, within}
+use Rattle.words.proofs.Tests.{no-test}
+use Rattle.figures.specs.Limits.{most-nodes, most-children, greatest-depth}
+use Rattle.form.specs.Reading.{speltOf, byLine}
+use Rattle.form.specs.Turns.{follows, nextOf, countPlace, mayAdopt, adopted}
+use Rattle.form.specs.declared.reading.Fault.{Fault}
+use Rattle.form.specs.declared.reading.Fault.the-variants.{PastLast, NoOption, LevelNotAllowed, TooDeep}
+use Rattle.form.specs.declared.reading.LineRead.{LineRead}
+use Rattle.form.specs.declared.reading.LineRead.the-variants.{Node, Refused}
+use Rattle.form.proofs.Faults.{within-both}
+
+-- ---- which level may follow
+
+-- On line 1 level 0.
+pub follows-first : (top level : ℕ) → top ≡ 0 → eqb level 0 ≡ follows top level
+unfolding follows if_then_else_
+follows-first top level e = rw (eq-eqb top 0 e)
+
+-- Later no level below 1.
+pub follows-none : (top level : ℕ) → (top ≡ 0 → ⊥) → level < 1 → false ≡ follows top level
+unfolding follows if_then_else_ _and_
+follows-none top level n h = rw (ne-eqb top 0 n, lt-leb 1 level h)
+
+-- Otherwise any to the previous plus 1.
+pub follows-later : (top level : ℕ) → (top ≡ 0 → ⊥) → 1 ≤ level → leb level top ≡ follows top level
+unfolding follows if_then_else_ _and_
+follows-later top level n h = rw (ne-eqb top 0 n, le-leb 1 level h)
+
+-- A level that may follow is at most the previous plus 1, and 0 only on line 1.
+pub follows-seen : (top level : ℕ) → follows top level ≡ true → (level ≤ top) × (level ≡ 0 → top ≡ 0)
+unfolding follows if_then_else_
+follows-seen top level = go (eqb top 0) refl
+  where
+    go : (b : Bool) → eqb top 0 ≡ b → (if b then eqb level 0 else within 1 top level) ≡ true → (level ≤ top) × (level ≡ 0 → top ≡ 0)
+    go true q e = let z : level ≡ 0 = eqb-true _ _ e in let y : top ≡ 0 = eqb-true _ _ q in (omega arith, λ x. y)
+    go false q e = let w = within-both 1 top level e in (w .1, λ x. absurd (omega arith))
+
+-- ---- the next line, behind n lines
+
+module _ (n top : ℕ) (s : List ℕ) where
+  -- It is past the last.
+  pub next-past : most-nodes ≤ n → Refused PastLast ≡ nextOf n top s
+  unfolding nextOf if_then_else_
+  next-past h = rw (le-leb most-nodes n h)
+
+  -- It is misspelt, as the call that read the spelling answered.
+  pub next-misspelt : n < most-nodes → {r : LineRead} {f : Fault} → r ≡ speltOf s → r ≡ Refused f → r ≡ nextOf n top s
+  unfolding nextOf byLine if_then_else_
+  next-misspelt h {r} {f} e q = let x : speltOf s ≡ Refused f = sym e ∙ q in q ∙ rw (lt-leb most-nodes n h, x) refl
+
+-- It is spelt.
+module _ (n top : ℕ) (s : List ℕ) {r : LineRead} {l c w : ℕ} (h : n < most-nodes) (e : r ≡ speltOf s) (q : r ≡ Node l c w) where
+  -- As it is spelt.
+  spelt : speltOf s ≡ Node l c w
+  spelt = sym e ∙ q
+
+  -- The code is 0000.
+  pub next-zero : c ≡ 0 → Refused NoOption ≡ nextOf n top s
+  unfolding nextOf byLine if_then_else_
+  next-zero z = rw (lt-leb most-nodes n h, spelt, eq-eqb c 0 z) refl
+
+  -- The level is not allowed.
+  pub next-level : (c ≡ 0 → ⊥) → follows top l ≡ false → Refused LevelNotAllowed ≡ nextOf n top s
+  unfolding nextOf byLine if_then_else_
+  next-level z f = rw (lt-leb most-nodes n h, spelt, ne-eqb c 0 z, f) refl
+
+  -- The level is over 12.
+  pub next-deep : (c ≡ 0 → ⊥) → follows top l ≡ true → greatest-depth < l → Refused TooDeep ≡ nextOf n top s
+  unfolding nextOf byLine if_then_else_
+  next-deep z f d = rw (lt-leb most-nodes n h, spelt, ne-eqb c 0 z, f, lt-ltb greatest-depth l d) refl
+
+  -- It has none of these faults.
+  pub next-node : (c ≡ 0 → ⊥) → follows top l ≡ true → l ≤ greatest-depth → Node l c w ≡ nextOf n top s
+  unfolding nextOf byLine if_then_else_
+  next-node z f d = rw (lt-leb most-nodes n h, spelt, ne-eqb c 0 z, f, le-ltb greatest-depth l d) refl
+
+-- ---- a child more
+
+module _ (words latest : List ℕ) (level : ℕ) where
+  -- Line 1 has no parent.
+  pub adopt-first : level ≡ 0 → (true ≡ mayAdopt words latest level) × (words ≡ adopted words latest level)
+  unfolding mayAdopt adopted if_then_else_
+  adopt-first e = rw (eq-eqb level 0 e) (refl, refl)
+
+  -- The parent has all the children that it may have.
+  pub adopt-full : (level ≡ 0 → ⊥) → most-children ≤ getD words (countPlace latest level) 0 → (false ≡ mayAdopt words latest level) × (words ≡ adopted words latest level)
+  unfolding mayAdopt adopted if_then_else_
+  adopt-full n h = rw (ne-eqb level 0 n, le-ltb (getD words (countPlace latest level) 0) most-children h) (refl, refl)
+
+  -- The parent's number of children is raised.
+  pub adopt-one : (level ≡ 0 → ⊥) → getD words (countPlace latest level) 0 < most-children
+      → (true ≡ mayAdopt words latest level) × (set words (countPlace latest level) (getD words (countPlace latest level) 0 + 1) ≡ adopted words latest level)
+  unfolding mayAdopt adopted if_then_else_
+  adopt-one n h = rw (ne-eqb level 0 n, lt-ltb (getD words (countPlace latest level) 0) most-children h) (refl, refl)
+
+  -- What it says of a parent that it may have no child more.
+  pub full-seen : mayAdopt words latest level ≡ false → (0 < level) × (most-children ≤ getD words (countPlace latest level) 0)
+  unfolding mayAdopt if_then_else_
+  full-seen = go (eqb level 0) refl
+    where
+      go : (b : Bool) → eqb level 0 ≡ b → (if b then true else ltb (getD words (countPlace latest level) 0) most-children) ≡ false → (0 < level) × (most-children ≤ getD words (countPlace latest level) 0)
+      go true q e = no-test (sym e)
+      go false q e = let n : level ≡ 0 → ⊥ = eqb-false _ _ q in (omega arith, ltb-false _ _ e)
+
+  -- What it says of a parent that it may have a child more.
+  pub one-seen : mayAdopt words latest level ≡ true → 0 < level → getD words (countPlace latest level) 0 < most-children
+  unfolding mayAdopt if_then_else_
+  one-seen e h = ltb-true _ _ (sym (rw (ne-eqb level 0 (λ z. omega arith)) refl) ∙ e)
+
+  -- There are as many words as before.
+  pub adopted-length : length (adopted words latest level) ≡ length words
+  unfolding adopted if_then_else_
+  adopted-length = go (eqb level 0) (ltb (getD words (countPlace latest level) 0) most-children)
+    where
+      go : (a b : Bool) → length (if a then words else if b then set words (countPlace latest level) (getD words (countPlace latest level) 0 + 1) else words) ≡ length words
+      go true b = refl
+      go false true = simp length-set
+      go false false = refl

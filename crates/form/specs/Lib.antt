@@ -1,0 +1,5 @@
+-- Order form text, read and written.
+pub mod Text
+pub mod Reading
+pub mod Writing
+pub mod Turns

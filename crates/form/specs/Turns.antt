@@ -1,0 +1,77 @@
+-- What the inner functions of reading and writing give, in the terms that the code has at hand. Assumes nothing: these are definitions.
+use Prim.Native.Nat.{ℕ, zero, suc, _+_, _*_, _-_, _≤_, _<_}
+use mathlib.Core.Path.{_≡_}
+use mathlib.Core.Bool.{Bool, true, not}
+use mathlib.Core.List.{List, [], _∷_}
+use lib.Dec.{leb, ltb, eqb}
+use lib.ListN.{length, take, getD, set}
+use Rattle.words.specs.Base.{if_then_else_, within}
+use Rattle.figures.specs.Limits.{most-nodes, most-words, most-children, greatest-depth}
+use Rattle.figures.specs.Numbers.{done}
+use Rattle.figures.specs.Answers.{refusedAt, wrote}
+use Rattle.order.specs.Reading.{byOrder, orderOf}
+use Rattle.figures.specs.declared.Written.{Written}
+use Rattle.form.specs.Text.{Line, linesOf}
+use Rattle.form.specs.Reading.{speltOf, byLine, Form, fault, form, wordsOf}
+use Rattle.form.specs.declared.reading.Fault.the-variants.{PastLast, NoOption, LevelNotAllowed, TooDeep}
+use Rattle.form.specs.declared.reading.LineRead.{LineRead}
+use Rattle.form.specs.declared.reading.LineRead.the-variants.{Node, Refused}
+
+-- ---- reading
+
+-- A line of that level may follow, with the levels below `top` open: on line 1 none is.
+unfoldable pub follows : ℕ → ℕ → Bool
+follows top level = if eqb top 0 then eqb level 0 else within 1 top level
+
+-- A line's faults that can be told without its siblings, behind n lines that leave the levels below `top` open.
+unfoldable pub nextOf : ℕ → ℕ → List ℕ → LineRead
+nextOf n top bytes =
+    if leb most-nodes n then Refused PastLast else
+    byLine (speltOf bytes) (λ level code size.
+    if eqb code 0 then Refused NoOption else
+    if not (follows top level) then Refused LevelNotAllowed else
+    if ltb greatest-depth level then Refused TooDeep else
+    Node level code size) Refused
+
+-- Where the parent of a line of that level has its number of children.
+abbrev pub countPlace : List ℕ → ℕ → ℕ
+countPlace latest level = 2 * getD latest (level - 1) 0 + 1
+
+-- Line 1 has no parent; that of any other line has a place among the words.
+abbrev pub Parent : List ℕ → List ℕ → ℕ → Type 0
+Parent words latest level = (length words ≡ most-words) × (length latest ≡ suc greatest-depth) × (level ≤ greatest-depth) × (0 < level → getD latest (level - 1) 0 < most-nodes)
+
+-- The parent, if there is one, may have a child more.
+unfoldable pub mayAdopt : List ℕ → List ℕ → ℕ → Bool
+mayAdopt words latest level =
+    if eqb level 0 then true else
+    ltb (getD words (countPlace latest level) 0) most-children
+
+-- The words, with a child more under the parent if it may have one.
+unfoldable pub adopted : List ℕ → List ℕ → ℕ → List ℕ
+adopted words latest level =
+    if eqb level 0 then words else
+    if ltb (getD words (countPlace latest level) 0) most-children
+    then set words (countPlace latest level) (getD words (countPlace latest level) 0 + 1)
+    else words
+
+-- What reading the lines answers, with their words at the front of w.
+abbrev pub Got : Form → Written → List ℕ → Type 0
+Got (fault n line) r w = (r ≡ refusedAt n line) × (n ≡ done → ⊥)
+Got (form xs) r w = (r ≡ wrote done (length (wordsOf xs))) × (take (length (wordsOf xs)) w ≡ wordsOf xs) × (length (wordsOf xs) ≤ most-words)
+
+-- ---- writing
+
+-- The lines of an order; none where the words are no order.
+unfoldable pub linesIn : List ℕ → List Line
+linesIn ws = byOrder (orderOf ws) (λ n. []) (λ t. linesOf t 0)
+
+-- The levels of lines, in their order.
+unfoldable pub levelsOf : List Line → List ℕ
+levelsOf [] = []
+levelsOf (x ∷ xs) = x .level ∷ levelsOf xs
+
+-- The deepest level, from one on upwards, at which `left` has trees to come; 0 where there is none.
+unfoldable pub climbOf : List ℕ → ℕ → ℕ
+climbOf left zero = zero
+climbOf left (suc l) = if eqb (getD left (suc l) 0) 0 then climbOf left l else suc l

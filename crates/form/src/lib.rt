@@ -1,0 +1,8 @@
+// Order form text: one line per node in preorder, read to words and written from words. Assumes nothing.
+mod reading;
+mod writing;
+
+pub use reading::Fault;
+pub use reading::LineRead;
+pub use reading::read;
+pub use writing::write;
