@@ -1,37 +1,40 @@
--- One line more: a new node without children behind the others, and its parent's count raised by one. Assumes nothing.
+-- One line more: a new node without children behind the others, and its parent's number of children raised by one. Assumes nothing.
 use mathlib.Core.Path.{_≡_, refl, ap, sym, subst, _∙_}
 use mathlib.Core.List.{List, [], _∷_, _++_, append-assoc}
-use mathlib.Core.Bool.{Bool, true, false, not}
-use Prim.Native.Nat.{ℕ, zero, suc, _+_, _*_, _-_, _≤_, _<_}
+use mathlib.Core.Bool.{Bool, true, false}
+use Prim.Native.Nat.{ℕ, suc, _+_, _*_, _-_, _≤_, _<_}
 use native.Mathlib.Omega.{arith}
-use lib.Dec.{leb, ltb, eqb}
-use lib.ListN.{length, take, drop, getD, set, length-append, length-set}
+use lib.Dec.{leb, eqb}
+use lib.ListN.{length, getD, set, length-append}
 use lib.Seq.{getD-set-same, getD-set-other}
 use borrow.Author.Tests.{lt-leb, le-leb, lt-ltb, le-ltb, eq-eqb, ne-eqb, eqb-true, eqb-false, leb-true, leb-false}
 use Rattle.words.specs.Base.{if_then_else_}
 use Rattle.form.specs.Text.{Line}
 use Rattle.form.specs.Reading.{siblings, children, wordsOf, inOrder}
 
--- every line is deeper than l
+-- Every line is deeper than l.
 abbrev pub Above : ℕ → List Line → Type 0
 Above l [] = Unit {0}
 Above l (x ∷ xs) = (l < x .level) × Above l xs
 
+-- It stays so with a deeper line behind.
 above-snoc : (l : ℕ) (xs : List Line) (x : Line) → Above l xs → l < x .level → Above l (xs ++ (x ∷ []))
 above-snoc l [] x a h = (h, tt)
 above-snoc l (y ∷ ys) x a h = (a .0, above-snoc l ys x (a .1) h)
 
+-- It is so in the order of the text too.
 above-inOrder : (l : ℕ) (xs : List Line) → Above l xs → Above l (inOrder xs)
 unfolding inOrder
 above-inOrder l [] a = tt
 above-inOrder l (x ∷ xs) a = above-snoc l (inOrder xs) x (above-inOrder l xs (a .1)) (a .0)
 
+-- One more in both branches is one more.
 if-suc : (b : Bool) (n : ℕ) → (if b then suc (suc n) else suc n) ≡ suc (if b then suc n else n)
 unfolding if_then_else_
 if-suc true n = refl
 if-suc false n = refl
 
--- a child of an open line
+-- A child behind the others of a line is one more.
 child : (l : ℕ) (ys : List Line) (x : Line) → Above l ys → x .level ≡ suc l → children l (ys ++ (x ∷ [])) ≡ suc (children l ys)
 unfolding children if_then_else_
 child l [] x a e = rw (lt-leb (x .level) l (omega arith), eq-eqb (x .level) (suc l) e)
@@ -39,7 +42,7 @@ child l (y ∷ ys) x a e =
     let h : l < y .level = a .0 in
     rw (lt-leb (y .level) l h, child l ys x (a .1) e) (if-suc (eqb (y .level) (suc l)) (children l ys))
 
--- no child
+-- A line behind them that is no child leaves their number as it is.
 other : (l : ℕ) (ys : List Line) (x : Line) → (x .level ≡ suc l → ⊥) → children l (ys ++ (x ∷ [])) ≡ children l ys
 unfolding children if_then_else_
 other l [] x n = rw (ne-eqb (x .level) (suc l) n) (if-same (leb (x .level) l) 0)
@@ -49,17 +52,19 @@ other l [] x n = rw (ne-eqb (x .level) (suc l) n) (if-same (leb (x .level) l) 0)
     if-same false m = refl
 other l (y ∷ ys) x n = rw (other l ys x n)
 
--- a line that is closed by a later one
+-- Behind a line of level l or less there is no further child of a line of level l before it.
 shut : (l : ℕ) (f : List Line) (p : Line) (back : List Line) (x : Line) → p .level ≤ l → children l (f ++ (p ∷ back) ++ (x ∷ [])) ≡ children l (f ++ (p ∷ back))
 unfolding children if_then_else_
 shut l [] p back x h = rw (le-leb (p .level) l h)
 shut l (y ∷ f) p back x h = rw (shut l f p back x h)
 
+-- Lines have two words each.
 pub length-words : (xs : List Line) → length (wordsOf xs) ≡ 2 * length xs
 unfolding wordsOf
 length-words [] = refl
 length-words (x ∷ xs) = omega (arith, length-words xs)
 
+-- The words behind a parent, with a child more at the end.
 words-past : (l : ℕ) (back : List Line) (x : Line) → Above l back → x .level ≡ suc l → wordsOf (back ++ (x ∷ [])) ≡ wordsOf back ++ (x .code ∷ 0 ∷ [])
 unfolding wordsOf children
 words-past l [] x a e = refl
@@ -67,10 +72,11 @@ words-past l (y ∷ ys) x a e =
     let h : l < y .level = a .0 in
     rw (other (y .level) ys x (λ q. omega arith), words-past l ys x (a .1) e)
 
+-- The place of a number of children, one line on.
 two-on : (n : ℕ) → 2 * suc n + 1 ≡ suc (suc (2 * n + 1))
 two-on n = omega arith
 
--- neither has a line before the parent p of x a child more
+-- A line before the parent p of x has as many children as before.
 stays : (l : ℕ) (f : List Line) (p : Line) (back : List Line) (x : Line) → x .level ≡ suc (p .level) → children l (f ++ (p ∷ back) ++ (x ∷ [])) ≡ children l (f ++ (p ∷ back))
 stays l f p back x e = go (leb (p .level) l) refl
   where
@@ -78,18 +84,20 @@ stays l f p back x e = go (leb (p .level) l) refl
     go true q = shut l f p back x (leb-true _ _ q)
     go false q = other l (f ++ (p ∷ back)) x (let h : l < p .level = leb-false _ _ q in λ z. omega arith)
 
--- the law, over a split of the lines at the parent p
+-- The words with x behind, over a split of the lines at its parent p.
 append : (p : Line) (back : List Line) (x : Line) (front : List Line) → Above (p .level) back → x .level ≡ suc (p .level) →
     wordsOf (front ++ (p ∷ back) ++ (x ∷ [])) ≡ set (wordsOf (front ++ (p ∷ back))) (2 * length front + 1) (suc (children (p .level) back)) ++ (x .code ∷ 0 ∷ [])
 unfolding wordsOf
 append p back x [] a e = rw (child (p .level) back x a e, words-past (p .level) back x a e)
 append p back x (y ∷ front) a e = rw (two-on (length front), stays (y .level) front p back x e, append p back x front a e)
 
+-- Where the parent's number of children stands.
 kids : (p : Line) (back front : List Line) → getD (wordsOf (front ++ (p ∷ back))) (2 * length front + 1) 0 ≡ children (p .level) back
 unfolding wordsOf
 kids p back [] = refl
 kids p back (y ∷ front) = rw (two-on (length front)) (kids p back front)
 
+-- The siblings of a child of p are the children that p has so far.
 sibs : (p : Line) (front after : List Line) → Above (p .level) after → siblings (suc (p .level)) (after ++ (p ∷ front)) ≡ children (p .level) (inOrder after)
 unfolding siblings children inOrder if_then_else_
 sibs p front [] a = rw (lt-ltb (p .level) (suc (p .level)) (omega arith))
@@ -104,17 +112,19 @@ sibs p front (x ∷ after) a = go (eqb (x .level) (suc (p .level))) refl (sibs p
         let h : p .level < x .level = a .0 in
         rw (le-ltb (x .level) (suc (p .level)) h, q, ih, other (p .level) (inOrder after) x (eqb-false _ _ q))
 
+-- A split of the lines is one in the order of the text.
 inOrder-split : (after : List Line) (p : Line) (front : List Line) → inOrder (after ++ (p ∷ front)) ≡ inOrder front ++ (p ∷ inOrder after)
 unfolding inOrder
 inOrder-split [] p front = refl
 inOrder-split (x ∷ after) p front = rw (inOrder-split after p front) (append-assoc (inOrder front) (p ∷ inOrder after) (x ∷ []))
 
+-- There are as many lines in either order.
 pub length-inOrder : (xs : List Line) → length (inOrder xs) ≡ length xs
 unfolding inOrder
 length-inOrder [] = refl
 length-inOrder (x ∷ xs) = rw length-append (omega (arith, length-inOrder xs))
 
--- of lines that are listed the last first: the line at place p is the last of level l, and all behind it are deeper
+-- Of lines that are listed the last first, the one at place p is the last of level l, and all behind it are deeper.
 pub record Open (before : List Line) (l p : ℕ) : Type 0 where
   pub after : List Line
   pub this : Line
@@ -124,12 +134,13 @@ pub record Open (before : List Line) (l p : ℕ) : Type 0 where
   pub level : this .level ≡ l
   pub above : Above l after
 
--- what a line x says of its parent, and of the words with x
+-- What a line x says of its parent at place p, and of the words with x.
 pub record Adopts (before : List Line) (p : ℕ) (x : Line) : Type 0 where
   pub inside : p < length before
   pub had : getD (wordsOf (inOrder before)) (2 * p + 1) 0 ≡ siblings (x .level) before
   pub words : wordsOf (inOrder (x ∷ before)) ≡ set (wordsOf (inOrder before)) (2 * p + 1) (suc (siblings (x .level) before)) ++ (x .code ∷ 0 ∷ [])
 
+-- `Adopts` holds of a split of the lines at the parent.
 adopts-split : (after : List Line) (p : Line) (front : List Line) (x : Line) → Above (p .level) after → x .level ≡ suc (p .level) → Adopts (after ++ (p ∷ front)) (length front) x
 unfolding inOrder
 adopts-split after p front x a e =
@@ -141,16 +152,18 @@ adopts-split after p front x a e =
       words = rw (s, inOrder-split after p front, ← length-inOrder front) (append p (inOrder after) x (inOrder front) b e);
     }
 
+-- `Adopts` holds of a line one level below the last of its level.
 pub adopts : {before : List Line} {l p : ℕ} → Open before l p → (x : Line) → x .level ≡ suc l → Adopts before p x
 adopts {before} {l} {p} o x e =
     let a : Above (o .this .level) (o .after) = subst (λ (n : ℕ). Above n (o .after)) (sym (o .level)) (o .above) in
     let r = adopts-split (o .after) (o .this) (o .front) x a (e ∙ ap suc (sym (o .level))) in
     subst (λ (n : ℕ). Adopts before n x) (o .place) (subst (λ (b : List Line). Adopts b (length (o .front)) x) (sym (o .is)) r)
 
--- the open lines once x stands behind the others
+-- A line that stands behind the others is the last of its level.
 pub here : (x : Line) (before : List Line) → Open (x ∷ before) (x .level) (length before)
 here x before = record { after = []; this = x; front = before; is = refl; place = refl; level = refl; above = tt }
 
+-- The last of a higher level stays so.
 pub there : (x : Line) {before : List Line} {l p : ℕ} → Open before l p → l < x .level → Open (x ∷ before) l p
 there x o h = record { after = x ∷ o .after; this = o .this; front = o .front; is = ap (λ (s : List Line). x ∷ s) (o .is); place = o .place; level = o .level; above = (h, o .above) }
 

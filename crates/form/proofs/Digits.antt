@@ -6,14 +6,15 @@ use Prim.Native.Nat.{ℕ, zero, suc, _+_, _*_, _-_, _/_, _%_, _≤_, _<_}
 use native.Mathlib.Nat.{div-div-eq-div-mul, div-add-mod, mod-eq-of-lt}
 use native.Mathlib.Omega.{arith}
 use lib.Dec.{ltb}
-use lib.ListN.{length, length-append}
+use lib.ListN.{length}
 use lib.Seq.{drop-append-seam}
 use borrow.Author.Tests.{le-leb, ne-eqb, lt-ltb, le-ltb, ltb-true, ltb-false}
 use Rattle.words.specs.Base.{_and_, if_then_else_}
 use Rattle.figures.specs.Limits.{greatest-code}
-use Rattle.form.specs.Text.{digit-0, digit-9, space, line-feed, digit, Line, levelText, codeText, lineText, spell}
+use Rattle.form.specs.Text.{digit-0, digit-9, space, line-feed, digit, code-size, Line, levelText, codeText, lineText, spell}
 use Rattle.form.specs.Reading.{isDigit, figure, value, isCode, codeBehind, speltOf, inOrder, readLines}
 use Rattle.form.specs.declared.reading.LineRead.the-variants.{Node}
+use Rattle.form.proofs.Spelt.{line-size}
 use Rattle.form.proofs.Faults.{Fine, fine-line, read-on}
 
 -- ---- digits
@@ -63,7 +64,7 @@ unfolding isCode _and_
 is-code a b c d p q r s = rw (p, q, r, s)
 
 -- Behind a level the text of a code is read as the code.
-code-read : (l w c : ℕ) (r : List ℕ) → c ≤ greatest-code → codeBehind l w (codeText c ++ r) ≡ Node l c (w + 6)
+code-read : (l w c : ℕ) (r : List ℕ) → c ≤ greatest-code → codeBehind l w (codeText c ++ r) ≡ Node l c (w + code-size)
 unfolding codeBehind codeText if_then_else_
 code-read l w c r h =
     rw (is-code (digit (c / 1000)) (digit (c / 100)) (digit (c / 10)) (digit c) (is-digit (c / 1000)) (is-digit (c / 100)) (is-digit (c / 10)) (is-digit c), value-digits c h)
@@ -94,11 +95,6 @@ level-read l b r h e = go (ltb l 10) refl
     go false q = long-level l b r (ltb-false _ _ q) h
 
 -- ---- lines
-
--- A line has the bytes of its level and six more.
-pub line-size : (x : Line) → length (lineText x) ≡ length (levelText (x .level)) + 6
-unfolding lineText codeText
-line-size x = length-append (levelText (x .level)) (codeText (x .code))
 
 -- A spelt line is read as the line, and takes its own bytes.
 line-read : (x : Line) (r : List ℕ) → x .level < 100 → x .code ≤ greatest-code → speltOf (lineText x ++ r) ≡ Node (x .level) (x .code) (length (lineText x))

@@ -10,9 +10,9 @@ use borrow.Author.Tests.{lt-leb, le-leb, le-ltb, ne-eqb, eqb-false, leb-true, le
 use Rattle.words.specs.Base.{_and_, if_then_else_, within}
 use Rattle.words.proofs.Tests.{and-left, and-right}
 use Rattle.figures.specs.Limits.{most-nodes, most-children, greatest-depth}
-use Rattle.figures.specs.Numbers.{done}
+use Rattle.figures.specs.Numbers.{done, no-form}
 use Rattle.form.specs.Text.{Line}
-use Rattle.form.specs.Reading.{faultNumber, speltOf, byLine, allowed, siblings, lineOf, inOrder, Form, fault, form, readLines, formOf}
+use Rattle.form.specs.Reading.{faultNumber, speltOf, byLine, allowed, siblings, lineOf, inOrder, fault, form, readLines, formOf}
 use Rattle.form.specs.declared.reading.Fault.{Fault}
 use Rattle.form.specs.declared.reading.Fault.the-variants.{PastLast, Misspelt, NoOption, LevelNotAllowed, TooDeep, NinthChild}
 use Rattle.form.specs.declared.reading.LineRead.{LineRead}
@@ -134,3 +134,22 @@ pub some-bytes : (s : List ℕ) → 0 < length s → formOf s ≡ readLines most
 unfolding formOf
 some-bytes [] h = absurd (omega arith)
 some-bytes (b ∷ bs) h = refl
+
+-- Lines are never refused by 0.
+lines-refused : (room : ℕ) (before : List Line) (s : List ℕ) {n line : ℕ} → readLines room before s ≡ fault n line → n ≡ done → ⊥
+unfolding readLines byLine
+lines-refused zero before [] e z = let y : _≡_ {A = ℕ} 0 1 = cc in omega arith
+lines-refused zero before (b ∷ bs) {n} {line} e z = let y : faultNumber PastLast ≡ n = cc in fault-number PastLast (y ∙ z)
+lines-refused (suc room) before [] e z = let y : _≡_ {A = ℕ} 0 1 = cc in omega arith
+lines-refused (suc room) before (b ∷ bs) {n} {line} e z = go (lineOf before (b ∷ bs)) (λ x t h. lines-refused room (x ∷ before) t h z) e
+  where
+    go : (r : LineRead) → ((x : Line) (t : List ℕ) → readLines room (x ∷ before) t ≡ fault n line → ⊥)
+        → byLine r (λ level code size. readLines room (record { level = level; code = code } ∷ before) (drop size (b ∷ bs))) (λ f. fault (faultNumber f) (suc (length before))) ≡ fault n line → ⊥
+    go (Refused f) ih e = let y : faultNumber f ≡ n = cc in fault-number f (y ∙ z)
+    go (Node l c w) ih e = ih (record { level = l; code = c }) (drop w (b ∷ bs)) e
+
+-- A text is never refused by 0.
+pub text-refused : (s : List ℕ) {n line : ℕ} → formOf s ≡ fault n line → n ≡ done → ⊥
+unfolding formOf
+text-refused [] {n} {line} e z = let y : no-form ≡ n = cc in omega arith
+text-refused (b ∷ bs) e z = lines-refused most-nodes [] (b ∷ bs) e z

@@ -2,21 +2,24 @@
 use mathlib.Core.Path.{_≡_, refl, ap, sym, subst, _∙_}
 use mathlib.Core.Bool.{Bool, true, false}
 use mathlib.Core.List.{List, [], _∷_, _++_}
-use Prim.Native.Nat.{ℕ, suc, _+_, _*_, _-_, _/_, _<_}
+use Prim.Native.Nat.{ℕ, suc, _+_, _*_, _-_, _/_, _≤_, _<_}
 use native.Mathlib.Omega.{arith}
 use lib.Dec.{ltb}
 use lib.ListN.{length, length-append}
 use Rattle.words.specs.Base.{_and_, if_then_else_}
 use Rattle.words.proofs.Tests.{no-test}
 use Rattle.figures.specs.Limits.{most-nodes}
-use Rattle.figures.specs.Numbers.{no-form}
-use Rattle.form.specs.Text.{digit-0, space, line-feed, digit, Line, levelText, codeText, lineText, spell}
-use Rattle.form.specs.Reading.{isDigit, value, isCode, codeBehind, speltOf, byLine, lineOf, fault, form, readLines, formOf}
+use Rattle.figures.specs.Numbers.{done, no-form}
+use Rattle.figures.specs.Answers.{refusedAt}
+use Rattle.order.specs.Answers.{writing, write}
+use Rattle.form.specs.Text.{digit-0, space, line-feed, digit, code-size, Line, levelText, codeText, lineText, spell}
+use Rattle.form.specs.Reading.{isDigit, value, isCode, codeBehind, speltOf, byLine, allowed, siblings, lineOf, inOrder, fault, form, readLines, formOf, children, wordsOf, readOf}
 use Rattle.form.specs.declared.reading.Fault.the-variants.{Misspelt}
 use Rattle.form.specs.declared.reading.LineRead.the-variants.{Node, Refused}
-use Rattle.form.proofs.Faults.{read-fault, some-bytes}
+use Rattle.form.proofs.Faults.{Fine, fine-line, read-done, read-fault, read-on, some-bytes}
 use Rattle.form.proofs.Digits.{figure-digit, is-digit, space-no-digit, is-code, level-read, push, push-length, read-spelt}
 use Rattle.form.proofs.Unique.{read-text, form-text}
+use Rattle.form.proofs.Trips.{form-write, fault-write, reads-form}
 
 -- ---- codes are decimal
 
@@ -27,11 +30,27 @@ decimal a b c d p q r s = omega arith
 
 -- A line of four digits is read as the node whose code they are, whatever follows.
 pub code-decimal : (l : ℕ) (a b c d : ℕ) (rest : List ℕ) → l < 100 → a < 10 → b < 10 → c < 10 → d < 10
-    → speltOf (levelText l ++ (space ∷ (digit-0 + a) ∷ (digit-0 + b) ∷ (digit-0 + c) ∷ (digit-0 + d) ∷ line-feed ∷ rest)) ≡ Node l (a * 1000 + b * 100 + c * 10 + d) (length (levelText l) + 6)
+    → speltOf (levelText l ++ (space ∷ (digit-0 + a) ∷ (digit-0 + b) ∷ (digit-0 + c) ∷ (digit-0 + d) ∷ line-feed ∷ rest)) ≡ Node l (a * 1000 + b * 100 + c * 10 + d) (length (levelText l) + code-size)
 unfolding codeBehind if_then_else_
 code-decimal l a b c d rest h p q r s =
     level-read l space _ h space-no-digit
     ∙ rw (is-code (digit-0 + a) (digit-0 + b) (digit-0 + c) (digit-0 + d) (figure-digit a p) (figure-digit b q) (figure-digit c r) (figure-digit d s), decimal a b c d p q r s)
+
+-- Any option may stand on line 1.
+first-line : (n : ℕ) → 1 ≤ n → Fine [] 0 n
+unfolding allowed siblings
+first-line n h = record { option = h; follows = refl; shallow = omega arith; child = omega arith }
+
+-- A form of one line of four digits, not all 0, is read as the node whose code is their decimal value.
+pub decimal-read : (a b c d : ℕ) → a < 10 → b < 10 → c < 10 → d < 10 → 1 ≤ a * 1000 + b * 100 + c * 10 + d → (out : List ℕ)
+    → readOf (digit-0 ∷ space ∷ (digit-0 + a) ∷ (digit-0 + b) ∷ (digit-0 + c) ∷ (digit-0 + d) ∷ line-feed ∷ []) out ≡ write ((a * 1000 + b * 100 + c * 10 + d) ∷ 0 ∷ []) out
+unfolding levelText if_then_else_ inOrder wordsOf children
+decimal-read a b c d p q r s h out =
+    let n : ℕ = a * 1000 + b * 100 + c * 10 + d in
+    let x : Line = record { level = 0; code = n } in
+    let t : List ℕ = digit-0 ∷ space ∷ (digit-0 + a) ∷ (digit-0 + b) ∷ (digit-0 + c) ∷ (digit-0 + d) ∷ line-feed ∷ [] in
+    let l : lineOf [] t ≡ Node 0 n 7 = fine-line [] t (code-decimal 0 a b c d [] (omega arith) p q r s) (first-line n h) in
+    form-write t (x ∷ []) out (some-bytes t (omega arith) ∙ read-on (most-nodes - 1) [] t l ∙ read-done (most-nodes - 1) (x ∷ []))
 
 -- ---- a code with another byte in it
 
@@ -67,10 +86,10 @@ misspelt : (before : List Line) (s : List ℕ) → speltOf s ≡ Refused Misspel
 unfolding lineOf byLine
 misspelt before s e = rw e
 
--- A code with a byte in it that is no digit is refused by 10 at its own line, behind any lines that were read.
-pub code-refused : (front : List ℕ) (xs : List Line) (l a b c d : ℕ) (rest : List ℕ) → readLines most-nodes [] front ≡ form xs → length xs < most-nodes → l < 100 → NotFour a b c d
+-- Such a line is the first at fault behind any lines that were read.
+code-fault : (front : List ℕ) (xs : List Line) (l a b c d : ℕ) (rest : List ℕ) → readLines most-nodes [] front ≡ form xs → length xs < most-nodes → l < 100 → NotFour a b c d
     → formOf (front ++ (levelText l ++ (space ∷ a ∷ b ∷ c ∷ d ∷ rest))) ≡ fault no-form (suc (length xs))
-code-refused front xs l a b c d rest e h k n =
+code-fault front xs l a b c d rest e h k n =
     let s : List ℕ = levelText l ++ (space ∷ a ∷ b ∷ c ∷ d ∷ rest) in
     let t = read-text most-nodes front xs e in
     let z : most-nodes - length xs ≡ suc (most-nodes - suc (length xs)) = omega arith in
@@ -82,55 +101,62 @@ code-refused front xs l a b c d rest e h k n =
     ∙ read-fault (most-nodes - suc (length xs)) (push xs []) s o (misspelt (push xs []) s (level-read l space _ k space-no-digit ∙ none-behind l (length (levelText l)) a b c d rest n))
     ∙ ap (λ (m : ℕ). fault no-form (suc m)) (let y : length (push xs []) ≡ length xs = omega (arith, push-length xs []) in y)
 
+-- A code with a byte in it that is no digit is refused by 10 at its own line, wherever the byte stands, behind any lines that were read
+-- and whatever follows; nothing is written.
+pub code-refused : (front : List ℕ) (xs : List Line) (l a b c d : ℕ) (rest : List ℕ) → readLines most-nodes [] front ≡ form xs → length xs < most-nodes → l < 100 → NotFour a b c d → (out : List ℕ)
+    → readOf (front ++ (levelText l ++ (space ∷ a ∷ b ∷ c ∷ d ∷ rest))) out ≡ writing (refusedAt no-form (suc (length xs))) out
+code-refused front xs l a b c d rest e h k n out = fault-write _ out (code-fault front xs l a b c d rest e h k n)
+
 -- ---- bytes
 
 -- A byte that a form may have.
-data Letter (b : ℕ) : Type 0 where
-  figure-byte : isDigit b ≡ true → Letter b
-  space-byte : b ≡ space → Letter b
-  feed-byte : b ≡ line-feed → Letter b
+data Byte (b : ℕ) : Type 0 where
+  figure-byte : isDigit b ≡ true → Byte b
+  space-byte : b ≡ space → Byte b
+  feed-byte : b ≡ line-feed → Byte b
 
 -- All bytes are such.
-abbrev Letters : List ℕ → Type 0
-Letters [] = Unit {0}
-Letters (b ∷ bs) = Letter b × Letters bs
+abbrev Bytes : List ℕ → Type 0
+Bytes [] = Unit {0}
+Bytes (b ∷ bs) = Byte b × Bytes bs
 
--- They are so of two texts one after the other.
-letters-append : (s t : List ℕ) → Letters s → Letters t → Letters (s ++ t)
-letters-append [] t g h = h
-letters-append (b ∷ s) t g h = (g .0, letters-append s t (g .1) h)
+-- They are so in two texts one after the other.
+bytes-append : (s t : List ℕ) → Bytes s → Bytes t → Bytes (s ++ t)
+bytes-append [] t g h = h
+bytes-append (b ∷ s) t g h = (g .0, bytes-append s t (g .1) h)
 
--- Any byte of them is such.
-letter-in : (front : List ℕ) (b : ℕ) (rest : List ℕ) → Letters (front ++ (b ∷ rest)) → Letter b
-letter-in [] b rest g = g .0
-letter-in (a ∷ front) b rest g = letter-in front b rest (g .1)
+-- Any one of them is such.
+byte-in : (front : List ℕ) (b : ℕ) (rest : List ℕ) → Bytes (front ++ (b ∷ rest)) → Byte b
+byte-in [] b rest g = g .0
+byte-in (a ∷ front) b rest g = byte-in front b rest (g .1)
 
 -- A level's text has digits only.
-level-letters : (l : ℕ) → Letters (levelText l)
+level-bytes : (l : ℕ) → Bytes (levelText l)
 unfolding levelText if_then_else_
-level-letters l = go (ltb l 10)
+level-bytes l = go (ltb l 10)
   where
-    go : (t : Bool) → Letters (if t then digit l ∷ [] else digit (l / 10) ∷ digit l ∷ [])
+    go : (t : Bool) → Bytes (if t then digit l ∷ [] else digit (l / 10) ∷ digit l ∷ [])
     go true = (figure-byte (is-digit l), tt)
     go false = (figure-byte (is-digit (l / 10)), (figure-byte (is-digit l), tt))
 
 -- A code's text has a space, digits and LF.
-code-letters : (c : ℕ) → Letters (codeText c)
+code-bytes : (c : ℕ) → Bytes (codeText c)
 unfolding codeText
-code-letters c = (space-byte refl, (figure-byte (is-digit (c / 1000)), (figure-byte (is-digit (c / 100)), (figure-byte (is-digit (c / 10)), (figure-byte (is-digit c), (feed-byte refl, tt))))))
+code-bytes c = (space-byte refl, (figure-byte (is-digit (c / 1000)), (figure-byte (is-digit (c / 100)), (figure-byte (is-digit (c / 10)), (figure-byte (is-digit c), (feed-byte refl, tt))))))
 
--- So has the text of any lines.
-spell-letters : (xs : List Line) → Letters (spell xs)
+-- The text of lines has nothing but these.
+spell-bytes : (xs : List Line) → Bytes (spell xs)
 unfolding spell lineText
-spell-letters [] = tt
-spell-letters (x ∷ xs) = letters-append (lineText x) (spell xs) (letters-append (levelText (x .level)) (codeText (x .code)) (level-letters (x .level)) (code-letters (x .code))) (spell-letters xs)
+spell-bytes [] = tt
+spell-bytes (x ∷ xs) = bytes-append (lineText x) (spell xs) (bytes-append (levelText (x .level)) (codeText (x .code)) (level-bytes (x .level)) (code-bytes (x .code))) (spell-bytes xs)
 
--- A text with a byte that is no digit, no space and no LF is no form, wherever the byte stands.
-pub byte-refused : (front rest : List ℕ) (b : ℕ) → isDigit b ≡ false → (b ≡ space → ⊥) → (b ≡ line-feed → ⊥) → (xs : List Line) → formOf (front ++ (b ∷ rest)) ≡ form xs → ⊥
-byte-refused front rest b d s n xs e =
-    go (letter-in front b rest (subst Letters (form-text (front ++ (b ∷ rest)) xs e .0) (spell-letters xs)))
+-- A text with a byte that is no digit, no space and no LF is never read, wherever the byte stands.
+pub byte-refused : (front rest : List ℕ) (b : ℕ) → isDigit b ≡ false → (b ≡ space → ⊥) → (b ≡ line-feed → ⊥) → (out : List ℕ) → readOf (front ++ (b ∷ rest)) out .answer .number ≡ done → ⊥
+byte-refused front rest b d s n out e =
+    let f = reads-form (front ++ (b ∷ rest)) out e in
+    go (byte-in front b rest (subst Bytes (form-text (front ++ (b ∷ rest)) (f .0) (f .1) .0) (spell-bytes (f .0))))
   where
-    go : Letter b → ⊥
+    go : Byte b → ⊥
     go (figure-byte h) = no-test (sym d ∙ h)
     go (space-byte h) = s h
     go (feed-byte h) = n h

@@ -14,7 +14,8 @@ use Rattle.form.specs.Text.{Line, linesOf, linesF, lineText, spell, text
 use Rattle.form.specs.Reading.{allowed, siblings, inOrder, form, readLines, formOf}
 use Rattle.form.proofs.Faults.{read-done, some-bytes}
 use Rattle.form.proofs.TreeLines.{lines-count}
-use Rattle.form.proofs.Digits.{line-size, Legal, push, push-order, read-spelt}
+use Rattle.form.proofs.Digits.{Legal, push, push-order, read-spelt}
+use Rattle.form.proofs.Spelt.{line-size}
 
 -- ---- lines behind others
 

@@ -12,7 +12,7 @@ use Rattle.figures.specs.Limits.{most-nodes, greatest-depth}
 use Rattle.figures.specs.Numbers.{done}
 use Rattle.order.specs.Trees.{Tree, Forest, node, bare, cons, count, words, wordsF, depthF}
 use Rattle.order.specs.Reading.{causeOf}
-use Rattle.form.specs.Text.{Line, levelText, linesOf, linesF, lineText, spell}
+use Rattle.form.specs.Text.{code-size, Line, levelText, linesOf, linesF, lineText, spell}
 use Rattle.form.specs.Turns.{linesIn, levelsOf, climbOf}
 use Rattle.form.proofs.Spelt.{line-size, spell-more, spell-most, levels-append}
 use Rattle.form.proofs.Written.{lines-in, known, has-tree}
@@ -156,7 +156,7 @@ pub record Turn (order levels left : List ℕ) (line level bytes : ℕ) : Type 0
   pub line-within : line < most-nodes
   pub few-bytes : bytes ≤ 8 * line
   pub two-words : 2 * line + 2 ≤ length order
-  pub next : (n l : ℕ) → n ≡ length (levelText level) → l ≡ climbOf (taken order left line level) (level + 1) → State order (set levels line level) (taken order left line level) (line + 1) l (bytes + (n + 6))
+  pub next : (n l : ℕ) → n ≡ length (levelText level) → l ≡ climbOf (taken order left line level) (level + 1) → State order (set levels line level) (taken order left line level) (line + 1) l (bytes + (n + code-size))
 
 -- The lines of rows begin with that of the deepest row's first tree; its children and those beside it follow.
 lines-step : (before : List Line) (c : ℕ) (g f : Forest) (fs : List Forest) → before ++ linesR (cons (node c g) f ∷ fs) ≡ (before ++ (record { level = length fs; code = c } ∷ [])) ++ linesR (g ∷ f ∷ fs)
@@ -221,7 +221,7 @@ module _ (order levels left : List ℕ) (line level bytes : ℕ) (fine : causeOf
   -- With the line listed and the rows climbed, the loop knows as much of the lines up to it.
   state-next : (c n l : ℕ) (f : Forest) (fs : List Forest) → n ≡ length (levelText level) → l ≡ climbOf (taken order left line level) (level + 1) → line < most-nodes
       → Coming order (taken order left line level) (line + 1) (level + 1) (before ++ (record { level = level; code = c } ∷ [])) (f ∷ fs)
-      → State order (set levels line level) (taken order left line level) (line + 1) l (bytes + (n + 6))
+      → State order (set levels line level) (taken order left line level) (line + 1) l (bytes + (n + code-size))
   unfolding levelsOf
   state-next c n l f fs e q h k =
       let x : Line = record { level = level; code = c } in
@@ -232,7 +232,7 @@ module _ (order levels left : List ℕ) (line level bytes : ℕ) (fine : causeOf
         before = before ++ (x ∷ []);
         reached = length-append before (x ∷ []) ∙ ap (λ (m : ℕ). m + 1) reached;
         listed = rw add-one (take-suc-set levels line level (omega arith) ∙ ap (λ (w : List ℕ). w ++ (level ∷ [])) listed ∙ sym (levels-append before (x ∷ [])));
-        size = omega (arith, ap length (spell-more before x), length-append (spell before) (lineText x), line-size level c);
+        size = omega (arith, ap length (spell-more before x), length-append (spell before) (lineText x), line-size x);
         coming = record {
           lines-left = k .lines-left ∙ ap (λ (ys : List Line). (before ++ (x ∷ [])) ++ ys) (r .same-lines);
           words-left = k .words-left ∙ r .same-words;

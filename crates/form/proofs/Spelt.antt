@@ -9,7 +9,7 @@ use lib.ListN.{length, take, drop, set, length-append, length-drop}
 use lib.Seq.{length-take-le, take-at, drop-at, drop-drop, sets-eq}
 use Rattle.words.specs.Base.{if_then_else_, over}
 use Rattle.order.proofs.Cuts.{part-back}
-use Rattle.form.specs.Text.{space, line-feed, digit, levelText, codeText, Line, lineText, spell}
+use Rattle.form.specs.Text.{space, line-feed, digit, code-size, levelText, codeText, Line, lineText, spell}
 use Rattle.form.specs.Turns.{levelsOf}
 
 -- ---- a level
@@ -42,23 +42,18 @@ two-stores l out a b h room e f = rw (two-digits l h, e, f) (sets-eq (digit (l /
 
 -- ---- a code
 
--- A code's bytes are six.
-code-size : (c : ℕ) → length (codeText c) ≡ 6
-unfolding codeText
-code-size c = refl
-
 -- A code's bytes are written by six stores.
-pub six-stores : (n : ℕ) (out : List ℕ) (a b c d : ℕ) → 6 ≤ length out → a ≡ digit (n / 1000) → b ≡ digit (n / 100) → c ≡ digit (n / 10) → d ≡ digit n
+pub six-stores : (n : ℕ) (out : List ℕ) (a b c d : ℕ) → code-size ≤ length out → a ≡ digit (n / 1000) → b ≡ digit (n / 100) → c ≡ digit (n / 10) → d ≡ digit n
     → set (set (set (set (set (set out 0 space) 1 a) 2 b) 3 c) 4 d) 5 line-feed ≡ over (codeText n) out
 unfolding codeText
 six-stores n out a b c d h e f g i = rw (e, f, g, i) (sets-eq (space ∷ digit (n / 1000) ∷ digit (n / 100) ∷ digit (n / 10) ∷ digit n ∷ line-feed ∷ []) out 0 (omega arith))
 
 -- ---- a line
 
--- A line's bytes are those of its level and those of its code.
-pub line-size : (l c : ℕ) → length (lineText (record { level = l; code = c })) ≡ length (levelText l) + 6
-unfolding lineText
-line-size l c = length-append (levelText l) (codeText c) ∙ ap (λ (n : ℕ). length (levelText l) + n) (code-size c)
+-- A line has the bytes of its level and those of its code.
+pub line-size : (x : Line) → length (lineText x) ≡ length (levelText (x .level)) + code-size
+unfolding lineText codeText
+line-size x = length-append (levelText (x .level)) (codeText (x .code))
 
 -- Bytes are written over the front of out behind those that are there, in the part that is lent on.
 pub over-part : (a b out out₁ last : List ℕ) (n : ℕ) → length a + length b ≤ length out → n ≡ length a → out₁ ≡ over a out → last ≡ over b (take (length out₁ - n) (drop n out₁))
@@ -114,4 +109,4 @@ level-most l = elim (decLt l 10) [ yes h ↦ omega (arith, one-byte l h) | no h 
 pub spell-most : (xs : List Line) → length (spell xs) ≤ 8 * length xs
 unfolding spell
 spell-most [] = omega arith
-spell-most (x ∷ xs) = omega (arith, length-append (lineText x) (spell xs), line-size (x .level) (x .code), level-most (x .level), spell-most xs)
+spell-most (x ∷ xs) = omega (arith, length-append (lineText x) (spell xs), line-size x, level-most (x .level), spell-most xs)

@@ -2,15 +2,14 @@
 -- nothing.
 use mathlib.Core.Path.{_≡_, refl, ap, sym, subst, _∙_}
 use mathlib.Core.Bool.{Bool, true, false}
-use mathlib.Core.List.{List, [], _∷_}
-use Prim.Native.Nat.{ℕ, zero, suc}
+use mathlib.Core.List.{List}
+use Prim.Native.Nat.{ℕ}
 use native.Mathlib.Omega.{arith}
 use lib.Dec.{leb}
 use lib.ListN.{length, take, drop}
 use lib.Seq.{take-append-seam}
 use Rattle.words.specs.Base.{if_then_else_, over}
-use Rattle.figures.specs.Limits.{most-nodes}
-use Rattle.figures.specs.Numbers.{done, no-form, short-output}
+use Rattle.figures.specs.Numbers.{done, short-output}
 use Rattle.figures.specs.Answers.{wrote, refusedAt}
 use Rattle.order.specs.Trees.{Tree}
 use Rattle.order.specs.Reading.{order, byOrder, orderOf, causeOf}
@@ -19,12 +18,9 @@ use Rattle.order.proofs.Orders.{tree-passes}
 use Rattle.order.proofs.Causes.{Passed, Seen, stopped, passed, seen}
 use Rattle.order.proofs.Unique.{words-unique}
 use Rattle.form.specs.Text.{Line, linesOf, textOf}
-use Rattle.form.specs.Reading.{faultNumber, byLine, lineOf, Form, fault, form, byForm, readLines, formOf, wordsOf, readOf}
+use Rattle.form.specs.Reading.{Form, fault, form, byForm, formOf, wordsOf, readOf}
 use Rattle.form.specs.Writing.{writeOf}
-use Rattle.form.specs.declared.reading.Fault.the-variants.{PastLast}
-use Rattle.form.specs.declared.reading.LineRead.{LineRead}
-use Rattle.form.specs.declared.reading.LineRead.the-variants.{Node, Refused}
-use Rattle.form.proofs.Faults.{fault-number}
+use Rattle.form.proofs.Faults.{text-refused}
 use Rattle.form.proofs.TreeLines.{lines-words}
 use Rattle.form.proofs.RoundTrip.{form-of}
 use Rattle.form.proofs.Grow.{formed}
@@ -84,7 +80,7 @@ unfolding writeOf byOrder
 order-write ws t out e = rw e
 
 -- Of a form the words are written.
-form-write : (s : List ℕ) (xs : List Line) (out : List ℕ) → formOf s ≡ form xs → readOf s out ≡ write (wordsOf xs) out
+pub form-write : (s : List ℕ) (xs : List Line) (out : List ℕ) → formOf s ≡ form xs → readOf s out ≡ write (wordsOf xs) out
 unfolding readOf byForm
 form-write s xs out e = rw e
 
@@ -97,33 +93,19 @@ writes-order ws out e = go (seen ws)
     go (passed t h p) = (t, p .is)
     go (stopped h r) = let q : writeOf ws out ≡ refuse (causeOf ws) out = rw r in absurd (h (sym (ap (λ (w : Writing). w .answer .number) q) ∙ e))
 
--- Lines are never refused by 0.
-lines-refused : (room : ℕ) (before : List Line) (s : List ℕ) {n line : ℕ} → readLines room before s ≡ fault n line → n ≡ done → ⊥
-unfolding readLines byLine
-lines-refused zero before [] e z = let y : _≡_ {A = ℕ} 0 1 = cc in omega arith
-lines-refused zero before (b ∷ bs) {n} {line} e z = let y : faultNumber PastLast ≡ n = cc in fault-number PastLast (y ∙ z)
-lines-refused (suc room) before [] e z = let y : _≡_ {A = ℕ} 0 1 = cc in omega arith
-lines-refused (suc room) before (b ∷ bs) {n} {line} e z = go (lineOf before (b ∷ bs)) (λ x t h. lines-refused room (x ∷ before) t h z) e
-  where
-    go : (r : LineRead) → ((x : Line) (t : List ℕ) → readLines room (x ∷ before) t ≡ fault n line → ⊥)
-        → byLine r (λ level code size. readLines room (record { level = level; code = code } ∷ before) (drop size (b ∷ bs))) (λ f. fault (faultNumber f) (suc (length before))) ≡ fault n line → ⊥
-    go (Refused f) ih e = let y : faultNumber f ≡ n = cc in fault-number f (y ∙ z)
-    go (Node l c w) ih e = ih (record { level = l; code = c }) (drop w (b ∷ bs)) e
-
--- A text is never refused by 0.
-text-refused : (s : List ℕ) {n line : ℕ} → formOf s ≡ fault n line → n ≡ done → ⊥
-unfolding formOf
-text-refused [] {n} {line} e z = let y : no-form ≡ n = cc in omega arith
-text-refused (b ∷ bs) e z = lines-refused most-nodes [] (b ∷ bs) e z
+-- A text that is refused at a line writes nothing.
+pub fault-write : (s out : List ℕ) {n line : ℕ} → formOf s ≡ fault n line → readOf s out ≡ writing (refusedAt n line) out
+unfolding readOf byForm
+fault-write s out e = rw e
 
 -- A text that is read without fault is a form.
-reads-form : (s out : List ℕ) → readOf s out .answer .number ≡ done → (xs : List Line) × (formOf s ≡ form xs)
+pub reads-form : (s out : List ℕ) → readOf s out .answer .number ≡ done → (xs : List Line) × (formOf s ≡ form xs)
 unfolding readOf byForm
 reads-form s out e = go (formOf s) refl
   where
     go : (f : Form) → formOf s ≡ f → (xs : List Line) × (formOf s ≡ form xs)
     go (form xs) q = (xs, q)
-    go (fault n line) q = let r : readOf s out ≡ writing (refusedAt n line) out = rw q in absurd (text-refused s q (sym (ap (λ (w : Writing). w .answer .number) r) ∙ e))
+    go (fault n line) q = absurd (text-refused s q (sym (ap (λ (w : Writing). w .answer .number) (fault-write s out q)) ∙ e))
 
 -- What is written is read back to the same words.
 pub written-read : (ws out : List ℕ) → writeOf ws out .answer .number ≡ done → (later : List ℕ) → readOf (take (writeOf ws out .answer .count) (writeOf ws out .out)) later ≡ write ws later

@@ -2,30 +2,30 @@
 use mathlib.Core.Path.{_≡_, refl, ap, sym, subst, _∙_}
 use mathlib.Core.List.{List, [], _∷_, _++_, append-assoc}
 use mathlib.Core.Bool.{Bool, true, false, not}
-use Prim.Native.Nat.{ℕ, zero, suc, _+_, _*_, _-_, _≤_, _<_}
+use Prim.Native.Nat.{ℕ, suc, _+_, _*_, _-_, _≤_, _<_}
 use native.Mathlib.Numerals.{add-one, add-two}
 use native.Mathlib.Omega.{arith}
 use native.Mathlib.Decide.{decLt}
 use lib.Dec.{leb, ltb, eqb}
 use lib.ListN.{length, take, drop, getD, set, replicate, length-set, length-drop, drop-of-length-le}
 use lib.Seq.{take-suc-set, take-set-lt, getD-take, drop-drop}
-use borrow.Author.Tests.{lt-leb, le-leb, lt-ltb, le-ltb, eq-eqb, ne-eqb, eqb-true, eqb-false, leb-true, leb-false, ltb-true, ltb-false}
-use Rattle.words.specs.Base.{_and_, if_then_else_, within}
+use borrow.Author.Tests.{ne-eqb, eqb-false, leb-true, leb-false, ltb-false}
+use Rattle.words.specs.Base.{_and_, if_then_else_}
 use Rattle.words.proofs.Tests.{no-test}
 use Rattle.figures.specs.Limits.{most-nodes, most-words, most-children, greatest-depth}
 use Rattle.figures.specs.Numbers.{done, no-form}
 use Rattle.figures.specs.Answers.{refusedAt, wrote}
 use Rattle.figures.specs.declared.Written.{Written}
-use Rattle.form.specs.Text.{Line}
+use Rattle.form.specs.Text.{digit-0, Line}
 use Rattle.form.specs.Reading.{faultNumber, readNumber, isDigit, isCode, figure, codeBehind, speltOf, byLine, allowed, siblings, lineOf, inOrder, Form, fault, form, readLines, formOf, children, wordsOf}
 use Rattle.form.specs.Turns.{follows, nextOf, countPlace, Parent, mayAdopt, adopted, Got}
 use Rattle.form.specs.declared.reading.Fault.{Fault}
-use Rattle.form.specs.declared.reading.Fault.the-variants.{PastLast, Misspelt, NoOption, LevelNotAllowed, TooDeep, NinthChild}
+use Rattle.form.specs.declared.reading.Fault.the-variants.{PastLast, NoOption, LevelNotAllowed, TooDeep, NinthChild}
 use Rattle.form.specs.declared.reading.LineRead.{LineRead}
 use Rattle.form.specs.declared.reading.LineRead.the-variants.{Node, Refused}
-use Rattle.form.proofs.Faults.{no-node, fault-number, Fine, fine-line, ninth-line, read-done, read-past, read-fault, read-on, some-bytes}
+use Rattle.form.proofs.Faults.{no-node, fault-number, fine-line, ninth-line, read-done, read-past, read-fault, read-on, some-bytes}
 use Rattle.form.proofs.Steps.{follows-seen, adopt-first, adopt-one, adopted-length, full-seen, one-seen}
-use Rattle.form.proofs.Counts.{length-words, length-inOrder, Open, Adopts, adopts, Kept, kept-on}
+use Rattle.form.proofs.Counts.{length-words, length-inOrder, Adopts, adopts, Kept, kept-on}
 
 -- ---- how many bytes a line takes
 
@@ -59,7 +59,7 @@ line-bounded (x ∷ []) = no-bytes
 line-bounded (x ∷ y ∷ r) =
     bounded-if (not (isDigit x)) no-bytes
     (bounded-if (not (isDigit y)) (code-bounded (figure x) 1 (length (x ∷ y ∷ r)) (y ∷ r) (omega arith))
-    (bounded-if (eqb x 48) no-bytes (code-bounded (figure x * 10 + figure y) 2 (length (x ∷ y ∷ r)) r (omega arith))))
+    (bounded-if (eqb x digit-0) no-bytes (code-bounded (figure x * 10 + figure y) 2 (length (x ∷ y ∷ r)) r (omega arith))))
 
 -- A node that is read takes some bytes, and no more than there are.
 node-bounded : {r : LineRead} {l c w n : ℕ} → Bounded r n → r ≡ Node l c w → (0 < w) × (w ≤ n)
@@ -226,6 +226,7 @@ module _ {text words latest : List ℕ} {at n top : ℕ} (s : State text words l
 
   -- A node was read.
   module _ {x : LineRead} {level code size : ℕ} (e : x ≡ nextOf n top (drop at text)) (q : x ≡ Node level code size) where
+    -- The line that says it.
     abbrev line : Line
     line = record { level = level; code = code }
 

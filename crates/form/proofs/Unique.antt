@@ -8,26 +8,20 @@ use native.Mathlib.Omega.{arith}
 use lib.Dec.{eqb}
 use lib.ListN.{length, drop}
 use lib.Seq.{drop-at}
-use borrow.Author.Tests.{lt-ltb, le-ltb, eqb-true, eqb-false}
+use borrow.Author.Tests.{lt-ltb, le-ltb, eqb-false}
 use Rattle.words.specs.Base.{if_then_else_}
-use Rattle.words.proofs.Tests.{and-left, and-right}
 use Rattle.figures.specs.Limits.{greatest-code, most-nodes}
-use Rattle.form.specs.Text.{digit-0, digit-9, space, line-feed, digit, Line, levelText, codeText, lineText, spell}
+use Rattle.form.specs.Text.{digit-0, digit, code-size, Line, levelText, codeText, lineText, spell}
 use Rattle.form.specs.Reading.{faultNumber, isDigit, figure, value, isCode, codeBehind, speltOf, byLine, lineOf, inOrder, fault, form, readLines, formOf}
 use Rattle.form.specs.declared.reading.Fault.the-variants.{Misspelt}
 use Rattle.form.specs.declared.reading.LineRead.{LineRead}
 use Rattle.form.specs.declared.reading.LineRead.the-variants.{Node, Refused}
-use Rattle.form.proofs.Faults.{no-node, within-both, seen}
-use Rattle.form.proofs.Digits.{line-size, Legal}
+use Rattle.form.proofs.Faults.{no-node, seen}
+use Rattle.form.proofs.Spelling.{of-digit, of-code}
+use Rattle.form.proofs.Digits.{Legal}
+use Rattle.form.proofs.Spelt.{line-size}
 
 -- ---- digits
-
--- The byte of a digit is 0's and the digit's figure, which is less than ten.
-of-digit : (b : ℕ) → isDigit b ≡ true → (digit-0 + figure b ≡ b) × (figure b < 10)
-unfolding isDigit
-of-digit b e =
-    let w = within-both digit-0 digit-9 b e in
-    (omega (arith, w .0), omega (arith, w .1))
 
 -- The last figure of a number.
 last-figure : (n y : ℕ) → y < 10 → digit (n * 10 + y) ≡ digit-0 + y
@@ -70,23 +64,18 @@ module _ (x y z u : ℕ) (hx : x < 10) (hy : y < 10) (hz : z < 10) (hu : u < 10)
 
 -- Six bytes that are a code are the text of their value.
 is-text : (s a b c d e : ℕ) (r : List ℕ) → isCode s a b c d e ≡ true → (s ∷ a ∷ b ∷ c ∷ d ∷ e ∷ r ≡ codeText (value a b c d) ++ r) × (value a b c d ≤ greatest-code)
-unfolding isCode codeText value
+unfolding codeText value
 is-text s a b c d e r t =
-    let e₀ : s ≡ space = eqb-true s space (and-left (eqb s space) _ t) in
-    let f₁ = and-right (eqb s space) _ t in
-    let f₂ = and-right (isDigit a) _ f₁ in
-    let f₃ = and-right (isDigit b) _ f₂ in
-    let f₄ = and-right (isDigit c) _ f₃ in
-    let e₁ = of-digit a (and-left (isDigit a) _ f₁) in
-    let e₂ = of-digit b (and-left (isDigit b) _ f₂) in
-    let e₃ = of-digit c (and-left (isDigit c) _ f₃) in
-    let e₄ = of-digit d (and-left (isDigit d) _ f₄) in
-    let e₅ : e ≡ line-feed = eqb-true e line-feed (and-right (isDigit d) _ f₄) in
+    let q = of-code s a b c d e t in
+    let e₁ = of-digit a (q .first) in
+    let e₂ = of-digit b (q .second) in
+    let e₃ = of-digit c (q .third) in
+    let e₄ = of-digit d (q .fourth) in
     let p₁ = first-digit (figure a) (figure b) (figure c) (figure d) (e₁ .1) (e₂ .1) (e₃ .1) (e₄ .1) ∙ e₁ .0 in
     let p₂ = second-digit (figure a) (figure b) (figure c) (figure d) (e₁ .1) (e₂ .1) (e₃ .1) (e₄ .1) ∙ e₂ .0 in
     let p₃ = third-digit (figure a) (figure b) (figure c) (figure d) (e₁ .1) (e₂ .1) (e₃ .1) (e₄ .1) ∙ e₃ .0 in
     let p₄ = fourth-digit (figure a) (figure b) (figure c) (figure d) (e₁ .1) (e₂ .1) (e₃ .1) (e₄ .1) ∙ e₄ .0 in
-    (same6 e₀ (sym p₁) (sym p₂) (sym p₃) (sym p₄) e₅, four-small (figure a) (figure b) (figure c) (figure d) (e₁ .1) (e₂ .1) (e₃ .1) (e₄ .1))
+    (same6 (q .gap) (sym p₁) (sym p₂) (sym p₃) (sym p₄) (q .end), four-small (figure a) (figure b) (figure c) (figure d) (e₁ .1) (e₂ .1) (e₃ .1) (e₄ .1))
   where
     same6 : {s s′ a a′ b b′ c c′ d d′ e e′ : ℕ} → s ≡ s′ → a ≡ a′ → b ≡ b′ → c ≡ c′ → d ≡ d′ → e ≡ e′ → _≡_ {A = List ℕ} (s ∷ a ∷ b ∷ c ∷ d ∷ e ∷ r) (s′ ∷ a′ ∷ b′ ∷ c′ ∷ d′ ∷ e′ ∷ r)
     same6 q₀ q₁ q₂ q₃ q₄ q₅ = cc
@@ -97,7 +86,7 @@ record Coded (s : List ℕ) (l w level code size : ℕ) : Type 0 where
   is : s ≡ codeText code ++ rest
   small : code ≤ greatest-code
   same-level : l ≡ level
-  same-size : w + 6 ≡ size
+  same-size : w + code-size ≡ size
 
 -- `Coded` holds of whatever is read as a node behind a level.
 code-back : (l w : ℕ) (s : List ℕ) {level code size : ℕ} → codeBehind l w s ≡ Node level code size → Coded s l w level code size
@@ -110,13 +99,13 @@ code-back l w (s ∷ a ∷ b ∷ c ∷ []) e = no-node e
 code-back l w (s ∷ a ∷ b ∷ c ∷ d ∷ []) e = no-node e
 code-back l w (s ∷ a ∷ b ∷ c ∷ d ∷ n ∷ r) {level} {code} {size} e = go (isCode s a b c d n) refl e
   where
-    go : (t : Bool) → isCode s a b c d n ≡ t → (if t then Node l (value a b c d) (w + 6) else Refused Misspelt) ≡ Node level code size → Coded (s ∷ a ∷ b ∷ c ∷ d ∷ n ∷ r) l w level code size
+    go : (t : Bool) → isCode s a b c d n ≡ t → (if t then Node l (value a b c d) (w + code-size) else Refused Misspelt) ≡ Node level code size → Coded (s ∷ a ∷ b ∷ c ∷ d ∷ n ∷ r) l w level code size
     go false q e = no-node e
     go true q e =
         let k = is-text s a b c d n r q in
         let v : value a b c d ≡ code = cc in
         let x : l ≡ level = cc in
-        let y : w + 6 ≡ size = cc in
+        let y : w + code-size ≡ size = cc in
         record { rest = r; is = k .0 ∙ ap (λ (m : ℕ). codeText m ++ r) v; small = omega (arith, k .1); same-level = x; same-size = y }
 
 -- ---- lines
@@ -154,7 +143,7 @@ unfolding lineText
 lined front s l {level} {code} {size} e k =
     let f : levelText level ≡ front = ap levelText (sym (k .same-level)) ∙ e in
     let i : front ++ s ≡ lineText (record { level = level; code = code }) ++ k .rest = ap₂ _++_ (sym f) (k .is) ∙ sym (append-assoc (levelText level) (codeText code) (k .rest)) in
-    let n : length (lineText (record { level = level; code = code })) ≡ size = line-size (record { level = level; code = code }) ∙ ap (λ (m : List ℕ). length m + 6) f ∙ k .same-size in
+    let n : length (lineText (record { level = level; code = code })) ≡ size = line-size (record { level = level; code = code }) ∙ ap (λ (m : List ℕ). length m + code-size) f ∙ k .same-size in
     record {
       rest = k .rest;
       is = i;

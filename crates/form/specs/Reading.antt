@@ -9,7 +9,7 @@ use Rattle.figures.specs.Limits.{most-nodes, most-children, greatest-depth}
 use Rattle.figures.specs.Numbers.{done, too-large, no-form}
 use Rattle.figures.specs.Answers.{refusedAt}
 use Rattle.order.specs.Answers.{Writing, writing, write}
-use Rattle.form.specs.Text.{digit-0, digit-9, space, line-feed, Line}
+use Rattle.form.specs.Text.{digit-0, digit-9, space, line-feed, code-size, Line}
 use Rattle.form.specs.declared.reading.Fault.{Fault}
 use Rattle.form.specs.declared.reading.Fault.the-variants.{PastLast, Misspelt, NoOption, LevelNotAllowed, TooDeep, NinthChild}
 use Rattle.form.specs.declared.reading.LineRead.{LineRead}
@@ -53,7 +53,7 @@ isCode s a b c d e = eqb s space and isDigit a and isDigit b and isDigit c and i
 -- The line of a level of w bytes, by the bytes behind it: the node, and how many bytes the whole line takes.
 unfoldable pub codeBehind : ℕ → ℕ → List ℕ → LineRead
 codeBehind level w (s ∷ a ∷ b ∷ c ∷ d ∷ e ∷ rest) =
-    if isCode s a b c d e then Node level (value a b c d) (w + 6) else Refused Misspelt
+    if isCode s a b c d e then Node level (value a b c d) (w + code-size) else Refused Misspelt
 codeBehind level w [] = Refused Misspelt
 codeBehind level w (s ∷ []) = Refused Misspelt
 codeBehind level w (s ∷ a ∷ []) = Refused Misspelt

@@ -53,6 +53,10 @@ levelText l = if ltb l 10 then digit l ∷ [] else digit (l / 10) ∷ digit l �
 unfoldable pub codeText : ℕ → List ℕ
 codeText c = space ∷ digit (c / 1000) ∷ digit (c / 100) ∷ digit (c / 10) ∷ digit c ∷ line-feed ∷ []
 
+-- How many bytes these are.
+abbrev pub code-size : ℕ
+code-size = 6
+
 -- The bytes of one line.
 unfoldable pub lineText : Line → List ℕ
 lineText x = levelText (x .level) ++ codeText (x .code)

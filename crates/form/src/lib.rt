@@ -6,3 +6,6 @@ pub use reading::Fault;
 pub use reading::LineRead;
 pub use reading::read;
 pub use writing::write;
+
+// How many bytes follow a level on its line: a space, four digits and LF.
+const CODE_SIZE: usize = 6;

@@ -1,4 +1,5 @@
 // A form read: its lines in one pass over the bytes, and the words of its nodes. Assumes nothing beyond each function's `requires`.
+ghost use mathlib.Core.Bool.{true};
 ghost use mathlib.Core.Path.{_≡_};
 ghost use Prim.Native.Nat.{_+_, _*_, _≤_, _<_};
 ghost use lib.ListN.{length, drop};
@@ -6,6 +7,7 @@ ghost use Rattle.figures.specs.Limits.{most-words};
 ghost use Rattle.order.specs.Answers.{writing};
 ghost use Rattle.form.specs.Reading.{faultNumber, readNumber, isDigit, figure, isCode, value, codeBehind, speltOf, formOf, readOf};
 ghost use Rattle.form.specs.Turns.{follows, nextOf, Parent, mayAdopt, adopted, Got};
+use crate::CODE_SIZE;
 use figures::Written;
 use figures::limits;
 use figures::numbers;
@@ -28,7 +30,7 @@ pub enum Fault {
 
 impl Fault {
     // 01's number for a fault.
-    pub fn number(self) -> u16
+    fn number(self) -> u16
         ensures { λ r. ⌜ r ≡ faultNumber self ⌝ }
     {
         match self {
@@ -54,7 +56,7 @@ pub enum LineRead {
 
 impl LineRead {
     // 01's number for a line: 0 for a node.
-    pub fn number(self) -> u16
+    fn number(self) -> u16
         ensures { λ r. ⌜ r ≡ readNumber self ⌝ }
     {
         match self {
@@ -102,14 +104,15 @@ fn is_code(s: u8, a: u8, b: u8, c: u8, d: u8, e: u8) -> bool
 
 // The number that a digit stands for.
 fn figure_of(b: u8) -> u16
-    ensures { λ r. ⌜ (r ≡ figure b) × (r < 208) ⌝ }
+    requires { ⌜ isDigit b ≡ true ⌝ }
+    ensures { λ r. ⌜ (r ≡ figure b) × (r < 10) ⌝ }
 {
-    if b < b'0' { 0 } else { (b - b'0') as u16 }
+    (b - b'0') as u16
 }
 
 // The number that four digits stand for.
 fn value_of(a: u8, b: u8, c: u8, d: u8) -> u16
-    requires { ⌜ a ≤ 57 ⌝ }
+    requires { ⌜ (isDigit a ≡ true) × (isDigit b ≡ true) × (isDigit c ≡ true) × (isDigit d ≡ true) ⌝ }
     ensures { λ r. ⌜ r ≡ value a b c d ⌝ }
 {
     figure_of(a) * 1000 + figure_of(b) * 100 + figure_of(c) * 10 + figure_of(d)
@@ -121,7 +124,7 @@ fn code_at(text: &[u8], at: usize, level: usize, w: usize) -> LineRead
     ensures { λ r. ⌜ r ≡ codeBehind level w (drop (at + w) (now (text .entry))) ⌝ }
 {
     let p = at + w;
-    if text.len() - p < 6 {
+    if text.len() - p < CODE_SIZE {
         return LineRead::Refused(Fault::Misspelt);
     }
     let s = text[p];
@@ -134,22 +137,8 @@ fn code_at(text: &[u8], at: usize, level: usize, w: usize) -> LineRead
         return LineRead::Refused(Fault::Misspelt);
     }
     let code = value_of(a, b, c, d);
-    let size = w + 6;
+    let size = w + CODE_SIZE;
     LineRead::Node { level, code, size }
-}
-
-// A level of one digit.
-fn one(x: u8) -> usize
-    ensures { λ r. ⌜ r ≡ figure x ⌝ }
-{
-    figure_of(x) as usize
-}
-
-// A level of two digits.
-fn two(x: u8, y: u8) -> usize
-    ensures { λ r. ⌜ r ≡ figure x * 10 + figure y ⌝ }
-{
-    one(x) * 10 + one(y)
 }
 
 // The line that starts at `at`, as it is spelt.
@@ -165,13 +154,15 @@ fn spelt_at(text: &[u8], at: usize) -> LineRead
     if !is_digit(x) {
         return LineRead::Refused(Fault::Misspelt);
     }
+    let first = figure_of(x);
     if !is_digit(y) {
-        return code_at(text, at, one(x), 1);
+        return code_at(text, at, first as usize, 1);
     }
     if x == b'0' {
         return LineRead::Refused(Fault::Misspelt);
     }
-    code_at(text, at, two(x, y), 2)
+    let level = first * 10 + figure_of(y);
+    code_at(text, at, level as usize, 2)
 }
 
 // Whether a line of this level may follow, with the levels below `top` open.

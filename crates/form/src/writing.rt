@@ -7,9 +7,10 @@ ghost use Rattle.figures.specs.Limits.{most-nodes, greatest-depth};
 ghost use Rattle.figures.specs.Numbers.{done};
 ghost use Rattle.order.specs.Reading.{causeOf};
 ghost use Rattle.order.specs.Answers.{writing};
-ghost use Rattle.form.specs.Text.{digit, levelText, codeText, lineText, spell};
+ghost use Rattle.form.specs.Text.{digit, code-size, levelText, codeText, lineText, spell};
 ghost use Rattle.form.specs.Writing.{writeOf};
 ghost use Rattle.form.specs.Turns.{linesIn, levelsOf, climbOf};
+use crate::CODE_SIZE;
 use figures::Written;
 use figures::limits;
 use figures::numbers;
@@ -50,7 +51,7 @@ fn put_level(out: &mut [u8], level: usize) -> usize
 
 // Writes a space, a code's four digits and LF to the front of `out`.
 fn put_code(out: &mut [u8], code: u16)
-    requires { ⌜ 6 ≤ length (now out) ⌝ }
+    requires { ⌜ code-size ≤ length (now out) ⌝ }
     ensures { λ _. ⌜ now (out .exit) ≡ over (codeText code) (now (out .entry)) ⌝ }
 {
     let n = code as usize;
@@ -70,7 +71,7 @@ fn put_line(out: &mut [u8], level: usize, code: u16) -> usize
 {
     let w = put_level(out, level);
     put_code(&mut out[w..], code);
-    w + 6
+    w + CODE_SIZE
 }
 
 // The deepest level, from one on upwards, that has trees to come; 0 where there is none.
@@ -105,7 +106,7 @@ fn levels_into(order: &[u16], levels: &mut [usize; limits::MOST_NODES]) -> usize
         let trees = left[level];
         left[level] = trees - 1;
         levels[line] = level;
-        bytes += level_size(level) + 6;
+        bytes += level_size(level) + CODE_SIZE;
         let below = level + 1;
         left[below] = order[2 * line + 1];
         level = climb(&left, below);

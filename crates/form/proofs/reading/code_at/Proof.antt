@@ -3,7 +3,7 @@ use mathlib.Core.Path.{sym, _∙_}
 use Prim.Native.Nat.{_+_}
 use native.Mathlib.Omega.{arith}
 use borrow.Author.Tests.{not-true, not-false}
-use Rattle.form.proofs.Spelling.{code-short, code-bad, code-good, code-digit}
+use Rattle.form.proofs.Spelling.{code-short, code-bad, code-good, of-code}
 use borrow.Author.Needs.{needs}
 use Rattle.form.proofs.reading.code_at.Statement.{statement}
 use Rattle.form.proofs.reading.code_at.Tie as tie
@@ -57,7 +57,7 @@ returns-2 : tie.Need-returns-2
 returns-2 c = let a = c .before .before .before .before .before .before .before .before .before .before .args in code-bad (a .level) (a .w) (a .at + a .w) (a .text .now) (omega arith) (sym (c .before .is-code .ensures) ∙ not-true _ (c .if2 .taken))
 
 value-of-requires : tie.Need-value-of-requires
-value-of-requires c κs = code-digit _ _ _ _ _ _ (sym (c .before .is-code .ensures) ∙ not-false _ (c .if2 .left))
+value-of-requires c κs = let q = of-code _ _ _ _ _ _ (sym (c .before .is-code .ensures) ∙ not-false _ (c .if2 .left)) in (q .first, q .second, q .third, q .fourth)
 
 add-size : tie.Need-add-size
 add-size c = search needs

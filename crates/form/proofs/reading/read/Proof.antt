@@ -1,5 +1,4 @@
 -- `form::reading::read` meets its contract, by what the lines were read as. Assumes nothing.
-use native.Mathlib.Omega.{arith}
 use Rattle.form.proofs.Answers.{refused-text, words-there, short-out, read-out}
 use borrow.Author.Needs.{needs}
 use Rattle.form.proofs.reading.read.Statement.{statement}

@@ -28,29 +28,41 @@ is-digit-requires c κs = search needs
 returns-2 : tie.Need-returns-2
 returns-2 c = let a = c .before .before .before .before .before .before .args in line-bad (a .at) (a .text .now) (omega arith) (sym (c .before .is-digit .ensures) ∙ not-true _ (c .if2 .taken))
 
+figure-of-requires : tie.Need-figure-of-requires
+figure-of-requires c κs = sym (c .before .is-digit .ensures) ∙ not-false _ (c .if2 .left)
+
 is-digit-requires-2 : tie.Need-is-digit-requires-2
 is-digit-requires-2 c κs = search needs
 
-one-requires : tie.Need-one-requires
-one-requires c κs = search needs
+cast-code-at : tie.Need-cast-code-at
+cast-code-at c = search needs
 
 code-at-requires : tie.Need-code-at-requires
 code-at-requires c κs = search needs
 
 returns-3 : tie.Need-returns-3
-returns-3 c = let a = c .before .before .before .before .before .before .before .before .before .before .args in c .code-at .ensures ∙ rw (c .before .one .ensures) (line-one (a .at) (a .text .now) (omega arith) (sym (c .before .before .before .before .before .is-digit .ensures) ∙ not-false _ (c .before .before .before .before .if2 .left)) (sym (c .before .before .before .is-digit2 .ensures) ∙ not-true _ (c .before .before .if3 .taken)))
+returns-3 c = let a = c .before .before .before .before .before .before .before .before .before .before .args in c .code-at .ensures ∙ rw (c .before .before .before .figure-of .ensures .0) (line-one (a .at) (a .text .now) (omega arith) (sym (c .before .before .before .before .before .is-digit .ensures) ∙ not-false _ (c .before .before .before .before .if2 .left)) (sym (c .before .before .is-digit2 .ensures) ∙ not-true _ (c .before .if3 .taken)))
 
 returns-4 : tie.Need-returns-4
-returns-4 c = let a = c .before .before .before .before .before .before .before .before .before .args in line-zero (a .at) (a .text .now) (omega arith) (sym (c .before .before .before .before .is-digit .ensures) ∙ not-false _ (c .before .before .before .if2 .left)) (sym (c .before .before .is-digit2 .ensures) ∙ not-false _ (c .before .if3 .left)) (c .if4 .taken)
+returns-4 c = let a = c .before .before .before .before .before .before .before .before .before .before .args in line-zero (a .at) (a .text .now) (omega arith) (sym (c .before .before .before .before .before .is-digit .ensures) ∙ not-false _ (c .before .before .before .before .if2 .left)) (sym (c .before .before .is-digit2 .ensures) ∙ not-false _ (c .before .if3 .left)) (c .if4 .taken)
 
-two-requires : tie.Need-two-requires
-two-requires c κs = search needs
+mul-level : tie.Need-mul-level
+mul-level c = search needs
+
+figure-of-requires-2 : tie.Need-figure-of-requires-2
+figure-of-requires-2 c κs = sym (c .before .before .is-digit2 .ensures) ∙ not-false _ (c .before .if3 .left)
+
+add-level : tie.Need-add-level
+add-level c = search needs
+
+cast-code-at-2 : tie.Need-cast-code-at-2
+cast-code-at-2 c = search needs
 
 code-at-requires-2 : tie.Need-code-at-requires-2
 code-at-requires-2 c κs = search needs
 
 returns-5 : tie.Need-returns-5
-returns-5 c = let a = c .before .before .before .before .before .before .before .before .before .before .before .args in c .code-at2 .ensures ∙ rw (c .before .two .ensures) (line-two (a .at) (a .text .now) (omega arith) (sym (c .before .before .before .before .before .before .is-digit .ensures) ∙ not-false _ (c .before .before .before .before .before .if2 .left)) (sym (c .before .before .before .before .is-digit2 .ensures) ∙ not-false _ (c .before .before .before .if3 .left)) (c .before .before .if4 .left))
+returns-5 c = let a = c .before .before .before .before .before .before .before .before .before .before .before .before .args in c .code-at2 .ensures ∙ rw (c .before .before .before .before .before .figure-of .ensures .0, c .before .figure-of2 .ensures .0) (line-two (a .at) (a .text .now) (omega arith) (sym (c .before .before .before .before .before .before .before .is-digit .ensures) ∙ not-false _ (c .before .before .before .before .before .before .if2 .left)) (sym (c .before .before .before .before .is-digit2 .ensures) ∙ not-false _ (c .before .before .before .if3 .left)) (c .before .before .if4 .left))
 
 pub spelt-at-spec : {M : Type 1} → statement M
 spelt-at-spec =
@@ -63,11 +75,15 @@ spelt-at-spec =
     shared-slice-read-y
     is-digit-requires
     returns-2
+    figure-of-requires
     is-digit-requires-2
-    one-requires
+    cast-code-at
     code-at-requires
     returns-3
     returns-4
-    two-requires
+    mul-level
+    figure-of-requires-2
+    add-level
+    cast-code-at-2
     code-at-requires-2
     returns-5)

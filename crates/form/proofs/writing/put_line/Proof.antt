@@ -6,13 +6,13 @@ use Rattle.form.proofs.writing.put_line.Statement.{statement}
 use Rattle.form.proofs.writing.put_line.Tie as tie
 
 put-level-requires : tie.Need-put-level-requires
-put-level-requires c κs = let a = c .before .before .args in omega (arith, line-size (a .level) (a .code))
+put-level-requires c κs = let a = c .before .before .args in omega (arith, line-size (record { level = a .level; code = a .code }))
 
 sub-put-code : tie.Need-sub-put-code
-sub-put-code c = let a = c .before .before .before .before .before .args in omega (arith, line-size (a .level) (a .code))
+sub-put-code c = let a = c .before .before .before .before .before .args in omega (arith, line-size (record { level = a .level; code = a .code }))
 
 part-put-code-start : tie.Need-part-put-code-start
-part-put-code-start c = let a = c .before .before .before .before .before .args in omega (arith, line-size (a .level) (a .code))
+part-put-code-start c = let a = c .before .before .before .before .before .args in omega (arith, line-size (record { level = a .level; code = a .code }))
 
 part-put-code-end : tie.Need-part-put-code-end
 part-put-code-end c = search needs
@@ -21,10 +21,10 @@ put-code-requires : tie.Need-put-code-requires
 put-code-requires c κs =
     let a = c .before .before .before .before .before .before .args in
     let p = c .before .before .before .put-level in
-    omega (arith, line-size (a .level) (a .code), part-size (p .result) (p .last .0))
+    omega (arith, line-size (record { level = a .level; code = a .code }), part-size (p .result) (p .last .0))
 
 add-result : tie.Need-add-result
-add-result c = let a = c .before .before .before .before .before .before .before .before .before .args in omega (arith, line-size (a .level) (a .code), c .before .before .before .before .before .before .before .before .before .good)
+add-result c = let a = c .before .before .before .before .before .before .before .before .before .args in omega (arith, line-size (record { level = a .level; code = a .code }), c .before .before .before .before .before .before .before .before .before .good)
 
 same-length : tie.Need-same-length
 same-length c = search needs
@@ -33,7 +33,7 @@ returns : tie.Need-returns
 returns c =
     let a = c .before .before .before .before .before .before .before .before .before .args in
     let p = c .before .before .before .before .before .before .put-level in
-    (omega (arith, line-size (a .level) (a .code)), line-over _ _ _ _ _ _ (c .before .before .before .before .before .before .before .before .before .pre) (p .ensures .0) (p .ensures .1) (c .before .before .put-code .ensures))
+    (omega (arith, line-size (record { level = a .level; code = a .code })), line-over _ _ _ _ _ _ (c .before .before .before .before .before .before .before .before .before .pre) (p .ensures .0) (p .ensures .1) (c .before .before .put-code .ensures))
 
 pub put-line-spec : {M : Type 1} → statement M
 put-line-spec =
