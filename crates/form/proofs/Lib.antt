@@ -6,6 +6,7 @@ mod Counts
 pub mod TreeLines
 pub mod Digits
 pub mod Unique
+pub mod FirstFault
 pub mod RoundTrip
 pub mod Grow
 pub mod Trips

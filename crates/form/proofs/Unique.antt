@@ -111,11 +111,11 @@ code-back l w (s ∷ a ∷ b ∷ c ∷ d ∷ n ∷ r) {level} {code} {size} e = 
 -- ---- lines
 
 -- What was read of a line is the line's text, and what is left is what follows it.
-record Lined (s : List ℕ) (level code size : ℕ) : Type 0 where
-  rest : List ℕ
-  is : s ≡ lineText (record { level = level; code = code }) ++ rest
-  left : drop size s ≡ rest
-  small : code ≤ greatest-code
+pub record Lined (s : List ℕ) (level code size : ℕ) : Type 0 where
+  pub rest : List ℕ
+  pub is : s ≡ lineText (record { level = level; code = code }) ++ rest
+  pub left : drop size s ≡ rest
+  pub small : code ≤ greatest-code
 
 -- One digit is the text of the level that it stands for.
 one-digit : (x : ℕ) → isDigit x ≡ true → levelText (figure x) ≡ x ∷ []
@@ -152,7 +152,7 @@ lined front s l {level} {code} {size} e k =
     }
 
 -- `Lined` holds of whatever is read as a node.
-line-back : (s : List ℕ) {level code size : ℕ} → speltOf s ≡ Node level code size → Lined s level code size
+pub line-back : (s : List ℕ) {level code size : ℕ} → speltOf s ≡ Node level code size → Lined s level code size
 unfolding speltOf if_then_else_
 line-back [] e = no-node e
 line-back (x ∷ []) e = no-node e

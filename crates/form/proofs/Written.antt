@@ -20,6 +20,7 @@ use Rattle.form.specs.Text.{Line, linesOf, lineText, spell, textOf}
 use Rattle.form.specs.Reading.{wordsOf}
 use Rattle.form.specs.Writing.{writeOf}
 use Rattle.form.specs.Turns.{linesIn, levelsOf}
+use Rattle.form.proofs.Counts.{length-words}
 use Rattle.form.proofs.TreeLines.{lines-words}
 use Rattle.form.proofs.Spelt.{over-part, spell-append, spell-more, levels-append, levels-size}
 
@@ -29,12 +30,6 @@ use Rattle.form.proofs.Spelt.{over-part, spell-append, spell-more, leve
 pub lines-in : (s : List ℕ) (t : Tree) → Passed s t → linesIn s ≡ linesOf t 0
 unfolding linesIn byOrder
 lines-in s t p = rw (p .is)
-
--- Lines have two words each.
-words-size : (xs : List Line) → length (wordsOf xs) ≡ 2 * length xs
-unfolding wordsOf
-words-size [] = refl
-words-size (x ∷ xs) = omega (arith, words-size xs)
 
 -- The words of lines behind others stand behind theirs.
 words-behind : (xs ys : List Line) → drop (2 * length xs) (wordsOf (xs ++ ys)) ≡ wordsOf ys
@@ -67,7 +62,7 @@ known s e =
     let p = has-tree s e .passes in
     let t = has-tree s e .tree in
     let w : s ≡ wordsOf (linesIn s) = p .spelt ∙ sym (lines-words t 0) ∙ ap wordsOf (sym (lines-in s t p)) in
-    let z : length s ≡ 2 * length (linesIn s) = ap length w ∙ words-size (linesIn s) in
+    let z : length s ≡ 2 * length (linesIn s) = ap length w ∙ length-words (linesIn s) in
     record { spelt = w; twice = z; few = omega (arith, size t, ap length (p .spelt), p .nodes) }
 
 -- ---- one line after the other
