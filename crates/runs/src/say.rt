@@ -1,4 +1,4 @@
-// How a line is said on standard output: text, numbers, words, and trees in the notation of document 000.
+// How a line is said on standard output: text, numbers, bytes, words, and trees in the notation of document 000.
 use libc::STDOUT_FILENO;
 ghost use Prim.Native.Nat.{_≤_};
 
@@ -15,6 +15,29 @@ pub fn word(n: u16) {
 // Says a count or a line in decimal.
 pub fn count(n: usize) {
     io::print_decimal(STDOUT_FILENO, n as u64);
+}
+
+// Says a byte: LF as |, and any other that does not print by its number.
+fn byte(b: u8) {
+    if b == b'\n' {
+        text(b"|");
+        return;
+    }
+    if b < b' ' || b'~' < b {
+        text(b"<");
+        word(b as u16);
+        text(b">");
+        return;
+    }
+    let one = [b];
+    text(&one);
+}
+
+// Says bytes so that they stand in one line.
+pub fn bytes(bytes: &[u8]) {
+    for i in 0..bytes.len() {
+        byte(bytes[i]);
+    }
 }
 
 // Ends a line.
