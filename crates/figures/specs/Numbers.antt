@@ -9,7 +9,7 @@ done = 0
 abbrev pub no-order : ℕ
 no-order = 1
 
--- the order is too long or too deep
+-- the order or the text is too long or too deep
 abbrev pub too-large : ℕ
 too-large = 2
 

@@ -6,7 +6,7 @@ pub const DONE: u16 = 0;
 // the words are no order
 pub const NO_ORDER: u16 = 1;
 
-// the order is too long or too deep
+// the order or the text is too long or too deep
 pub const TOO_LARGE: u16 = 2;
 
 // k is outside 2 to 6

@@ -12,19 +12,19 @@ use lib.Seq.{take-suc-set, take-set-lt, getD-take, drop-drop}
 use borrow.Author.Tests.{ne-eqb, eqb-false, leb-true, leb-false, ltb-false}
 use Rattle.words.specs.Base.{_and_, if_then_else_}
 use Rattle.words.proofs.Tests.{no-test}
-use Rattle.figures.specs.Limits.{most-nodes, most-words, most-children, greatest-depth}
+use Rattle.figures.specs.Limits.{least-code, most-nodes, most-words, most-children, greatest-depth}
 use Rattle.figures.specs.Numbers.{done, no-form}
 use Rattle.figures.specs.Answers.{refusedAt, wrote}
 use Rattle.figures.specs.declared.Written.{Written}
 use Rattle.form.specs.Text.{digit-0, Line}
 use Rattle.form.specs.Reading.{faultNumber, readNumber, isDigit, isCode, figure, codeBehind, speltOf, byLine, allowed, siblings, lineOf, inOrder, Form, fault, form, readLines, formOf, children, wordsOf}
-use Rattle.form.specs.Turns.{follows, nextOf, countPlace, Parent, mayAdopt, adopted, Got}
+use Rattle.form.specs.Turns.{follows, nextOf, countPlace, Parent, mayAdopt, adopted, Parents, underParent, countedIn, Got}
 use Rattle.form.specs.declared.reading.Fault.{Fault}
 use Rattle.form.specs.declared.reading.Fault.the-variants.{PastLast, NoOption, LevelNotAllowed, TooDeep, NinthChild}
 use Rattle.form.specs.declared.reading.LineRead.{LineRead}
 use Rattle.form.specs.declared.reading.LineRead.the-variants.{Node, Refused}
 use Rattle.form.proofs.Faults.{no-node, fault-number, fine-line, ninth-line, read-done, read-past, read-fault, read-on, some-bytes}
-use Rattle.form.proofs.Steps.{follows-seen, adopt-first, adopt-one, adopted-length, full-seen, one-seen}
+use Rattle.form.proofs.Steps.{follows-seen, adopt-first, adopt-one, adopted-length, full-seen, one-seen, Unadopted, handed, full, refused-seen, node-seen}
 use Rattle.form.proofs.Counts.{length-words, length-inOrder, Adopts, adopts, Kept, kept-on}
 
 -- ---- how many bytes a line takes
@@ -69,35 +69,35 @@ node-bounded {l = l} {c = c} {w = w} (bytes {w = v} p q) e = let z : v ≡ w = c
 -- ---- the next line, as the code reads it
 
 -- A node without a fault that can be told without its siblings.
-pub record NextIs (n top : ℕ) (s : List ℕ) (l c w : ℕ) : Type 0 where
+pub record NextIs (n greatest : ℕ) (s : List ℕ) (l c w : ℕ) : Type 0 where
   pub room : n < most-nodes
   pub spelt : speltOf s ≡ Node l c w
-  pub option : 1 ≤ c
-  pub may : follows top l ≡ true
+  pub option : least-code ≤ c
+  pub may : follows greatest l ≡ true
   pub shallow : l ≤ greatest-depth
 
 -- What a refusal of the next line says: there is no room for it, or it is refused behind any lines before it that allow the same levels.
-pub data NextNot (n top : ℕ) (s : List ℕ) (f : Fault) : Type 0 where
-  past : most-nodes ≤ n → f ≡ PastLast → NextNot n top s f
-  faulty : n < most-nodes → ((before : List Line) → ((l : ℕ) → allowed l before ≡ follows top l) → lineOf before s ≡ Refused f) → NextNot n top s f
+pub data NextNot (n greatest : ℕ) (s : List ℕ) (f : Fault) : Type 0 where
+  past : most-nodes ≤ n → f ≡ PastLast → NextNot n greatest s f
+  faulty : n < most-nodes → ((before : List Line) → ((l : ℕ) → allowed l before ≡ follows greatest l) → lineOf before s ≡ Refused f) → NextNot n greatest s f
 
 -- The next line is one or the other.
 abbrev Next : ℕ → ℕ → List ℕ → LineRead → Type 0
-Next n top s (Node l c w) = NextIs n top s l c w
-Next n top s (Refused f) = NextNot n top s f
+Next n greatest s (Node l c w) = NextIs n greatest s l c w
+Next n greatest s (Refused f) = NextNot n greatest s f
 
 -- `Next` holds of a spelt line within the limit, by cases.
-next-of : (n top : ℕ) (s : List ℕ) (r : LineRead) → n < most-nodes → speltOf s ≡ r → Next n top s (byLine r (λ level code size.
+next-of : (n greatest : ℕ) (s : List ℕ) (r : LineRead) → n < most-nodes → speltOf s ≡ r → Next n greatest s (byLine r (λ level code size.
     if eqb code 0 then Refused NoOption else
-    if not (follows top level) then Refused LevelNotAllowed else
+    if not (follows greatest level) then Refused LevelNotAllowed else
     if ltb greatest-depth level then Refused TooDeep else
     Node level code size) Refused)
 unfolding byLine lineOf if_then_else_
-next-of n top s (Refused f) h q = faulty h (λ before m. rw q refl)
-next-of n top s (Node level code size) h q = go (eqb code 0) (follows top level) (ltb greatest-depth level) refl refl refl
+next-of n greatest s (Refused f) h q = faulty h (λ before m. rw q refl)
+next-of n greatest s (Node level code size) h q = go (eqb code 0) (follows greatest level) (ltb greatest-depth level) refl refl refl
   where
-    go : (z a d : Bool) → eqb code 0 ≡ z → follows top level ≡ a → ltb greatest-depth level ≡ d
-        → Next n top s (if z then Refused NoOption else if not a then Refused LevelNotAllowed else if d then Refused TooDeep else Node level code size)
+    go : (z a d : Bool) → eqb code 0 ≡ z → follows greatest level ≡ a → ltb greatest-depth level ≡ d
+        → Next n greatest s (if z then Refused NoOption else if not a then Refused LevelNotAllowed else if d then Refused TooDeep else Node level code size)
     go true a d p₀ p₁ p₂ = faulty h (λ before m. rw (q, p₀) refl)
     go false false d p₀ p₁ p₂ = faulty h (λ before m. rw (q, p₀, m level, p₁) refl)
     go false true true p₀ p₁ p₂ = faulty h (λ before m. rw (q, p₀, m level, p₁, p₂) refl)
@@ -106,17 +106,17 @@ next-of n top s (Node level code size) h q = go (eqb code 0) (follows top level)
         record { room = h; spelt = q; option = omega arith; may = p₁; shallow = ltb-false _ _ p₂ }
 
 -- `Next` holds of any bytes.
-next-is : (n top : ℕ) (s : List ℕ) → Next n top s (nextOf n top s)
+next-is : (n greatest : ℕ) (s : List ℕ) → Next n greatest s (nextOf n greatest s)
 unfolding nextOf if_then_else_
-next-is n top s = go (leb most-nodes n) refl
+next-is n greatest s = go (leb most-nodes n) refl
   where
-    go : (b : Bool) → leb most-nodes n ≡ b → Next n top s (if b then Refused PastLast else byLine (speltOf s) (λ level code size.
+    go : (b : Bool) → leb most-nodes n ≡ b → Next n greatest s (if b then Refused PastLast else byLine (speltOf s) (λ level code size.
         if eqb code 0 then Refused NoOption else
-        if not (follows top level) then Refused LevelNotAllowed else
+        if not (follows greatest level) then Refused LevelNotAllowed else
         if ltb greatest-depth level then Refused TooDeep else
         Node level code size) Refused)
     go true e = past (leb-true _ _ e) refl
-    go false e = next-of n top s (speltOf s) (leb-false _ _ e) refl
+    go false e = next-of n greatest s (speltOf s) (leb-false _ _ e) refl
 
 -- ---- where a turn begins
 
@@ -149,7 +149,7 @@ none-before [] e = refl
 none-before (x ∷ before) e = no-test e
 
 -- The lines read and the room for more, and what the words and the latest lines say of them.
-pub record State (text words latest : List ℕ) (at n top : ℕ) : Type 0 where
+pub record State (text words latest : List ℕ) (at n greatest : ℕ) : Type 0 where
   pub room : ℕ
   pub before : List Line
   pub reads : formOf text ≡ readLines room before (drop at text)
@@ -158,9 +158,9 @@ pub record State (text words latest : List ℕ) (at n top : ℕ) : Type 0 where
   pub inside : at ≤ length text
   pub long : length words ≡ most-words
   pub deep : length latest ≡ suc greatest-depth
-  pub may : (l : ℕ) → allowed l before ≡ follows top l
+  pub may : (l : ℕ) → allowed l before ≡ follows greatest l
   pub wrote-words : take (2 * n) words ≡ wordsOf (inOrder before)
-  pub kept : Kept before top latest
+  pub kept : Kept before greatest latest
 
 -- Before line 1 nothing is read.
 pub start : (text words : List ℕ) → (length text ≡ 0 → ⊥) → length words ≡ most-words → State text words (replicate (suc greatest-depth) 0) 0 0 0
@@ -189,7 +189,7 @@ unfolding formOf
 no-text [] w r h a = (a, λ z. omega arith)
 no-text (b ∷ bs) w r h a = absurd (omega arith)
 
-module _ {text words latest : List ℕ} {at n top : ℕ} (s : State text words latest at n top) where
+module _ {text words latest : List ℕ} {at n greatest : ℕ} (s : State text words latest at n greatest) where
   -- Where all bytes are read, the words are those of the lines.
   pub all-read : (r : Written) → length text ≤ at → r ≡ wrote done (2 * n) → Got (formOf text) r words
   all-read r h a =
@@ -213,29 +213,25 @@ module _ {text words latest : List ℕ} {at n top : ℕ} (s : State text words l
       got-fault (formOf text) w (n + 1) r (one-more k ∙ read-fault (most-nodes - suc n) (s .before) (drop at text) (left h) e) (omega (arith, s .lines)) (fault-number f) a
 
   -- A refusal of the next line refuses the text.
-  next-refused : (r : Written) (f : Fault) → NextNot n top (drop at text) f → at < length text → r ≡ refusedAt (faultNumber f) (n + 1) → Got (formOf text) r words
-  next-refused r f (past k e) h a =
+  next-refused : (r : Written) (w : List ℕ) (f : Fault) → NextNot n greatest (drop at text) f → at < length text → r ≡ refusedAt (faultNumber f) (n + 1) → Got (formOf text) r w
+  next-refused r w f (past k e) h a =
       let z : s .room ≡ 0 = omega (arith, s .rooms) in
-      got-fault (formOf text) words (n + 1) r (s .reads ∙ ap (λ (m : ℕ). readLines m (s .before) (drop at text)) z ∙ read-past (s .before) (drop at text) (left h)) (omega (arith, s .lines)) (fault-number PastLast)
+      got-fault (formOf text) w (n + 1) r (s .reads ∙ ap (λ (m : ℕ). readLines m (s .before) (drop at text)) z ∙ read-past (s .before) (drop at text) (left h)) (omega (arith, s .lines)) (fault-number PastLast)
       (a ∙ ap (λ (g : Fault). refusedAt (faultNumber g) (n + 1)) e)
-  next-refused r f (faulty k g) h a = refuses r words h k (g (s .before) (s .may)) a
+  next-refused r w f (faulty k g) h a = refuses r w h k (g (s .before) (s .may)) a
 
-  -- The same, as the calls answered.
-  pub bad-line : (r : Written) {x : LineRead} {f : Fault} (k : ℕ) → at < length text → x ≡ nextOf n top (drop at text) → x ≡ Refused f → r ≡ refusedAt k (n + 1) → k ≡ readNumber x → Got (formOf text) r words
-  bad-line r {x} {f} k h e q a b = next-refused r f (subst (Next n top (drop at text)) (sym e ∙ q) (next-is n top (drop at text))) h (a ∙ ap (λ (m : ℕ). refusedAt m (n + 1)) (b ∙ ap readNumber q))
-
-  -- A node was read.
-  module _ {x : LineRead} {level code size : ℕ} (e : x ≡ nextOf n top (drop at text)) (q : x ≡ Node level code size) where
+  -- The next line is a node.
+  module _ {level code size : ℕ} (e : nextOf n greatest (drop at text) ≡ Node level code size) where
     -- The line that says it.
     abbrev line : Line
     line = record { level = level; code = code }
 
     -- What is known of it.
-    pub node : NextIs n top (drop at text) level code size
-    node = subst (Next n top (drop at text)) (sym e ∙ q) (next-is n top (drop at text))
+    node : NextIs n greatest (drop at text) level code size
+    node = subst (Next n greatest (drop at text)) e (next-is n greatest (drop at text))
 
     -- It takes some bytes, and no more than there are.
-    pub takes : (0 < size) × (at + size ≤ length text)
+    takes : (0 < size) × (at + size ≤ length text)
     takes =
         let b = node-bounded (line-bounded (drop at text)) (node .spelt) in
         let l : length (drop at text) ≡ length text - at = length-drop at text in
@@ -246,15 +242,15 @@ module _ {text words latest : List ℕ} {at n top : ℕ} (s : State text words l
     fits = s .may level ∙ node .may
 
     -- It stands below a line that is open.
-    below : (level ≤ top) × (level ≡ 0 → top ≡ 0)
-    below = follows-seen top level (node .may)
+    below : (level ≤ greatest) × (level ≡ 0 → greatest ≡ 0)
+    below = follows-seen greatest level (node .may)
 
     -- Its parent, if it has one, is the latest line of the level above.
     parent : 0 < level → Adopts (s .before) (getD latest (level - 1) 0) line
     parent h = adopts (s .kept (level - 1) (omega (arith, below .0))) line (omega arith)
 
     -- The parent has a place among the words.
-    pub has-parent : Parent words latest level
+    has-parent : Parent words latest level
     has-parent = (s .long, s .deep, node .shallow, λ h. omega (arith, parent h .inside, s .lines, node .room))
 
     -- There stands the number of its children so far.
@@ -265,10 +261,10 @@ module _ {text words latest : List ℕ} {at n top : ℕ} (s : State text words l
         sym (getD-take (2 * n) words (countPlace latest level) 0 k) ∙ ap (λ (w : List ℕ). getD w (countPlace latest level) 0) (s .wrote-words) ∙ p .had
 
     -- A ninth child refuses the text.
-    pub bad-child : (r : Written) (w : List ℕ) (k : ℕ) → at < length text → mayAdopt words latest level ≡ false → r ≡ refusedAt k (n + 1) → k ≡ faultNumber NinthChild → Got (formOf text) r w
-    bad-child r w k h m a b =
+    bad-child : (r : Written) (w : List ℕ) → at < length text → mayAdopt words latest level ≡ false → r ≡ refusedAt (faultNumber NinthChild) (n + 1) → Got (formOf text) r w
+    bad-child r w h m a =
         let f = full-seen words latest level m in
-        refuses r w h (node .room) (ninth-line (s .before) (drop at text) (node .spelt) (node .option) fits (node .shallow) (omega (arith, f .1, had (f .0)))) (a ∙ ap (λ (m : ℕ). refusedAt m (n + 1)) b)
+        refuses r w h (node .room) (ninth-line (s .before) (drop at text) (node .spelt) (node .option) fits (node .shallow) (omega (arith, f .1, had (f .0)))) a
 
     -- Line 1 has no lines before it.
     first : level ≡ 0 → s .before ≡ []
@@ -329,9 +325,45 @@ module _ {text words latest : List ℕ} {at n top : ℕ} (s : State text words l
           wrote-words = ap (λ (k : ℕ). take k (set (set (adopted words latest level) (2 * n) code) (2 * n + 1) 0)) z
               ∙ put-two (adopted words latest level) (2 * n) code 0 (omega (arith, node .room))
               ∙ front m;
-          kept = kept-on line (s .before) top latest n (s .kept) (below .0) (omega (arith, s .deep, node .shallow)) (sym (s .lines));
+          kept = kept-on line (s .before) greatest latest n (s .kept) (below .0) (omega (arith, s .deep, node .shallow)) (sym (s .lines));
         }
 
-    -- The same, with the words as the call that counted the child left them.
-    pub turn : (w : List ℕ) → mayAdopt words latest level ≡ true → w ≡ adopted words latest level → State text (set (set w (2 * n) code) (2 * n + 1) 0) (set latest level n) (at + size) (n + 1) (level + 1)
-    turn w m a = subst (λ (u : List ℕ). State text (set (set u (2 * n) code) (2 * n + 1) 0) (set latest level n) (at + size) (n + 1) (level + 1)) (sym a) (on m)
+  -- What counting the next line asks for.
+  pub parents : Parents (nextOf n greatest (drop at text)) words latest
+  parents = go (nextOf n greatest (drop at text)) refl
+    where
+      go : (y : LineRead) → nextOf n greatest (drop at text) ≡ y → Parents y words latest
+      go (Node level code size) e = has-parent e
+      go (Refused f) e = tt
+
+  -- A line that is refused refuses the text, as the calls answered.
+  pub bad-line : (r : Written) (w : List ℕ) {x : LineRead} {f : Fault} (k : ℕ) → at < length text → x ≡ underParent words latest (nextOf n greatest (drop at text)) → x ≡ Refused f → r ≡ refusedAt k (n + 1) → k ≡ readNumber x → Got (formOf text) r w
+  bad-line r w {x} {f} k h e q a b = go (refused-seen words latest (nextOf n greatest (drop at text)) (sym e ∙ q))
+    where
+      answer : r ≡ refusedAt (faultNumber f) (n + 1)
+      answer = a ∙ ap (λ (m : ℕ). refusedAt m (n + 1)) (b ∙ ap readNumber q)
+
+      go : Unadopted words latest (nextOf n greatest (drop at text)) f → Got (formOf text) r w
+      go (handed u) = next-refused r w f (subst (Next n greatest (drop at text)) u (next-is n greatest (drop at text))) h answer
+      go (full l c z u m g) = bad-child u r w h m (answer ∙ ap (λ (g : Fault). refusedAt (faultNumber g) (n + 1)) g)
+
+  -- A line that is read, as the calls answered: its node, its bytes, and the next turn.
+  module _ {x : LineRead} {level code size : ℕ} (e : x ≡ underParent words latest (nextOf n greatest (drop at text))) (q : x ≡ Node level code size) where
+    -- It is a node whose parent had room for it.
+    counted : (nextOf n greatest (drop at text) ≡ Node level code size) × (mayAdopt words latest level ≡ true)
+    counted = node-seen words latest (nextOf n greatest (drop at text)) (sym e ∙ q)
+
+    -- There is room for it and for its level.
+    pub room-for : (n < most-nodes) × (level ≤ greatest-depth)
+    room-for = let m = node (counted .0) in (m .room, m .shallow)
+
+    -- It takes some bytes, and no more than there are.
+    pub bytes-of : (0 < size) × (at + size ≤ length text)
+    bytes-of = takes (counted .0)
+
+    -- The next turn begins behind it, with the words as the call that counted it left them.
+    pub turn : (w : List ℕ) → w ≡ countedIn words latest (nextOf n greatest (drop at text)) → State text (set (set w (2 * n) code) (2 * n + 1) 0) (set latest level n) (at + size) (n + 1) (level + 1)
+    unfolding countedIn
+    turn w a =
+        let z : w ≡ adopted words latest level = a ∙ ap (countedIn words latest) (counted .0) in
+        subst (λ (u : List ℕ). State text (set (set u (2 * n) code) (2 * n + 1) 0) (set latest level n) (at + size) (n + 1) (level + 1)) (sym z) (on (counted .0) (counted .1))

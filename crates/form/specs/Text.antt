@@ -53,7 +53,7 @@ levelText l = if ltb l 10 then digit l ∷ [] else digit (l / 10) ∷ digit l �
 unfoldable pub codeText : ℕ → List ℕ
 codeText c = space ∷ digit (c / 1000) ∷ digit (c / 100) ∷ digit (c / 10) ∷ digit c ∷ line-feed ∷ []
 
--- How many bytes these are.
+-- How many bytes follow a level on its line.
 abbrev pub code-size : ℕ
 code-size = 6
 

@@ -13,23 +13,23 @@ use Rattle.order.specs.Reading.{byOrder, orderOf}
 use Rattle.figures.specs.declared.Written.{Written}
 use Rattle.form.specs.Text.{Line, linesOf}
 use Rattle.form.specs.Reading.{speltOf, byLine, Form, fault, form, wordsOf}
-use Rattle.form.specs.declared.reading.Fault.the-variants.{PastLast, NoOption, LevelNotAllowed, TooDeep}
+use Rattle.form.specs.declared.reading.Fault.the-variants.{PastLast, NoOption, LevelNotAllowed, TooDeep, NinthChild}
 use Rattle.form.specs.declared.reading.LineRead.{LineRead}
 use Rattle.form.specs.declared.reading.LineRead.the-variants.{Node, Refused}
 
 -- ---- reading
 
--- A line of that level may follow, with the levels below `top` open: on line 1 none is.
+-- A line of that level may follow, where `greatest` is the greatest level allowed: 0 for line 1, otherwise the previous plus 1.
 unfoldable pub follows : ℕ → ℕ → Bool
-follows top level = if eqb top 0 then eqb level 0 else within 1 top level
+follows greatest level = if eqb greatest 0 then eqb level 0 else within 1 greatest level
 
--- A line's faults that can be told without its siblings, behind n lines that leave the levels below `top` open.
+-- A line's faults that can be told without its siblings, behind n lines.
 unfoldable pub nextOf : ℕ → ℕ → List ℕ → LineRead
-nextOf n top bytes =
+nextOf n greatest bytes =
     if leb most-nodes n then Refused PastLast else
     byLine (speltOf bytes) (λ level code size.
     if eqb code 0 then Refused NoOption else
-    if not (follows top level) then Refused LevelNotAllowed else
+    if not (follows greatest level) then Refused LevelNotAllowed else
     if ltb greatest-depth level then Refused TooDeep else
     Node level code size) Refused
 
@@ -37,7 +37,8 @@ nextOf n top bytes =
 abbrev pub countPlace : List ℕ → ℕ → ℕ
 countPlace latest level = 2 * getD latest (level - 1) 0 + 1
 
--- Line 1 has no parent; that of any other line has a place among the words.
+-- What counting a child asks for: words for a whole order, a place for each level, a level within the depth, and, but for line 1, a
+-- parent that has a place among the words.
 abbrev pub Parent : List ℕ → List ℕ → ℕ → Type 0
 Parent words latest level = (length words ≡ most-words) × (length latest ≡ suc greatest-depth) × (level ≤ greatest-depth) × (0 < level → getD latest (level - 1) 0 < most-nodes)
 
@@ -55,6 +56,21 @@ adopted words latest level =
     then set words (countPlace latest level) (getD words (countPlace latest level) 0 + 1)
     else words
 
+-- What counting a line asks for, if it is a node.
+abbrev pub Parents : LineRead → List ℕ → List ℕ → Type 0
+Parents (Node level code size) words latest = Parent words latest level
+Parents (Refused f) words latest = Unit {0}
+
+-- A node whose parent may have no child more is a ninth child.
+unfoldable pub underParent : List ℕ → List ℕ → LineRead → LineRead
+underParent words latest (Node level code size) = if mayAdopt words latest level then Node level code size else Refused NinthChild
+underParent words latest (Refused f) = Refused f
+
+-- The words, with a node counted under its parent.
+unfoldable pub countedIn : List ℕ → List ℕ → LineRead → List ℕ
+countedIn words latest (Node level code size) = adopted words latest level
+countedIn words latest (Refused f) = words
+
 -- What reading the lines answers, with their words at the front of w.
 abbrev pub Got : Form → Written → List ℕ → Type 0
 Got (fault n line) r w = (r ≡ refusedAt n line) × (n ≡ done → ⊥)
@@ -71,7 +87,7 @@ unfoldable pub levelsOf : List Line → List ℕ
 levelsOf [] = []
 levelsOf (x ∷ xs) = x .level ∷ levelsOf xs
 
--- The deepest level, from one on upwards, at which `left` has trees to come; 0 where there is none.
+-- The deepest level, the given one or one above it, at which `left` has trees to come; 0 where there is none.
 unfoldable pub climbOf : List ℕ → ℕ → ℕ
 climbOf left zero = zero
 climbOf left (suc l) = if eqb (getD left (suc l) 0) 0 then climbOf left l else suc l

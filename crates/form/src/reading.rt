@@ -6,7 +6,7 @@ ghost use lib.ListN.{length, drop};
 ghost use Rattle.figures.specs.Limits.{most-words};
 ghost use Rattle.order.specs.Answers.{writing};
 ghost use Rattle.form.specs.Reading.{faultNumber, readNumber, isDigit, figure, isCode, value, codeBehind, speltOf, formOf, readOf};
-ghost use Rattle.form.specs.Turns.{follows, nextOf, Parent, mayAdopt, adopted, Got};
+ghost use Rattle.form.specs.Turns.{follows, nextOf, Parent, mayAdopt, adopted, Parents, underParent, countedIn, Got};
 use crate::CODE_SIZE;
 use figures::Written;
 use figures::limits;
@@ -165,24 +165,24 @@ fn spelt_at(text: &[u8], at: usize) -> LineRead
     code_at(text, at, level as usize, 2)
 }
 
-// Whether a line of this level may follow, with the levels below `top` open.
-fn may_follow(top: usize, level: usize) -> bool
-    ensures { λ r. ⌜ r ≡ follows top level ⌝ }
+// Whether a line of this level may follow, where `greatest` is the greatest level allowed: 0 for line 1, otherwise the previous plus 1.
+fn may_follow(greatest: usize, level: usize) -> bool
+    ensures { λ r. ⌜ r ≡ follows greatest level ⌝ }
 {
-    if top == 0 {
+    if greatest == 0 {
         return level == 0;
     }
     if level < 1 {
         return false;
     }
-    level <= top
+    level <= greatest
 }
 
-// The line that starts at `at`, behind n lines that leave the levels below `top` open: a node, or the first of its faults that can be
-// told without the line's siblings.
-fn next_line(text: &[u8], at: usize, n: usize, top: usize) -> LineRead
+// The line that starts at `at`, behind n lines, where `greatest` is the greatest level allowed: a node, or the first of its faults that
+// can be told without the line's siblings.
+fn next_line(text: &[u8], at: usize, n: usize, greatest: usize) -> LineRead
     requires { ⌜ at ≤ length (now text) ⌝ }
-    ensures { λ r. ⌜ r ≡ nextOf n top (drop at (now (text .entry))) ⌝ }
+    ensures { λ r. ⌜ r ≡ nextOf n greatest (drop at (now (text .entry))) ⌝ }
 {
     if limits::MOST_NODES <= n {
         return LineRead::Refused(Fault::PastLast);
@@ -199,7 +199,7 @@ fn next_line(text: &[u8], at: usize, n: usize, top: usize) -> LineRead
     if code == 0 {
         return LineRead::Refused(Fault::NoOption);
     }
-    if !may_follow(top, level) {
+    if !may_follow(greatest, level) {
         return LineRead::Refused(Fault::LevelNotAllowed);
     }
     if limits::GREATEST_DEPTH < level {
@@ -208,8 +208,8 @@ fn next_line(text: &[u8], at: usize, n: usize, top: usize) -> LineRead
     read
 }
 
-// Counts a line of this level as one more child of its parent, which is the line that `latest` has for the level above; whether the
-// parent may have one more. Line 1 has no parent.
+// Counts a line of this level as one more child of its parent, which is the line that `latest` has for the level above. Answers whether
+// the parent may have one more; if not, nothing is counted. Line 1 has no parent.
 fn adopt(words: &mut [u16; limits::MOST_WORDS], latest: &[usize; LEVELS], level: usize) -> bool
     requires { ⌜ Parent (now words) (now latest) level ⌝ }
     ensures may { λ r. ⌜ r ≡ mayAdopt (now (words .entry)) (now (latest .entry)) level ⌝ }
@@ -228,6 +228,34 @@ fn adopt(words: &mut [u16; limits::MOST_WORDS], latest: &[usize; LEVELS], level:
     true
 }
 
+// The line that starts at `at`, behind n lines: a node, which is counted under its parent, or its first fault.
+fn line_at(
+    text: &[u8],
+    at: usize,
+    n: usize,
+    greatest: usize,
+    words: &mut [u16; limits::MOST_WORDS],
+    latest: &[usize; LEVELS],
+) -> LineRead
+    requires { ⌜ (at ≤ length (now text)) × Parents (nextOf n greatest (drop at (now text))) (now words) (now latest) ⌝ }
+    ensures answered { λ r. ⌜ r ≡ underParent (now (words .entry)) (now (latest .entry)) (nextOf n greatest (drop at (now (text .entry)))) ⌝ }
+    ensures counted { λ _. ⌜ now (words .exit) ≡ countedIn (now (words .entry)) (now (latest .entry)) (nextOf n greatest (drop at (now (text .entry)))) ⌝ }
+{
+    let read = next_line(text, at, n, greatest);
+    let LineRead::Node {
+        level,
+        code: _,
+        size: _,
+    } = read
+    else {
+        return read;
+    };
+    if !adopt(words, latest, level) {
+        return LineRead::Refused(Fault::NinthChild);
+    }
+    read
+}
+
 // The lines of a text, in one pass: how many words they come to, which stand at the front of `words`, or the first line at fault. A node's
 // number of children is raised as each child is met; `latest` has the last line of each level.
 fn lines(text: &[u8], words: &mut [u16; limits::MOST_WORDS]) -> Written
@@ -240,22 +268,19 @@ fn lines(text: &[u8], words: &mut [u16; limits::MOST_WORDS]) -> Written
     let mut latest = [0usize; LEVELS];
     let mut at = 0;
     let mut n = 0;
-    let mut top = 0;
+    let mut greatest = 0;
     while at < text.len() {
         let line = n + 1;
-        let read = next_line(text, at, n, top);
+        let read = line_at(text, at, n, greatest, words, &latest);
         let LineRead::Node { level, code, size } = read else {
             return refused(read.number(), line);
         };
-        if !adopt(words, &latest, level) {
-            return refused(Fault::NinthChild.number(), line);
-        }
         let here = 2 * n;
         words[here] = code;
-        let below = here + 1;
-        words[below] = 0;
+        let children = here + 1;
+        words[children] = 0;
         latest[level] = n;
-        top = level + 1;
+        greatest = level + 1;
         n = line;
         at += size;
     }

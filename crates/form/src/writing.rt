@@ -74,7 +74,7 @@ fn put_line(out: &mut [u8], level: usize, code: u16) -> usize
     w + CODE_SIZE
 }
 
-// The deepest level, from one on upwards, that has trees to come; 0 where there is none.
+// The deepest level, `from` or one above it, that has trees to come; 0 where there is none.
 fn climb(left: &[u16; ROWS], from: usize) -> usize
     requires { ⌜ (length (now left) ≡ suc (suc greatest-depth)) × (from ≤ suc greatest-depth) ⌝ }
     ensures { λ r. ⌜ r ≡ climbOf (now (left .entry)) from ⌝ }

@@ -1,19 +1,28 @@
 -- `form::reading::lines` meets its contract: the loop's invariant says what is still to be read, and each turn reads one line. Assumes nothing.
-use mathlib.Core.Path.{sym, _∙_}
-use Prim.Native.Nat.{_-_}
+use Prim.Native.Nat.{_+_, _-_, _≤_, _<_}
 use native.Mathlib.Omega.{arith}
 use lib.ListN.{length}
-use borrow.Author.Tests.{not-true, not-false}
-use Rattle.form.proofs.Turn.{State, start, no-text, all-read, bad-line, node, takes, has-parent, bad-child, turn}
+use Rattle.figures.specs.Limits.{most-nodes, greatest-depth}
+use Rattle.form.proofs.Turn.{State, start, no-text, all-read, parents, bad-line, room-for, bytes-of, turn}
 use borrow.Author.Needs.{needs}
 use Rattle.form.proofs.reading.lines.Statement.{statement}
 use Rattle.form.proofs.reading.lines.Tie as tie
 
 abbrev Inv-loop : tie.InvT-loop
-Inv-loop text words₀ latest₀ at₀ n₀ top₀ words latest at n top = State text words latest at n top
+Inv-loop text words₀ latest₀ at₀ n₀ greatest₀ words latest at n greatest = State text words latest at n greatest
 
 abbrev μ-loop : tie.MeasureT-loop
-μ-loop text words₀ latest₀ at₀ n₀ top₀ words latest at n top = length text - at
+μ-loop text words₀ latest₀ at₀ n₀ greatest₀ words latest at n greatest = length text - at
+
+-- There is room for the line that was read, and for its level.
+room : (c : tie.After-known-told Inv-loop μ-loop) → (c .before .before .before .before .before .before .before .loop .n < most-nodes) × (c .before .read .given .0 .0 ≤ greatest-depth)
+room c = room-for (c .before .before .before .before .before .before .before .loop .inv) (c .before .before .before .line-at .ensures .0) (c .before .read .given .1)
+
+-- The line takes some bytes, and no more than there are.
+bytes : (c : tie.After-known-told Inv-loop μ-loop) →
+    let size = c .before .read .given .0 .1 .1 .0 in
+    (0 < size) × (c .before .before .before .before .before .before .before .loop .at + size ≤ length (c .before .before .before .before .before .before .before .before .before .before .args .text .now))
+bytes c = bytes-of (c .before .before .before .before .before .before .before .loop .inv) (c .before .before .before .line-at .ensures .0) (c .before .read .given .1)
 
 refused-requires : tie.Need-refused-requires Inv-loop μ-loop
 refused-requires c κs = search needs
@@ -27,8 +36,8 @@ loop-holds c = start _ _ (c .if1 .left) (c .before .before .pre)
 add-line : tie.Need-add-line Inv-loop μ-loop
 add-line c = search needs
 
-next-line-requires : tie.Need-next-line-requires Inv-loop μ-loop
-next-line-requires c κs = search needs
+line-at-requires : tie.Need-line-at-requires Inv-loop μ-loop
+line-at-requires c κs = let s = c .before .before .before .loop .inv in (s .inside, parents s)
 
 enum-known-read : tie.Need-enum-known-read Inv-loop μ-loop
 enum-known-read c = search needs
@@ -43,19 +52,7 @@ refused-requires-2 : tie.Need-refused-requires-2 Inv-loop μ-loop
 refused-requires-2 c κs = search needs
 
 returns-2 : tie.Need-returns-2 Inv-loop μ-loop
-returns-2 c = bad-line (c .before .before .before .before .before .before .loop .inv) _ _ (c .before .before .before .before .before .loop-test .taken) (c .before .before .before .before .next-line .ensures) (c .before .before .enum-told .given .1) (c .refused2 .ensures) (c .before .number .ensures)
-
-adopt-requires : tie.Need-adopt-requires Inv-loop μ-loop
-adopt-requires c κs = has-parent (c .before .before .before .before .before .before .before .loop .inv) (c .before .before .before .before .before .next-line .ensures) (c .before .before .before .read .given .1)
-
-number-requires-2 : tie.Need-number-requires-2 Inv-loop μ-loop
-number-requires-2 c κs = search needs
-
-refused-requires-3 : tie.Need-refused-requires-3 Inv-loop μ-loop
-refused-requires-3 c κs = search needs
-
-returns-3 : tie.Need-returns-3 Inv-loop μ-loop
-returns-3 c = bad-child (c .before .before .before .before .before .before .before .before .before .before .before .loop .inv) (c .before .before .before .before .before .before .before .before .before .next-line .ensures) (c .before .before .before .before .before .before .before .read .given .1) _ _ _ (c .before .before .before .before .before .before .before .before .before .before .loop-test .taken) (sym (c .before .before .before .adopt .ensures .0) ∙ not-true _ (c .before .before .if2 .taken)) (c .refused3 .ensures) (c .before .number2 .ensures)
+returns-2 c = bad-line (c .before .before .before .before .before .before .before .before .loop .inv) _ _ _ (c .before .before .before .before .before .before .before .loop-test .taken) (c .before .before .before .before .line-at .ensures .0) (c .before .before .enum-told .given .1) (c .refused2 .ensures) (c .before .number .ensures)
 
 mul-here : tie.Need-mul-here Inv-loop μ-loop
 mul-here c = search needs
@@ -64,34 +61,34 @@ mul-words : tie.Need-mul-words Inv-loop μ-loop
 mul-words c = search needs
 
 element-write-words : tie.Need-element-write-words Inv-loop μ-loop
-element-write-words c = let m = node (c .before .before .before .before .before .before .before .before .before .loop .inv) (c .before .before .before .before .before .before .before .next-line .ensures) (c .before .before .before .before .before .read .given .1) in omega (arith, m .room)
+element-write-words c = omega (arith, room c)
 
-add-below : tie.Need-add-below Inv-loop μ-loop
-add-below c = search needs
+add-children : tie.Need-add-children Inv-loop μ-loop
+add-children c = search needs
 
 mul-words-2 : tie.Need-mul-words-2 Inv-loop μ-loop
 mul-words-2 c = search needs
 
 element-write-words-2 : tie.Need-element-write-words-2 Inv-loop μ-loop
-element-write-words-2 c = let m = node (c .before .before .before .before .before .before .before .before .before .loop .inv) (c .before .before .before .before .before .before .before .next-line .ensures) (c .before .before .before .before .before .read .given .1) in omega (arith, m .room)
+element-write-words-2 c = omega (arith, room c)
 
 mul-latest : tie.Need-mul-latest Inv-loop μ-loop
-mul-latest c = let m = node (c .before .before .before .before .before .before .before .before .before .loop .inv) (c .before .before .before .before .before .before .before .next-line .ensures) (c .before .before .before .before .before .read .given .1) in omega (arith, m .shallow)
+mul-latest c = omega (arith, room c)
 
 array-write-latest : tie.Need-array-write-latest Inv-loop μ-loop
-array-write-latest c = let m = node (c .before .before .before .before .before .before .before .before .before .loop .inv) (c .before .before .before .before .before .before .before .next-line .ensures) (c .before .before .before .before .before .read .given .1) in omega (arith, m .shallow)
+array-write-latest c = omega (arith, room c)
 
-add-top : tie.Need-add-top Inv-loop μ-loop
-add-top c = let m = node (c .before .before .before .before .before .before .before .before .before .loop .inv) (c .before .before .before .before .before .before .before .next-line .ensures) (c .before .before .before .before .before .read .given .1) in omega (arith, m .shallow)
+add-greatest : tie.Need-add-greatest Inv-loop μ-loop
+add-greatest c = omega (arith, room c)
 
 add-at : tie.Need-add-at Inv-loop μ-loop
-add-at c = let t = takes (c .before .before .before .before .before .before .before .before .before .loop .inv) (c .before .before .before .before .before .before .before .next-line .ensures) (c .before .before .before .before .before .read .given .1) in omega (arith, t .1)
+add-at c = omega (arith, bytes c)
 
 loop-less : tie.Need-loop-less Inv-loop μ-loop
-loop-less c = let t = takes (c .before .before .before .before .before .before .before .before .before .loop .inv) (c .before .before .before .before .before .before .before .next-line .ensures) (c .before .before .before .before .before .read .given .1) in omega arith
+loop-less c = omega (arith, bytes c)
 
 loop-again : tie.Need-loop-again Inv-loop μ-loop
-loop-again c = turn (c .before .before .before .before .before .before .before .before .before .loop .inv) (c .before .before .before .before .before .before .before .next-line .ensures) (c .before .before .before .before .before .read .given .1) _ (sym (c .before .adopt .ensures .0) ∙ not-false _ (c .if2 .left)) (c .before .adopt .ensures .1)
+loop-again c = turn (c .before .before .before .before .before .before .before .loop .inv) (c .before .before .before .line-at .ensures .0) (c .before .read .given .1) _ (c .before .before .before .line-at .ensures .1)
 
 mul-count : tie.Need-mul-count Inv-loop μ-loop
 mul-count c = search needs
@@ -99,8 +96,8 @@ mul-count c = search needs
 wrote-requires : tie.Need-wrote-requires Inv-loop μ-loop
 wrote-requires c κs = search needs
 
-returns-4 : tie.Need-returns-4 Inv-loop μ-loop
-returns-4 c = all-read (c .before .before .loop .inv) _ (c .before .loop-test .left) (c .wrote .ensures)
+returns-3 : tie.Need-returns-3 Inv-loop μ-loop
+returns-3 c = all-read (c .before .before .loop .inv) _ (c .before .loop-test .left) (c .wrote .ensures)
 
 pub lines-spec : {M : Type 1} → statement M
 lines-spec =
@@ -112,28 +109,24 @@ lines-spec =
     returns
     loop-holds
     add-line
-    next-line-requires
+    line-at-requires
     enum-known-read
     enum-told
     number-requires
     refused-requires-2
     returns-2
-    adopt-requires
-    number-requires-2
-    refused-requires-3
-    returns-3
     mul-here
     mul-words
     element-write-words
-    add-below
+    add-children
     mul-words-2
     element-write-words-2
     mul-latest
     array-write-latest
-    add-top
+    add-greatest
     add-at
     loop-less
     loop-again
     mul-count
     wrote-requires
-    returns-4)
+    returns-3)

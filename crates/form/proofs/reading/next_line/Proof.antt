@@ -8,7 +8,7 @@ use Rattle.form.proofs.reading.next_line.Statement.{statement}
 use Rattle.form.proofs.reading.next_line.Tie as tie
 
 returns : tie.Need-returns
-returns c = let a = c .before .before .args in next-past (a .n) (a .top) (drop (a .at) (a .text .now)) (c .if1 .taken)
+returns c = let a = c .before .before .args in next-past (a .n) (a .greatest) (drop (a .at) (a .text .now)) (c .if1 .taken)
 
 spelt-at-requires : tie.Need-spelt-at-requires
 spelt-at-requires c κs = search needs
@@ -20,22 +20,22 @@ enum-told : tie.Need-enum-told
 enum-told c = search needs
 
 returns-2 : tie.Need-returns-2
-returns-2 c = let a = c .before .before .before .before .before .args in next-misspelt (a .n) (a .top) (drop (a .at) (a .text .now)) (c .before .before .before .if1 .left) (c .before .before .spelt-at .ensures) (c .enum-told .given .1)
+returns-2 c = let a = c .before .before .before .before .before .args in next-misspelt (a .n) (a .greatest) (drop (a .at) (a .text .now)) (c .before .before .before .if1 .left) (c .before .before .spelt-at .ensures) (c .enum-told .given .1)
 
 returns-3 : tie.Need-returns-3
-returns-3 c = let a = c .before .before .before .before .before .before .before .args in next-zero (a .n) (a .top) (drop (a .at) (a .text .now)) (c .before .before .before .before .before .if1 .left) (c .before .before .before .before .spelt-at .ensures) (c .before .before .read .given .1) (c .if2 .taken)
+returns-3 c = let a = c .before .before .before .before .before .before .before .args in next-zero (a .n) (a .greatest) (drop (a .at) (a .text .now)) (c .before .before .before .before .before .if1 .left) (c .before .before .before .before .spelt-at .ensures) (c .before .before .read .given .1) (c .if2 .taken)
 
 may-follow-requires : tie.Need-may-follow-requires
 may-follow-requires c κs = search needs
 
 returns-4 : tie.Need-returns-4
-returns-4 c = let a = c .before .before .before .before .before .before .before .before .before .args in next-level (a .n) (a .top) (drop (a .at) (a .text .now)) (c .before .before .before .before .before .before .before .if1 .left) (c .before .before .before .before .before .before .spelt-at .ensures) (c .before .before .before .before .read .given .1) (c .before .before .if2 .left) (sym (c .before .may-follow .ensures) ∙ not-true _ (c .if3 .taken))
+returns-4 c = let a = c .before .before .before .before .before .before .before .before .before .args in next-level (a .n) (a .greatest) (drop (a .at) (a .text .now)) (c .before .before .before .before .before .before .before .if1 .left) (c .before .before .before .before .before .before .spelt-at .ensures) (c .before .before .before .before .read .given .1) (c .before .before .if2 .left) (sym (c .before .may-follow .ensures) ∙ not-true _ (c .if3 .taken))
 
 returns-5 : tie.Need-returns-5
-returns-5 c = let a = c .before .before .before .before .before .before .before .before .before .before .args in next-deep (a .n) (a .top) (drop (a .at) (a .text .now)) (c .before .before .before .before .before .before .before .before .if1 .left) (c .before .before .before .before .before .before .before .spelt-at .ensures) (c .before .before .before .before .before .read .given .1) (c .before .before .before .if2 .left) (sym (c .before .before .may-follow .ensures) ∙ not-false _ (c .before .if3 .left)) (c .if4 .taken)
+returns-5 c = let a = c .before .before .before .before .before .before .before .before .before .before .args in next-deep (a .n) (a .greatest) (drop (a .at) (a .text .now)) (c .before .before .before .before .before .before .before .before .if1 .left) (c .before .before .before .before .before .before .before .spelt-at .ensures) (c .before .before .before .before .before .read .given .1) (c .before .before .before .if2 .left) (sym (c .before .before .may-follow .ensures) ∙ not-false _ (c .before .if3 .left)) (c .if4 .taken)
 
 returns-6 : tie.Need-returns-6
-returns-6 c = let a = c .before .before .before .before .before .before .before .before .before .before .args in next-node (a .n) (a .top) (drop (a .at) (a .text .now)) (c .before .before .before .before .before .before .before .before .if1 .left) (c .before .before .before .before .before .before .before .spelt-at .ensures) (c .before .before .before .before .before .read .given .1) (c .before .before .before .if2 .left) (sym (c .before .before .may-follow .ensures) ∙ not-false _ (c .before .if3 .left)) (c .if4 .left)
+returns-6 c = let a = c .before .before .before .before .before .before .before .before .before .before .args in next-node (a .n) (a .greatest) (drop (a .at) (a .text .now)) (c .before .before .before .before .before .before .before .before .if1 .left) (c .before .before .before .before .before .before .before .spelt-at .ensures) (c .before .before .before .before .before .read .given .1) (c .before .before .before .if2 .left) (sym (c .before .before .may-follow .ensures) ∙ not-false _ (c .before .if3 .left)) (c .if4 .left)
 
 pub next-line-spec : {M : Type 1} → statement M
 next-line-spec =

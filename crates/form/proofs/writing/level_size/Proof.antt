@@ -1,4 +1,4 @@
--- `form::level_size` meets its contract. Assumes nothing.
+-- `form::writing::level_size` meets its contract. Assumes nothing.
 use Rattle.form.proofs.Spelt.{one-byte, two-bytes}
 use Rattle.form.proofs.writing.level_size.Statement.{statement}
 use Rattle.form.proofs.writing.level_size.Tie as tie
