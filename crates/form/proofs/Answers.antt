@@ -10,8 +10,9 @@ use Rattle.figures.specs.Answers.{wrote}
 use Rattle.figures.specs.declared.Written.{Written}
 use Rattle.order.specs.Answers.{writing, write}
 use Rattle.order.proofs.Cuts.{no-room, has-room}
-use Rattle.form.specs.Reading.{Form, fault, form, byForm, formOf, wordsOf, readOf}
+use Rattle.form.specs.Reading.{Form, fault, form, formOf, wordsOf, readOf}
 use Rattle.form.specs.Turns.{Got}
+use Rattle.form.proofs.Trips.{form-write, fault-write}
 
 -- What the lines were read as, where the answer is 0: the words that the call is to write.
 record Words (text w out : List ℕ) (r : Written) : Type 0 where
@@ -24,13 +25,12 @@ record Words (text w out : List ℕ) (r : Written) : Type 0 where
 
 -- `Words` holds where the answer is 0, by cases of what the text is.
 words-of : (text w out : List ℕ) (r : Written) (f : Form) → formOf text ≡ f → Got f r w → r .number ≡ done → Words text w out r
-unfolding readOf byForm
 words-of text w out r (fault n line) q g e = absurd (g .1 (sym (ap (λ (a : Written). a .number) (g .0)) ∙ e))
 words-of text w out r (form xs) q g e =
     let c : r .count ≡ length (wordsOf xs) = ap (λ (a : Written). a .count) (g .0) in
     record {
       these = wordsOf xs;
-      call = rw q refl;
+      call = form-write text xs out q;
       size = sym c;
       stand = ap (λ (n : ℕ). take n w) c ∙ g .1;
       answer = g .0 ∙ ap (wrote done) (sym c);
@@ -39,8 +39,7 @@ words-of text w out r (form xs) q g e =
 
 -- The answer of a text that is refused, by cases of what the text is.
 refused-of : (text w out : List ℕ) (r : Written) (f : Form) → formOf text ≡ f → Got f r w → (r .number ≡ done → ⊥) → writing r out ≡ readOf text out
-unfolding readOf byForm
-refused-of text w out r (fault n line) q g e = rw (q, g .0) refl
+refused-of text w out r (fault n line) q g e = ap (λ (a : Written). writing a out) (g .0) ∙ sym (fault-write text out q)
 refused-of text w out r (form xs) q g e = absurd (e (ap (λ (a : Written). a .number) (g .0)))
 
 module _ (text w out : List ℕ) (r : Written) (g : Got (formOf text) r w) where

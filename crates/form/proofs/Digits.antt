@@ -1,6 +1,6 @@
 -- A spelt line is read back, and so are spelt lines, each of which may stand behind those before it. Assumes nothing.
 use mathlib.Core.Path.{_≡_, refl, ap, sym, _∙_}
-use mathlib.Core.List.{List, [], _∷_, _++_, append-assoc, append-nil}
+use mathlib.Core.List.{List, [], _∷_, _++_, append-assoc, reverseAux}
 use mathlib.Core.Bool.{Bool, true, false}
 use Prim.Native.Nat.{ℕ, zero, suc, _+_, _*_, _-_, _/_, _%_, _≤_, _<_}
 use native.Mathlib.Nat.{div-div-eq-div-mul, div-add-mod, mod-eq-of-lt}
@@ -8,14 +8,15 @@ use native.Mathlib.Omega.{arith}
 use lib.Dec.{ltb}
 use lib.ListN.{length}
 use lib.Seq.{drop-append-seam}
-use borrow.Author.Tests.{le-leb, ne-eqb, lt-ltb, le-ltb, ltb-true, ltb-false}
+use borrow.Author.Tests.{le-leb, ne-eqb, ltb-true, ltb-false}
 use Rattle.words.specs.Base.{_and_, if_then_else_}
 use Rattle.figures.specs.Limits.{greatest-code}
 use Rattle.form.specs.Text.{digit-0, digit-9, space, line-feed, digit, code-size, Line, levelText, codeText, lineText, spell}
-use Rattle.form.specs.Reading.{isDigit, figure, value, isCode, codeBehind, speltOf, inOrder, readLines}
+use Rattle.form.specs.Reading.{isDigit, figure, value, isCode, codeBehind, speltOf, readLines}
+use Rattle.form.specs.Faults.{Legal, greatest-level}
 use Rattle.form.specs.declared.reading.LineRead.the-variants.{Node}
-use Rattle.form.proofs.Spelt.{line-size}
-use Rattle.form.proofs.Faults.{Fine, fine-line, read-on}
+use Rattle.form.proofs.Spelt.{one-digit, two-digits, line-size}
+use Rattle.form.proofs.Faults.{fine-line, read-on}
 
 -- ---- digits
 
@@ -73,21 +74,21 @@ code-read l w c r h =
 
 -- A level of one digit is read as itself.
 short-level : (l b : ℕ) (r : List ℕ) → l < 10 → isDigit b ≡ false → speltOf (levelText l ++ (b ∷ r)) ≡ codeBehind l (length (levelText l)) (b ∷ r)
-unfolding levelText speltOf if_then_else_
+unfolding speltOf if_then_else_
 short-level l b r h e =
     let z : figure (digit l) ≡ l = omega arith in
-    rw (lt-ltb l 10 h, is-digit l, e) (ap (λ (m : ℕ). codeBehind m 1 (b ∷ r)) z)
+    rw (one-digit l h, is-digit l, e) (ap (λ (m : ℕ). codeBehind m 1 (b ∷ r)) z)
 
 -- A level of two digits is read as itself.
-long-level : (l b : ℕ) (r : List ℕ) → 10 ≤ l → l < 100 → speltOf (levelText l ++ (b ∷ r)) ≡ codeBehind l (length (levelText l)) (b ∷ r)
-unfolding levelText speltOf if_then_else_
+long-level : (l b : ℕ) (r : List ℕ) → 10 ≤ l → l ≤ greatest-level → speltOf (levelText l ++ (b ∷ r)) ≡ codeBehind l (length (levelText l)) (b ∷ r)
+unfolding speltOf if_then_else_
 long-level l b r g h =
     let z : figure (digit (l / 10)) * 10 + figure (digit l) ≡ l = omega arith in
     let n : digit (l / 10) ≡ digit-0 → ⊥ = λ e. omega arith in
-    rw (le-ltb l 10 g, is-digit (l / 10), is-digit l, ne-eqb (digit (l / 10)) digit-0 n) (ap (λ (m : ℕ). codeBehind m 2 (b ∷ r)) z)
+    rw (two-digits l g, is-digit (l / 10), is-digit l, ne-eqb (digit (l / 10)) digit-0 n) (ap (λ (m : ℕ). codeBehind m 2 (b ∷ r)) z)
 
 -- A level before a byte that is no digit is read as itself, and the code is looked for behind it.
-pub level-read : (l b : ℕ) (r : List ℕ) → l < 100 → isDigit b ≡ false → speltOf (levelText l ++ (b ∷ r)) ≡ codeBehind l (length (levelText l)) (b ∷ r)
+pub level-read : (l b : ℕ) (r : List ℕ) → l ≤ greatest-level → isDigit b ≡ false → speltOf (levelText l ++ (b ∷ r)) ≡ codeBehind l (length (levelText l)) (b ∷ r)
 level-read l b r h e = go (ltb l 10) refl
   where
     go : (t : Bool) → ltb l 10 ≡ t → speltOf (levelText l ++ (b ∷ r)) ≡ codeBehind l (length (levelText l)) (b ∷ r)
@@ -97,7 +98,7 @@ level-read l b r h e = go (ltb l 10) refl
 -- ---- lines
 
 -- A spelt line is read as the line, and takes its own bytes.
-line-read : (x : Line) (r : List ℕ) → x .level < 100 → x .code ≤ greatest-code → speltOf (lineText x ++ r) ≡ Node (x .level) (x .code) (length (lineText x))
+pub line-read : (x : Line) (r : List ℕ) → x .level ≤ greatest-level → x .code ≤ greatest-code → speltOf (lineText x ++ r) ≡ Node (x .level) (x .code) (length (lineText x))
 unfolding lineText codeText
 line-read x r h k =
     ap speltOf (append-assoc (levelText (x .level)) (codeText (x .code)) r)
@@ -105,39 +106,17 @@ line-read x r h k =
     ∙ code-read (x .level) (length (levelText (x .level))) (x .code) r k
     ∙ ap (Node (x .level) (x .code)) (sym (line-size x))
 
--- Each line has a code of four figures, and may stand behind those before it, which are listed the last first.
-abbrev pub Legal : List Line → List Line → Type 0
-Legal before [] = Unit {0}
-Legal before (x ∷ xs) = (x .code ≤ greatest-code) × Fine before (x .level) (x .code) × Legal (x ∷ before) xs
-
--- The lines read, the last first, once xs are read too.
-unfoldable pub push : List Line → List Line → List Line
-push [] before = before
-push (x ∷ xs) before = push xs (x ∷ before)
-
--- In the order of the text they are those before, and then xs.
-pub push-order : (xs before : List Line) → inOrder (push xs before) ≡ inOrder before ++ xs
-unfolding push inOrder
-push-order [] before = sym (append-nil (inOrder before))
-push-order (x ∷ xs) before = push-order xs (x ∷ before) ∙ append-assoc (inOrder before) (x ∷ []) xs
-
--- There are as many as those before and xs together.
-pub push-length : (xs before : List Line) → length (push xs before) ≡ length before + length xs
-unfolding push
-push-length [] before = omega arith
-push-length (x ∷ xs) before = omega (arith, push-length xs (x ∷ before))
-
 -- Lines that may stand there are read, and then the rest decides.
-pub read-spelt : (room : ℕ) (xs before : List Line) (rest : List ℕ) → Legal before xs → length xs ≤ room → readLines room before (spell xs ++ rest) ≡ readLines (room - length xs) (push xs before) rest
-unfolding spell push
+pub read-spelt : (room : ℕ) (xs before : List Line) (rest : List ℕ) → Legal before xs → length xs ≤ room → readLines room before (spell xs ++ rest) ≡ readLines (room - length xs) (reverseAux xs before) rest
+unfolding spell
 read-spelt room [] before rest g h = let z : room ≡ room - 0 = omega arith in ap (λ (n : ℕ). readLines n before rest) z
 read-spelt zero (x ∷ xs) before rest g h = absurd (omega arith)
 read-spelt (suc room) (x ∷ xs) before rest g h =
     let f = g .1 in
-    let l : x .level < 100 = omega (arith, f .shallow) in
+    let l : x .level ≤ greatest-level = omega (arith, f .shallow) in
     let z : room - length xs ≡ suc room - suc (length xs) = omega arith in
     ap (readLines (suc room) before) (append-assoc (lineText x) (spell xs) rest)
     ∙ read-on room before (lineText x ++ (spell xs ++ rest)) (fine-line before (lineText x ++ (spell xs ++ rest)) (line-read x (spell xs ++ rest) l (g .0)) f)
     ∙ ap (readLines room (x ∷ before)) (drop-append-seam (lineText x) (spell xs ++ rest))
     ∙ read-spelt room xs (x ∷ before) rest (g .2) (omega arith)
-    ∙ ap (λ (n : ℕ). readLines n (push xs (x ∷ before)) rest) z
+    ∙ ap (λ (n : ℕ). readLines n (reverseAux xs (x ∷ before)) rest) z

@@ -1,18 +1,19 @@
 -- What a line is read as behind those before it, and what the whole text is then. Assumes nothing.
-use mathlib.Core.Path.{_≡_, refl, ap, sym, _∙_}
+use mathlib.Core.Path.{_≡_, refl, subst}
 use mathlib.Core.Bool.{Bool, true, false, not}
 use mathlib.Core.List.{List, [], _∷_}
 use Prim.Native.Nat.{ℕ, zero, suc, _≤_, _<_}
 use native.Mathlib.Omega.{arith}
 use lib.Dec.{leb, ltb, eqb}
 use lib.ListN.{length, drop}
-use borrow.Author.Tests.{lt-leb, le-leb, le-ltb, ne-eqb, eqb-false, leb-true, leb-false, ltb-false}
-use Rattle.words.specs.Base.{_and_, if_then_else_, within}
+use borrow.Author.Tests.{lt-leb, le-leb, lt-ltb, le-ltb, eq-eqb, ne-eqb, eqb-true, eqb-false, leb-true, leb-false, ltb-true, ltb-false}
+use Rattle.words.specs.Base.{if_then_else_, within}
 use Rattle.words.proofs.Tests.{and-left, and-right}
-use Rattle.figures.specs.Limits.{most-nodes, most-children, greatest-depth}
-use Rattle.figures.specs.Numbers.{done, no-form}
+use Rattle.figures.specs.Limits.{least-code, most-nodes, most-children, greatest-depth}
+use Rattle.figures.specs.Numbers.{done}
 use Rattle.form.specs.Text.{Line}
 use Rattle.form.specs.Reading.{faultNumber, speltOf, byLine, allowed, siblings, lineOf, inOrder, fault, form, readLines, formOf}
+use Rattle.form.specs.Faults.{Fine}
 use Rattle.form.specs.declared.reading.Fault.{Fault}
 use Rattle.form.specs.declared.reading.Fault.the-variants.{PastLast, Misspelt, NoOption, LevelNotAllowed, TooDeep, NinthChild}
 use Rattle.form.specs.declared.reading.LineRead.{LineRead}
@@ -35,13 +36,6 @@ fault-number NinthChild e = omega arith
 
 -- ---- a line without fault
 
--- A line of that level and code may stand behind those before it.
-pub record Fine (before : List Line) (level code : ℕ) : Type 0 where
-  pub option : 1 ≤ code
-  pub follows : allowed level before ≡ true
-  pub shallow : level ≤ greatest-depth
-  pub child : siblings level before < most-children
-
 -- Both sides of a range that a number lies in.
 pub within-both : (least greatest n : ℕ) → within least greatest n ≡ true → (least ≤ n) × (n ≤ greatest)
 within-both least greatest n e = (leb-true _ _ (and-left (leb least n) (leb n greatest) e), leb-true _ _ (and-right (leb least n) (leb n greatest) e))
@@ -52,51 +46,79 @@ unfolding lineOf byLine if_then_else_
 fine-line before s {l} {c} {w} e f =
     rw (e, ne-eqb c 0 (let h = f .option in λ z. omega arith), f .follows, le-ltb greatest-depth l (f .shallow), lt-leb most-children (siblings l before) (f .child)) refl
 
+-- ---- a line at fault
+
+-- Bytes that are refused by their spelling are refused so behind any lines.
+pub misspelt-line : (before : List Line) (s : List ℕ) {f : Fault} → speltOf s ≡ Refused f → lineOf before s ≡ Refused f
+unfolding lineOf byLine
+misspelt-line before s e = rw e
+
+-- A spelt line of code 0000 is refused for its code.
+pub zero-line : (before : List Line) (s : List ℕ) {l c w : ℕ} → speltOf s ≡ Node l c w → c ≡ 0 → lineOf before s ≡ Refused NoOption
+unfolding lineOf byLine if_then_else_
+zero-line before s {l} {c} e o = rw (e, eq-eqb c 0 o) refl
+
+-- A spelt line with an option, of a level that is not allowed, is refused for its level.
+pub level-line : (before : List Line) (s : List ℕ) {l c w : ℕ} → speltOf s ≡ Node l c w → least-code ≤ c → allowed l before ≡ false → lineOf before s ≡ Refused LevelNotAllowed
+unfolding lineOf byLine if_then_else_
+level-line before s {l} {c} e o a = rw (e, ne-eqb c 0 (λ z. omega arith), a) refl
+
+-- A spelt line with an option, of a level that is allowed but over 12, is too deep.
+pub deep-line : (before : List Line) (s : List ℕ) {l c w : ℕ} → speltOf s ≡ Node l c w → least-code ≤ c → allowed l before ≡ true → greatest-depth < l → lineOf before s ≡ Refused TooDeep
+unfolding lineOf byLine if_then_else_
+deep-line before s {l} {c} e o a d = rw (e, ne-eqb c 0 (λ z. omega arith), a, lt-ltb greatest-depth l d) refl
+
 -- A spelt line that lacks nothing but room under its parent is a ninth child.
-pub ninth-line : (before : List Line) (s : List ℕ) {l c w : ℕ} → speltOf s ≡ Node l c w → 1 ≤ c → allowed l before ≡ true → l ≤ greatest-depth → most-children ≤ siblings l before → lineOf before s ≡ Refused NinthChild
+pub ninth-line : (before : List Line) (s : List ℕ) {l c w : ℕ} → speltOf s ≡ Node l c w → least-code ≤ c → allowed l before ≡ true → l ≤ greatest-depth → most-children ≤ siblings l before → lineOf before s ≡ Refused NinthChild
 unfolding lineOf byLine if_then_else_
 ninth-line before s {l} {c} e o a d n =
     rw (e, ne-eqb c 0 (λ z. omega arith), a, le-ltb greatest-depth l d, le-leb most-children (siblings l before) n) refl
 
--- What reading a line says, if it reads a node.
-pub record Seen (before : List Line) (s : List ℕ) (l c w : ℕ) : Type 0 where
-  pub spelt : speltOf s ≡ Node l c w
-  pub fine : Fine before l c
+-- ---- what a line is read as, by its tests
 
--- `Seen` holds of a spelt line that passes the tests, by cases.
-seen-of : (before : List Line) (s : List ℕ) (r : LineRead) {l c w : ℕ} → speltOf s ≡ r
-    → byLine r (λ level code size.
+-- Which tests the front of the bytes passed and failed, behind the lines before, by what it is read as.
+pub data Seen (before : List Line) (s : List ℕ) : LineRead → Type 0 where
+  unspelt : {f : Fault} → speltOf s ≡ Refused f → Seen before s (Refused f)
+  zero-code : {l c w : ℕ} → speltOf s ≡ Node l c w → c ≡ 0 → Seen before s (Refused NoOption)
+  bad-level : {l c w : ℕ} → speltOf s ≡ Node l c w → least-code ≤ c → allowed l before ≡ false → Seen before s (Refused LevelNotAllowed)
+  deep : {l c w : ℕ} → speltOf s ≡ Node l c w → least-code ≤ c → allowed l before ≡ true → greatest-depth < l → Seen before s (Refused TooDeep)
+  ninth : {l c w : ℕ} → speltOf s ≡ Node l c w → least-code ≤ c → allowed l before ≡ true → l ≤ greatest-depth → most-children ≤ siblings l before → Seen before s (Refused NinthChild)
+  fine : {l c w : ℕ} → speltOf s ≡ Node l c w → Fine before l c → Seen before s (Node l c w)
+
+-- `Seen` holds of whatever the tests give.
+seen-of : (before : List Line) (s : List ℕ) (r : LineRead) → speltOf s ≡ r
+    → Seen before s (byLine r (λ level code size.
     if eqb code 0 then Refused NoOption else
     if not (allowed level before) then Refused LevelNotAllowed else
     if ltb greatest-depth level then Refused TooDeep else
     if leb most-children (siblings level before) then Refused NinthChild else
-    Node level code size) Refused ≡ Node l c w
-    → Seen before s l c w
+    Node level code size) Refused)
 unfolding byLine if_then_else_
-seen-of before s (Refused f) q e = no-node e
-seen-of before s (Node level code size) {l} {c} {w} q e = go (eqb code 0) (allowed level before) (ltb greatest-depth level) (leb most-children (siblings level before)) refl refl refl refl e
+seen-of before s (Refused f) q = unspelt q
+seen-of before s (Node l c w) q = go (eqb c 0) (allowed l before) (ltb greatest-depth l) (leb most-children (siblings l before)) refl refl refl refl
   where
-    go : (z a d n : Bool) → eqb code 0 ≡ z → allowed level before ≡ a → ltb greatest-depth level ≡ d → leb most-children (siblings level before) ≡ n
-        → (if z then Refused NoOption else if not a then Refused LevelNotAllowed else if d then Refused TooDeep else if n then Refused NinthChild else Node level code size) ≡ Node l c w → Seen before s l c w
-    go true a d n p₀ p₁ p₂ p₃ e = no-node e
-    go false false d n p₀ p₁ p₂ p₃ e = no-node e
-    go false true true n p₀ p₁ p₂ p₃ e = no-node e
-    go false true false true p₀ p₁ p₂ p₃ e = no-node e
-    go false true false false p₀ p₁ p₂ p₃ e =
-        let x : level ≡ l = cc in
-        let y : code ≡ c = cc in
-        let o : code ≡ 0 → ⊥ = eqb-false _ _ p₀ in
-        let m : level ≤ greatest-depth = ltb-false _ _ p₂ in
-        let k : siblings level before < most-children = leb-false _ _ p₃ in
-        record {
-          spelt = q ∙ e;
-          fine = record { option = omega arith; follows = ap (λ (m : ℕ). allowed m before) (sym x) ∙ p₁; shallow = omega arith; child = omega (arith, ap (λ (m : ℕ). siblings m before) x) };
-        }
+    some : eqb c 0 ≡ false → least-code ≤ c
+    some e = let o : c ≡ 0 → ⊥ = eqb-false _ _ e in omega arith
+
+    go : (z a d n : Bool) → eqb c 0 ≡ z → allowed l before ≡ a → ltb greatest-depth l ≡ d → leb most-children (siblings l before) ≡ n
+        → Seen before s (if z then Refused NoOption else if not a then Refused LevelNotAllowed else if d then Refused TooDeep else if n then Refused NinthChild else Node l c w)
+    go true a d n p₀ p₁ p₂ p₃ = zero-code q (eqb-true _ _ p₀)
+    go false false d n p₀ p₁ p₂ p₃ = bad-level q (some p₀) p₁
+    go false true true n p₀ p₁ p₂ p₃ = deep q (some p₀) p₁ (ltb-true _ _ p₂)
+    go false true false true p₀ p₁ p₂ p₃ = ninth q (some p₀) p₁ (ltb-false _ _ p₂) (leb-true _ _ p₃)
+    go false true false false p₀ p₁ p₂ p₃ = fine q (record { option = some p₀; follows = p₁; shallow = ltb-false _ _ p₂; child = leb-false _ _ p₃ })
+
+-- `Seen` holds of whatever a line is read as.
+pub seen : (before : List Line) (s : List ℕ) {r : LineRead} → lineOf before s ≡ r → Seen before s r
+unfolding lineOf
+seen before s e = subst (Seen before s) e (seen-of before s (speltOf s) refl)
 
 -- A line that is read is spelt so, and may stand behind those before it.
-pub seen : (before : List Line) (s : List ℕ) {l c w : ℕ} → lineOf before s ≡ Node l c w → Seen before s l c w
-unfolding lineOf
-seen before s e = seen-of before s (speltOf s) refl e
+pub node-seen : (before : List Line) (s : List ℕ) {l c w : ℕ} → lineOf before s ≡ Node l c w → (speltOf s ≡ Node l c w) × Fine before l c
+node-seen before s {l} {c} {w} e = go (seen before s e)
+  where
+    go : Seen before s (Node l c w) → (speltOf s ≡ Node l c w) × Fine before l c
+    go (fine q f) = (q, f)
 
 -- ---- the whole text, by its next line
 
@@ -134,22 +156,3 @@ pub some-bytes : (s : List ℕ) → 0 < length s → formOf s ≡ readLines most
 unfolding formOf
 some-bytes [] h = absurd (omega arith)
 some-bytes (b ∷ bs) h = refl
-
--- Lines are never refused by 0.
-lines-refused : (room : ℕ) (before : List Line) (s : List ℕ) {n line : ℕ} → readLines room before s ≡ fault n line → n ≡ done → ⊥
-unfolding readLines byLine
-lines-refused zero before [] e z = let y : _≡_ {A = ℕ} 0 1 = cc in omega arith
-lines-refused zero before (b ∷ bs) {n} {line} e z = let y : faultNumber PastLast ≡ n = cc in fault-number PastLast (y ∙ z)
-lines-refused (suc room) before [] e z = let y : _≡_ {A = ℕ} 0 1 = cc in omega arith
-lines-refused (suc room) before (b ∷ bs) {n} {line} e z = go (lineOf before (b ∷ bs)) (λ x t h. lines-refused room (x ∷ before) t h z) e
-  where
-    go : (r : LineRead) → ((x : Line) (t : List ℕ) → readLines room (x ∷ before) t ≡ fault n line → ⊥)
-        → byLine r (λ level code size. readLines room (record { level = level; code = code } ∷ before) (drop size (b ∷ bs))) (λ f. fault (faultNumber f) (suc (length before))) ≡ fault n line → ⊥
-    go (Refused f) ih e = let y : faultNumber f ≡ n = cc in fault-number f (y ∙ z)
-    go (Node l c w) ih e = ih (record { level = l; code = c }) (drop w (b ∷ bs)) e
-
--- A text is never refused by 0.
-pub text-refused : (s : List ℕ) {n line : ℕ} → formOf s ≡ fault n line → n ≡ done → ⊥
-unfolding formOf
-text-refused [] {n} {line} e z = let y : no-form ≡ n = cc in omega arith
-text-refused (b ∷ bs) e z = lines-refused most-nodes [] (b ∷ bs) e z

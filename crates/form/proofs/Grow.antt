@@ -1,7 +1,7 @@
 -- Lines that may stand behind each other are the lines of one tree, and a form is the text of one good tree within the limits. Assumes
 -- nothing.
 use mathlib.Core.Path.{_≡_, refl, ap, sym, subst, _∙_}
-use mathlib.Core.List.{List, [], _∷_, _++_, append-assoc, append-nil}
+use mathlib.Core.List.{List, [], _∷_, _++_, append-assoc, append-nil, reverseAux}
 use Prim.Native.Nat.{ℕ, zero, suc, _+_, _-_, _≤_, _<_}
 use native.Mathlib.Omega.{arith}
 use lib.ListN.{length}
@@ -11,9 +11,9 @@ use Rattle.figures.specs.Limits.{greatest-depth, most-nodes, most-children}
 use Rattle.order.specs.Trees.{Tree, Forest, node, bare, cons, count, words, depth, depthF, Good, GoodF, subtrees}
 use Rattle.form.specs.Text.{Line, linesOf, linesF, spell, textOf}
 use Rattle.form.specs.Reading.{allowed, siblings, inOrder, form, formOf, wordsOf}
+use Rattle.form.specs.Faults.{Legal}
 use Rattle.form.proofs.Faults.{within-both}
 use Rattle.form.proofs.TreeLines.{lines-words, lines-count}
-use Rattle.form.proofs.Digits.{Legal, push}
 use Rattle.form.proofs.Unique.{not-read, form-text}
 use Rattle.form.proofs.RoundTrip.{one-more}
 
@@ -141,8 +141,7 @@ tree-of x xs g =
 -- ---- the limits
 
 -- Of lines that may stand there, the first part may, and the second may behind it.
-legal-split : (xs ys before : List Line) → Legal before (xs ++ ys) → Legal before xs × Legal (push xs before) ys
-unfolding push
+legal-split : (xs ys before : List Line) → Legal before (xs ++ ys) → Legal before xs × Legal (reverseAux xs before) ys
 legal-split [] ys before g = (tt, g)
 legal-split (x ∷ xs) ys before g =
     let r = legal-split xs ys (x ∷ before) (g .2) in
@@ -164,8 +163,8 @@ mutual
   goodF (cons t f) m b h s g =
       let p = legal-split (linesOf t (suc m)) (linesF f (suc m)) b g in
       let r = good t (suc m) b (p .0) in
-      let o : siblings (suc m) (push (linesOf t (suc m)) b) ≡ suc (siblings (suc m) b) = one-more t (suc m) b in
-      let q = goodF f m (push (linesOf t (suc m)) b) h (omega (arith, r .2)) (p .1) in
+      let o : siblings (suc m) (reverseAux (linesOf t (suc m)) b) ≡ suc (siblings (suc m) b) = one-more t (suc m) b in
+      let q = goodF f m (reverseAux (linesOf t (suc m)) b) h (omega (arith, r .2)) (p .1) in
       ((r .0, q .0), omega (arith, r .1, q .1), omega (arith, q .2))
 
 -- ---- forms

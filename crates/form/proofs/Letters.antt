@@ -5,44 +5,46 @@ use mathlib.Core.List.{List, [], _∷_, _++_}
 use Prim.Native.Nat.{ℕ, suc, _+_, _*_, _-_, _/_, _≤_, _<_}
 use native.Mathlib.Omega.{arith}
 use lib.Dec.{ltb}
-use lib.ListN.{length, length-append}
+use lib.ListN.{length, length-append, length-reverse}
 use Rattle.words.specs.Base.{_and_, if_then_else_}
 use Rattle.words.proofs.Tests.{no-test}
-use Rattle.figures.specs.Limits.{most-nodes}
+use Rattle.figures.specs.Limits.{least-code, most-nodes}
 use Rattle.figures.specs.Numbers.{done, no-form}
 use Rattle.figures.specs.Answers.{refusedAt}
 use Rattle.order.specs.Answers.{writing, write}
 use Rattle.form.specs.Text.{digit-0, space, line-feed, digit, code-size, Line, levelText, codeText, lineText, spell}
-use Rattle.form.specs.Reading.{isDigit, value, isCode, codeBehind, speltOf, byLine, allowed, siblings, lineOf, inOrder, fault, form, readLines, formOf, children, wordsOf, readOf}
+use Rattle.form.specs.Reading.{isDigit, value, isCode, codeBehind, speltOf, allowed, siblings, lineOf, inOrder, Form, fault, form, readLines, formOf, children, wordsOf, readOf}
+use Rattle.form.specs.Faults.{Fine, greatest-level, misspelt, FirstFault}
 use Rattle.form.specs.declared.reading.Fault.the-variants.{Misspelt}
 use Rattle.form.specs.declared.reading.LineRead.the-variants.{Node, Refused}
-use Rattle.form.proofs.Faults.{Fine, fine-line, read-done, read-fault, read-on, some-bytes}
-use Rattle.form.proofs.Digits.{figure-digit, is-digit, space-no-digit, is-code, level-read, push, push-length, read-spelt}
+use Rattle.form.proofs.Faults.{fine-line, read-done, read-on, some-bytes}
+use Rattle.form.proofs.Digits.{figure-digit, is-digit, space-no-digit, is-code, level-read}
 use Rattle.form.proofs.Unique.{read-text, form-text}
-use Rattle.form.proofs.Trips.{form-write, fault-write, reads-form}
+use Rattle.form.proofs.FirstFault.{no-text, text-refused, fault-first}
+use Rattle.form.proofs.Trips.{form-write, fault-write}
 
 -- ---- codes are decimal
 
 -- Four digits have the value of their figures, in tens.
-pub decimal : (a b c d : ℕ) → a < 10 → b < 10 → c < 10 → d < 10 → value (digit-0 + a) (digit-0 + b) (digit-0 + c) (digit-0 + d) ≡ a * 1000 + b * 100 + c * 10 + d
+pub decimal : (a b c d : ℕ) → value (digit-0 + a) (digit-0 + b) (digit-0 + c) (digit-0 + d) ≡ a * 1000 + b * 100 + c * 10 + d
 unfolding value
-decimal a b c d p q r s = omega arith
+decimal a b c d = omega arith
 
 -- A line of four digits is read as the node whose code they are, whatever follows.
-pub code-decimal : (l : ℕ) (a b c d : ℕ) (rest : List ℕ) → l < 100 → a < 10 → b < 10 → c < 10 → d < 10
+pub code-decimal : (l : ℕ) (a b c d : ℕ) (rest : List ℕ) → l ≤ greatest-level → a < 10 → b < 10 → c < 10 → d < 10
     → speltOf (levelText l ++ (space ∷ (digit-0 + a) ∷ (digit-0 + b) ∷ (digit-0 + c) ∷ (digit-0 + d) ∷ line-feed ∷ rest)) ≡ Node l (a * 1000 + b * 100 + c * 10 + d) (length (levelText l) + code-size)
 unfolding codeBehind if_then_else_
 code-decimal l a b c d rest h p q r s =
     level-read l space _ h space-no-digit
-    ∙ rw (is-code (digit-0 + a) (digit-0 + b) (digit-0 + c) (digit-0 + d) (figure-digit a p) (figure-digit b q) (figure-digit c r) (figure-digit d s), decimal a b c d p q r s)
+    ∙ rw (is-code (digit-0 + a) (digit-0 + b) (digit-0 + c) (digit-0 + d) (figure-digit a p) (figure-digit b q) (figure-digit c r) (figure-digit d s), decimal a b c d)
 
 -- Any option may stand on line 1.
-first-line : (n : ℕ) → 1 ≤ n → Fine [] 0 n
+first-line : (n : ℕ) → least-code ≤ n → Fine [] 0 n
 unfolding allowed siblings
 first-line n h = record { option = h; follows = refl; shallow = omega arith; child = omega arith }
 
 -- A form of one line of four digits, not all 0, is read as the node whose code is their decimal value.
-pub decimal-read : (a b c d : ℕ) → a < 10 → b < 10 → c < 10 → d < 10 → 1 ≤ a * 1000 + b * 100 + c * 10 + d → (out : List ℕ)
+pub decimal-read : (a b c d : ℕ) → a < 10 → b < 10 → c < 10 → d < 10 → least-code ≤ a * 1000 + b * 100 + c * 10 + d → (out : List ℕ)
     → readOf (digit-0 ∷ space ∷ (digit-0 + a) ∷ (digit-0 + b) ∷ (digit-0 + c) ∷ (digit-0 + d) ∷ line-feed ∷ []) out ≡ write ((a * 1000 + b * 100 + c * 10 + d) ∷ 0 ∷ []) out
 unfolding levelText if_then_else_ inOrder wordsOf children
 decimal-read a b c d p q r s h out =
@@ -61,7 +63,7 @@ pub data NotFour (a b c d : ℕ) : Type 0 where
   third : isDigit c ≡ false → NotFour a b c d
   fourth : isDigit d ≡ false → NotFour a b c d
 
--- A test that fails with another fails.
+-- Two tests of which the second fails do not both pass.
 and-fails : (a b : Bool) → b ≡ false → (a and b) ≡ false
 unfolding _and_
 and-fails true b e = e
@@ -81,31 +83,27 @@ unfolding codeBehind if_then_else_
 none-behind l w a b c d [] n = refl
 none-behind l w a b c d (e ∷ rest) n = rw (no-code a b c d e n)
 
--- A line that is misspelt is at fault behind any lines.
-misspelt : (before : List Line) (s : List ℕ) → speltOf s ≡ Refused Misspelt → lineOf before s ≡ Refused Misspelt
-unfolding lineOf byLine
-misspelt before s e = rw e
-
--- Such a line is the first at fault behind any lines that were read.
-code-fault : (front : List ℕ) (xs : List Line) (l a b c d : ℕ) (rest : List ℕ) → readLines most-nodes [] front ≡ form xs → length xs < most-nodes → l < 100 → NotFour a b c d
-    → formOf (front ++ (levelText l ++ (space ∷ a ∷ b ∷ c ∷ d ∷ rest))) ≡ fault no-form (suc (length xs))
+-- Such a line is the first at fault behind any lines that were read, if there is room for one more.
+code-fault : (front : List ℕ) (xs : List Line) (l a b c d : ℕ) (rest : List ℕ) → readLines most-nodes [] front ≡ form xs → length xs < most-nodes → l ≤ greatest-level → NotFour a b c d
+    → FirstFault (front ++ (levelText l ++ (space ∷ a ∷ b ∷ c ∷ d ∷ rest))) no-form (suc (length xs))
 code-fault front xs l a b c d rest e h k n =
     let s : List ℕ = levelText l ++ (space ∷ a ∷ b ∷ c ∷ d ∷ rest) in
     let t = read-text most-nodes front xs e in
-    let z : most-nodes - length xs ≡ suc (most-nodes - suc (length xs)) = omega arith in
-    let o : 0 < length s = omega (arith, length-append (levelText l) (space ∷ a ∷ b ∷ c ∷ d ∷ rest)) in
-    some-bytes (front ++ s) (omega (arith, length-append front s))
-    ∙ ap (λ (f : List ℕ). readLines most-nodes [] (f ++ s)) (sym (t .0))
-    ∙ read-spelt most-nodes xs [] s (t .1) (t .2)
-    ∙ ap (λ (m : ℕ). readLines m (push xs []) s) z
-    ∙ read-fault (most-nodes - suc (length xs)) (push xs []) s o (misspelt (push xs []) s (level-read l space _ k space-no-digit ∙ none-behind l (length (levelText l)) a b c d rest n))
-    ∙ ap (λ (m : ℕ). fault no-form (suc m)) (let y : length (push xs []) ≡ length xs = omega (arith, push-length xs []) in y)
+    record {
+      before = xs;
+      rest = s;
+      text = ap (λ (f : List ℕ). f ++ s) (sym (t .0));
+      legal = t .1;
+      some = omega (arith, length-append (levelText l) (space ∷ a ∷ b ∷ c ∷ d ∷ rest));
+      place = refl;
+      why = misspelt refl (omega (arith, length-reverse xs)) (no-text s (level-read l space _ k space-no-digit ∙ none-behind l (length (levelText l)) a b c d rest n));
+    }
 
--- A code with a byte in it that is no digit is refused by 10 at its own line, wherever the byte stands, behind any lines that were read
--- and whatever follows; nothing is written.
-pub code-refused : (front : List ℕ) (xs : List Line) (l a b c d : ℕ) (rest : List ℕ) → readLines most-nodes [] front ≡ form xs → length xs < most-nodes → l < 100 → NotFour a b c d → (out : List ℕ)
+-- A code with a byte in it that is no digit is refused by 10 at its own line, wherever the byte stands, behind any lines that were read,
+-- if there is room for one more, and whatever follows; nothing is written.
+pub code-refused : (front : List ℕ) (xs : List Line) (l a b c d : ℕ) (rest : List ℕ) → readLines most-nodes [] front ≡ form xs → length xs < most-nodes → l ≤ greatest-level → NotFour a b c d → (out : List ℕ)
     → readOf (front ++ (levelText l ++ (space ∷ a ∷ b ∷ c ∷ d ∷ rest))) out ≡ writing (refusedAt no-form (suc (length xs))) out
-code-refused front xs l a b c d rest e h k n out = fault-write _ out (code-fault front xs l a b c d rest e h k n)
+code-refused front xs l a b c d rest e h k n out = fault-write _ out (fault-first _ no-form (suc (length xs)) (code-fault front xs l a b c d rest e h k n))
 
 -- ---- bytes
 
@@ -150,13 +148,22 @@ unfolding spell lineText
 spell-bytes [] = tt
 spell-bytes (x ∷ xs) = bytes-append (lineText x) (spell xs) (bytes-append (levelText (x .level)) (codeText (x .code)) (level-bytes (x .level)) (code-bytes (x .code))) (spell-bytes xs)
 
--- A text with a byte that is no digit, no space and no LF is never read, wherever the byte stands.
-pub byte-refused : (front rest : List ℕ) (b : ℕ) → isDigit b ≡ false → (b ≡ space → ⊥) → (b ≡ line-feed → ⊥) → (out : List ℕ) → readOf (front ++ (b ∷ rest)) out .answer .number ≡ done → ⊥
-byte-refused front rest b d s n out e =
-    let f = reads-form (front ++ (b ∷ rest)) out e in
-    go (byte-in front b rest (subst Bytes (form-text (front ++ (b ∷ rest)) (f .0) (f .1) .0) (spell-bytes (f .0))))
+-- A text is refused, by some number at some line, and nothing is written.
+pub record NotRead (s : List ℕ) : Type 0 where
+  pub number : ℕ
+  pub line : ℕ
+  pub refuses : number ≡ done → ⊥
+  pub answers : (out : List ℕ) → readOf s out ≡ writing (refusedAt number line) out
+
+-- A text with a byte that is no digit, no space and no LF is refused, wherever the byte stands.
+pub byte-refused : (front rest : List ℕ) (b : ℕ) → isDigit b ≡ false → (b ≡ space → ⊥) → (b ≡ line-feed → ⊥) → NotRead (front ++ (b ∷ rest))
+byte-refused front rest b d s n = go (formOf (front ++ (b ∷ rest))) refl
   where
-    go : Byte b → ⊥
-    go (figure-byte h) = no-test (sym d ∙ h)
-    go (space-byte h) = s h
-    go (feed-byte h) = n h
+    other : Byte b → ⊥
+    other (figure-byte h) = no-test (sym d ∙ h)
+    other (space-byte h) = s h
+    other (feed-byte h) = n h
+
+    go : (f : Form) → formOf (front ++ (b ∷ rest)) ≡ f → NotRead (front ++ (b ∷ rest))
+    go (form xs) q = absurd (other (byte-in front b rest (subst Bytes (form-text (front ++ (b ∷ rest)) xs q .0) (spell-bytes xs))))
+    go (fault m line) q = record { number = m; line = line; refuses = text-refused _ q; answers = λ out. fault-write _ out q }

@@ -1,7 +1,7 @@
 -- What is written is read back: the lines of a good tree within the limits may stand behind each other, and the tree's text is read as
 -- its lines. Assumes nothing.
 use mathlib.Core.Path.{_≡_, refl, ap, sym, subst, _∙_}
-use mathlib.Core.List.{List, [], _∷_, _++_, append-nil}
+use mathlib.Core.List.{List, [], _∷_, _++_, append-assoc, append-nil, reverse, reverseAux, reverseAux-append}
 use mathlib.Core.Bool.{true}
 use Prim.Native.Nat.{ℕ, suc, _+_, _-_, _≤_, _<_}
 use native.Mathlib.Omega.{arith}
@@ -12,22 +12,16 @@ use Rattle.figures.specs.Limits.{greatest-depth, most-nodes, most-children}
 use Rattle.order.specs.Trees.{Tree, Forest, node, bare, cons, count, depth, depthF, Good, GoodF, subtrees}
 use Rattle.form.specs.Text.{Line, linesOf, linesF, lineText, spell, textOf}
 use Rattle.form.specs.Reading.{allowed, siblings, inOrder, form, readLines, formOf}
+use Rattle.form.specs.Faults.{Legal}
 use Rattle.form.proofs.Faults.{read-done, some-bytes}
 use Rattle.form.proofs.TreeLines.{lines-count}
-use Rattle.form.proofs.Digits.{Legal, push, push-order, read-spelt}
+use Rattle.form.proofs.Digits.{read-spelt}
 use Rattle.form.proofs.Spelt.{line-size}
 
 -- ---- lines behind others
 
--- Lines that are read one after the other are read in two parts.
-push-append : (xs ys before : List Line) → push (xs ++ ys) before ≡ push ys (push xs before)
-unfolding push
-push-append [] ys before = refl
-push-append (x ∷ xs) ys before = push-append xs ys (x ∷ before)
-
--- They may stand there if each of the two parts may.
-legal-append : (xs ys before : List Line) → Legal before xs → Legal (push xs before) ys → Legal before (xs ++ ys)
-unfolding push
+-- Lines one after the other may stand there if the first part may, and the second may behind it.
+legal-append : (xs ys before : List Line) → Legal before xs → Legal (reverseAux xs before) ys → Legal before (xs ++ ys)
 legal-append [] ys before g h = h
 legal-append (x ∷ xs) ys before g h = (g .0, g .1, legal-append xs ys (x ∷ before) (g .2) h)
 
@@ -35,18 +29,18 @@ legal-append (x ∷ xs) ys before g h = (g .0, g .1, legal-append xs ys (x ∷ b
 
 -- Deeper lines are no siblings.
 mutual
-  unfolding linesOf push siblings if_then_else_
+  unfolding linesOf siblings if_then_else_
 
-  past : (t : Tree) (l m : ℕ) (b : List Line) → l < m → siblings l (push (linesOf t m) b) ≡ siblings l b
+  past : (t : Tree) (l m : ℕ) (b : List Line) → l < m → siblings l (reverseAux (linesOf t m) b) ≡ siblings l b
   past (node c f) l m b h = pastF f l (suc m) (record { level = m; code = c } ∷ b) (omega arith) ∙ rw (le-ltb m l (omega arith), ne-eqb m l (λ z. omega arith))
 
-  pastF : (f : Forest) (l m : ℕ) (b : List Line) → l < m → siblings l (push (linesF f m) b) ≡ siblings l b
+  pastF : (f : Forest) (l m : ℕ) (b : List Line) → l < m → siblings l (reverseAux (linesF f m) b) ≡ siblings l b
   pastF bare l m b h = refl
-  pastF (cons t f) l m b h = ap (siblings l) (push-append (linesOf t m) (linesF f m) b) ∙ pastF f l m (push (linesOf t m) b) h ∙ past t l m b h
+  pastF (cons t f) l m b h = ap (siblings l) (reverseAux-append (linesOf t m) (linesF f m) b) ∙ pastF f l m (reverseAux (linesOf t m) b) h ∙ past t l m b h
 
 -- A tree is one sibling more to what follows at its level.
-pub one-more : (t : Tree) (l : ℕ) (b : List Line) → siblings l (push (linesOf t l) b) ≡ suc (siblings l b)
-unfolding linesOf push siblings if_then_else_
+pub one-more : (t : Tree) (l : ℕ) (b : List Line) → siblings l (reverseAux (linesOf t l) b) ≡ suc (siblings l b)
+unfolding linesOf siblings if_then_else_
 one-more (node c f) l b = pastF f l (suc l) (record { level = l; code = c } ∷ b) (omega arith) ∙ rw (le-ltb l l (omega arith), eq-eqb l l refl)
 
 -- ---- levels
@@ -61,14 +55,14 @@ weaker {m} {k} (top {x = x} h) e = let z : k ≤ x .level = omega arith in top z
 
 -- The last line of a tree is no higher than its top, and that of a row no higher than the line before it.
 mutual
-  unfolding linesOf push
+  unfolding linesOf
 
-  tops : (t : Tree) (m : ℕ) (b : List Line) → Top m (push (linesOf t m) b)
+  tops : (t : Tree) (m : ℕ) (b : List Line) → Top m (reverseAux (linesOf t m) b)
   tops (node c f) m b = let z : m ≤ m = omega arith in topsF f (suc m) m (record { level = m; code = c } ∷ b) (top z) (omega arith)
 
-  topsF : (f : Forest) (m k : ℕ) (b : List Line) → Top k b → k ≤ m → Top k (push (linesF f m) b)
+  topsF : (f : Forest) (m k : ℕ) (b : List Line) → Top k b → k ≤ m → Top k (reverseAux (linesF f m) b)
   topsF bare m k b o h = o
-  topsF (cons t f) m k b o h = subst (Top k) (sym (push-append (linesOf t m) (linesF f m) b)) (topsF f m k (push (linesOf t m) b) (weaker (tops t m b) h) h)
+  topsF (cons t f) m k b o h = subst (Top k) (sym (reverseAux-append (linesOf t m) (linesF f m) b)) (topsF f m k (reverseAux (linesOf t m) b) (weaker (tops t m b) h) h)
 
 -- Behind such a line the next level may follow.
 allows : (m : ℕ) (b : List Line) → Top m b → allowed (suc m) b ≡ true
@@ -94,12 +88,18 @@ mutual
   legalF (cons t f) m b g d o s =
       legal-append (linesOf t (suc m)) (linesF f (suc m)) b
       (legal t (suc m) b (g .0) (omega arith) (allows m b o) (omega arith))
-      (legalF f m (push (linesOf t (suc m)) b) (g .1) (omega arith) (weaker (tops t (suc m) b) (omega arith)) (rw (one-more t (suc m) b) (omega arith)))
+      (legalF f m (reverseAux (linesOf t (suc m)) b) (g .1) (omega arith) (weaker (tops t (suc m) b) (omega arith)) (rw (one-more t (suc m) b) (omega arith)))
 
 -- The lines of a good tree within the limits may be a form's.
 tree-legal : (t : Tree) → Good t → depth t ≤ greatest-depth → Legal [] (linesOf t 0)
 unfolding allowed siblings
 tree-legal t g d = legal t 0 [] g (omega arith) refl (omega arith)
+
+-- Lines that are listed the last first, behind others, are in order again behind them.
+in-order : (xs before : List Line) → inOrder (reverseAux xs before) ≡ inOrder before ++ xs
+unfolding inOrder
+in-order [] before = sym (append-nil (inOrder before))
+in-order (x ∷ xs) before = in-order xs (x ∷ before) ∙ append-assoc (inOrder before) (x ∷ []) xs
 
 -- The text of a tree has bytes.
 some-text : (t : Tree) → 0 < length (textOf t)
@@ -116,5 +116,5 @@ form-of t g d n =
     some-bytes (textOf t) (some-text t)
     ∙ ap (readLines most-nodes []) (sym (append-nil (spell xs)))
     ∙ read-spelt most-nodes xs [] [] (tree-legal t g d) (omega (arith, lines-count t 0))
-    ∙ read-done (most-nodes - length xs) (push xs [])
-    ∙ ap form (push-order xs [])
+    ∙ read-done (most-nodes - length xs) (reverse xs)
+    ∙ ap form (in-order xs [])

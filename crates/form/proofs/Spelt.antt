@@ -15,12 +15,12 @@ use Rattle.form.specs.Turns.{levelsOf}
 -- ---- a level
 
 -- A level below 10 is one digit.
-one-digit : (l : ℕ) → l < 10 → levelText l ≡ digit l ∷ []
+pub one-digit : (l : ℕ) → l < 10 → levelText l ≡ digit l ∷ []
 unfolding levelText if_then_else_
 one-digit l h = rw (lt-ltb l 10 h) refl
 
 -- A level from 10 on is two digits.
-two-digits : (l : ℕ) → 10 ≤ l → levelText l ≡ digit (l / 10) ∷ digit l ∷ []
+pub two-digits : (l : ℕ) → 10 ≤ l → levelText l ≡ digit (l / 10) ∷ digit l ∷ []
 unfolding levelText if_then_else_
 two-digits l h = rw (le-ltb l 10 h) refl
 

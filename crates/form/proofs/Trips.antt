@@ -20,8 +20,8 @@ use Rattle.order.proofs.Unique.{words-unique}
 use Rattle.form.specs.Text.{Line, linesOf, textOf}
 use Rattle.form.specs.Reading.{Form, fault, form, byForm, formOf, wordsOf, readOf}
 use Rattle.form.specs.Writing.{writeOf}
-use Rattle.form.proofs.Faults.{text-refused}
 use Rattle.form.proofs.TreeLines.{lines-words}
+use Rattle.form.proofs.FirstFault.{text-refused}
 use Rattle.form.proofs.RoundTrip.{form-of}
 use Rattle.form.proofs.Grow.{formed}
 
@@ -99,7 +99,7 @@ unfolding readOf byForm
 fault-write s out e = rw e
 
 -- A text that is read without fault is a form.
-pub reads-form : (s out : List ℕ) → readOf s out .answer .number ≡ done → (xs : List Line) × (formOf s ≡ form xs)
+reads-form : (s out : List ℕ) → readOf s out .answer .number ≡ done → (xs : List Line) × (formOf s ≡ form xs)
 unfolding readOf byForm
 reads-form s out e = go (formOf s) refl
   where

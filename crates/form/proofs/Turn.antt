@@ -7,7 +7,7 @@ use native.Mathlib.Numerals.{add-one, add-two}
 use native.Mathlib.Omega.{arith}
 use native.Mathlib.Decide.{decLt}
 use lib.Dec.{leb, ltb, eqb}
-use lib.ListN.{length, take, drop, getD, set, replicate, length-set, length-drop, drop-of-length-le}
+use lib.ListN.{length, take, drop, getD, set, replicate, length-append, length-set, length-drop, drop-of-length-le}
 use lib.Seq.{take-suc-set, take-set-lt, getD-take, drop-drop}
 use borrow.Author.Tests.{ne-eqb, eqb-false, leb-true, leb-false, ltb-false}
 use Rattle.words.specs.Base.{_and_, if_then_else_}
@@ -16,55 +16,18 @@ use Rattle.figures.specs.Limits.{least-code, most-nodes, most-words, most-child
 use Rattle.figures.specs.Numbers.{done, no-form}
 use Rattle.figures.specs.Answers.{refusedAt, wrote}
 use Rattle.figures.specs.declared.Written.{Written}
-use Rattle.form.specs.Text.{digit-0, Line}
-use Rattle.form.specs.Reading.{faultNumber, readNumber, isDigit, isCode, figure, codeBehind, speltOf, byLine, allowed, siblings, lineOf, inOrder, Form, fault, form, readLines, formOf, children, wordsOf}
+use Rattle.form.specs.Text.{code-size, Line, levelText, lineText}
+use Rattle.form.specs.Reading.{faultNumber, readNumber, speltOf, byLine, allowed, siblings, lineOf, inOrder, Form, fault, form, readLines, formOf, children, wordsOf}
 use Rattle.form.specs.Turns.{follows, nextOf, countPlace, Parent, mayAdopt, adopted, Parents, underParent, countedIn, Got}
 use Rattle.form.specs.declared.reading.Fault.{Fault}
 use Rattle.form.specs.declared.reading.Fault.the-variants.{PastLast, NoOption, LevelNotAllowed, TooDeep, NinthChild}
 use Rattle.form.specs.declared.reading.LineRead.{LineRead}
 use Rattle.form.specs.declared.reading.LineRead.the-variants.{Node, Refused}
-use Rattle.form.proofs.Faults.{no-node, fault-number, fine-line, ninth-line, read-done, read-past, read-fault, read-on, some-bytes}
+use Rattle.form.proofs.Faults.{fault-number, fine-line, ninth-line, read-done, read-past, read-fault, read-on, some-bytes}
+use Rattle.form.proofs.Spelt.{line-size}
+use Rattle.form.proofs.Unique.{line-back}
 use Rattle.form.proofs.Steps.{follows-seen, adopt-first, adopt-one, adopted-length, full-seen, one-seen, Unadopted, handed, full, refused-seen, node-seen}
 use Rattle.form.proofs.Counts.{length-words, length-inOrder, Adopts, adopts, Kept, kept-on}
-
--- ---- how many bytes a line takes
-
--- A node takes some bytes, and no more than n.
-data Bounded : LineRead → ℕ → Type 0 where
-  no-bytes : {f : Fault} {n : ℕ} → Bounded (Refused f) n
-  bytes : {l c w n : ℕ} → 0 < w → w ≤ n → Bounded (Node l c w) n
-
--- Of two answers that are bounded, the one that a test picks is.
-bounded-if : (b : Bool) {r q : LineRead} {n : ℕ} → Bounded r n → Bounded q n → Bounded (if b then r else q) n
-unfolding if_then_else_
-bounded-if true p q = p
-bounded-if false p q = q
-
--- A line takes its level's bytes and no more than there are behind them.
-code-bounded : (l w n : ℕ) (s : List ℕ) → w + length s ≤ n → Bounded (codeBehind l w s) n
-unfolding codeBehind
-code-bounded l w n [] h = no-bytes
-code-bounded l w n (s ∷ []) h = no-bytes
-code-bounded l w n (s ∷ a ∷ []) h = no-bytes
-code-bounded l w n (s ∷ a ∷ b ∷ []) h = no-bytes
-code-bounded l w n (s ∷ a ∷ b ∷ c ∷ []) h = no-bytes
-code-bounded l w n (s ∷ a ∷ b ∷ c ∷ d ∷ []) h = no-bytes
-code-bounded l w n (s ∷ a ∷ b ∷ c ∷ d ∷ e ∷ r) h = bounded-if (isCode s a b c d e) (bytes (omega arith) (omega arith)) no-bytes
-
--- A line takes no more bytes than there are.
-line-bounded : (s : List ℕ) → Bounded (speltOf s) (length s)
-unfolding speltOf
-line-bounded [] = no-bytes
-line-bounded (x ∷ []) = no-bytes
-line-bounded (x ∷ y ∷ r) =
-    bounded-if (not (isDigit x)) no-bytes
-    (bounded-if (not (isDigit y)) (code-bounded (figure x) 1 (length (x ∷ y ∷ r)) (y ∷ r) (omega arith))
-    (bounded-if (eqb x digit-0) no-bytes (code-bounded (figure x * 10 + figure y) 2 (length (x ∷ y ∷ r)) r (omega arith))))
-
--- A node that is read takes some bytes, and no more than there are.
-node-bounded : {r : LineRead} {l c w n : ℕ} → Bounded r n → r ≡ Node l c w → (0 < w) × (w ≤ n)
-node-bounded no-bytes e = no-node e
-node-bounded {l = l} {c = c} {w = w} (bytes {w = v} p q) e = let z : v ≡ w = cc in (omega arith, omega arith)
 
 -- ---- the next line, as the code reads it
 
@@ -233,9 +196,11 @@ module _ {text words latest : List ℕ} {at n greatest : ℕ} (s : State text wo
     -- It takes some bytes, and no more than there are.
     takes : (0 < size) × (at + size ≤ length text)
     takes =
-        let b = node-bounded (line-bounded (drop at text)) (node .spelt) in
-        let l : length (drop at text) ≡ length text - at = length-drop at text in
-        (b .0, omega (arith, s .inside))
+        let l = line-back (drop at text) (node .spelt) in
+        let w : size ≡ length (levelText level) + code-size = l .takes ∙ line-size line in
+        let k : length (drop at text) ≡ size + length (l .rest) = ap length (l .is) ∙ length-append (lineText line) (l .rest) ∙ ap (λ (m : ℕ). m + length (l .rest)) (sym (l .takes)) in
+        let d : length (drop at text) ≡ length text - at = length-drop at text in
+        (omega arith, omega (arith, s .inside))
 
     -- Its level is allowed behind the lines before.
     fits : allowed level (s .before) ≡ true

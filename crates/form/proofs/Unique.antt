@@ -2,24 +2,24 @@
 use mathlib.Core.Path.{_≡_, refl, ap, ap₂, sym, subst, _∙_}
 use mathlib.Core.List.{List, [], _∷_, _++_, append-assoc, append-nil}
 use mathlib.Core.Bool.{Bool, true, false, not}
-use Prim.Native.Nat.{ℕ, zero, suc, _+_, _*_, _/_, _%_, _≤_, _<_}
+use Prim.Native.Nat.{ℕ, zero, suc, _+_, _*_, _/_, _≤_, _<_}
 use native.Mathlib.Nat.{div-eq-of-lt-le, mod-eq-of-lt, mul-add-mod-self-right}
 use native.Mathlib.Omega.{arith}
 use lib.Dec.{eqb}
 use lib.ListN.{length, drop}
 use lib.Seq.{drop-at}
-use borrow.Author.Tests.{lt-ltb, le-ltb, eqb-false}
+use borrow.Author.Tests.{eqb-false}
 use Rattle.words.specs.Base.{if_then_else_}
 use Rattle.figures.specs.Limits.{greatest-code, most-nodes}
 use Rattle.form.specs.Text.{digit-0, digit, code-size, Line, levelText, codeText, lineText, spell}
 use Rattle.form.specs.Reading.{faultNumber, isDigit, figure, value, isCode, codeBehind, speltOf, byLine, lineOf, inOrder, fault, form, readLines, formOf}
+use Rattle.form.specs.Faults.{Legal, greatest-level}
 use Rattle.form.specs.declared.reading.Fault.the-variants.{Misspelt}
 use Rattle.form.specs.declared.reading.LineRead.{LineRead}
 use Rattle.form.specs.declared.reading.LineRead.the-variants.{Node, Refused}
-use Rattle.form.proofs.Faults.{no-node, seen}
+use Rattle.form.proofs.Faults.{no-node, node-seen}
 use Rattle.form.proofs.Spelling.{of-digit, of-code}
-use Rattle.form.proofs.Digits.{Legal}
-use Rattle.form.proofs.Spelt.{line-size}
+use Rattle.form.proofs.Spelt.{one-digit, two-digits, line-size}
 
 -- ---- digits
 
@@ -114,40 +114,40 @@ code-back l w (s ∷ a ∷ b ∷ c ∷ d ∷ n ∷ r) {level} {code} {size} e = 
 pub record Lined (s : List ℕ) (level code size : ℕ) : Type 0 where
   pub rest : List ℕ
   pub is : s ≡ lineText (record { level = level; code = code }) ++ rest
+  pub takes : size ≡ length (lineText (record { level = level; code = code }))
   pub left : drop size s ≡ rest
+  pub short : level ≤ greatest-level
   pub small : code ≤ greatest-code
 
 -- One digit is the text of the level that it stands for.
-one-digit : (x : ℕ) → isDigit x ≡ true → levelText (figure x) ≡ x ∷ []
-unfolding levelText if_then_else_
-one-digit x e =
+digit-level : (x : ℕ) → isDigit x ≡ true → levelText (figure x) ≡ x ∷ []
+digit-level x e =
     let o = of-digit x e in
-    let z : digit-0 + figure x % 10 ≡ x = ap (λ (m : ℕ). digit-0 + m) (mod-eq-of-lt (o .1)) ∙ o .0 in
-    rw (lt-ltb (figure x) 10 (o .1), z)
+    one-digit (figure x) (o .1) ∙ ap (λ (m : ℕ). m ∷ []) (ap (λ (m : ℕ). digit-0 + m) (mod-eq-of-lt (o .1)) ∙ o .0)
 
 -- Two digits of which the first is not 0 are the text of the level that they stand for.
-two-digits : (x y : ℕ) → isDigit x ≡ true → isDigit y ≡ true → (x ≡ digit-0 → ⊥) → levelText (figure x * 10 + figure y) ≡ x ∷ y ∷ []
-unfolding levelText if_then_else_
-two-digits x y e f n =
+digits-level : (x y : ℕ) → isDigit x ≡ true → isDigit y ≡ true → (x ≡ digit-0 → ⊥) → levelText (figure x * 10 + figure y) ≡ x ∷ y ∷ []
+digits-level x y e f n =
     let o = of-digit x e in
     let q = of-digit y f in
     let d : (figure x * 10 + figure y) / 10 ≡ figure x = div-eq-of-lt-le 10 (omega arith) (omega arith) in
-    let z : digit-0 + ((figure x * 10 + figure y) / 10) % 10 ≡ x = ap digit d ∙ ap (λ (m : ℕ). digit-0 + m) (mod-eq-of-lt (o .1)) ∙ o .0 in
-    let w : digit-0 + (figure x * 10 + figure y) % 10 ≡ y = last-figure (figure x) (figure y) (q .1) ∙ q .0 in
-    let k : 10 ≤ figure x * 10 + figure y = omega (arith, o .0, n) in
-    rw (le-ltb (figure x * 10 + figure y) 10 k, z, w)
+    let z : digit ((figure x * 10 + figure y) / 10) ≡ x = ap digit d ∙ ap (λ (m : ℕ). digit-0 + m) (mod-eq-of-lt (o .1)) ∙ o .0 in
+    let w : digit (figure x * 10 + figure y) ≡ y = last-figure (figure x) (figure y) (q .1) ∙ q .0 in
+    two-digits (figure x * 10 + figure y) (omega (arith, o .0, n)) ∙ ap₂ (λ (a b : ℕ). a ∷ b ∷ []) z w
 
 -- The text of a level, and of a code behind it, is that of a line.
-lined : (front s : List ℕ) (l : ℕ) {level code size : ℕ} → levelText l ≡ front → Coded s l (length front) level code size → Lined (front ++ s) level code size
+lined : (front s : List ℕ) (l : ℕ) {level code size : ℕ} → levelText l ≡ front → l ≤ greatest-level → Coded s l (length front) level code size → Lined (front ++ s) level code size
 unfolding lineText
-lined front s l {level} {code} {size} e k =
+lined front s l {level} {code} {size} e h k =
     let f : levelText level ≡ front = ap levelText (sym (k .same-level)) ∙ e in
     let i : front ++ s ≡ lineText (record { level = level; code = code }) ++ k .rest = ap₂ _++_ (sym f) (k .is) ∙ sym (append-assoc (levelText level) (codeText code) (k .rest)) in
     let n : length (lineText (record { level = level; code = code })) ≡ size = line-size (record { level = level; code = code }) ∙ ap (λ (m : List ℕ). length m + code-size) f ∙ k .same-size in
     record {
       rest = k .rest;
       is = i;
+      takes = sym n;
       left = ap (drop size) i ∙ drop-at (lineText (record { level = level; code = code })) (k .rest) size n;
+      short = omega (arith, k .same-level);
       small = k .small;
     }
 
@@ -161,9 +161,12 @@ line-back (x ∷ y ∷ r) {level} {code} {size} e = go (isDigit x) (isDigit y) (
     go : (a b t : Bool) → isDigit x ≡ a → isDigit y ≡ b → eqb x digit-0 ≡ t
         → (if not a then Refused Misspelt else if not b then codeBehind (figure x) 1 (y ∷ r) else if t then Refused Misspelt else codeBehind (figure x * 10 + figure y) 2 r) ≡ Node level code size → Lined (x ∷ y ∷ r) level code size
     go false b t q₀ q₁ q₂ e = no-node e
-    go true false t q₀ q₁ q₂ e = lined (x ∷ []) (y ∷ r) (figure x) (one-digit x q₀) (code-back (figure x) 1 (y ∷ r) e)
+    go true false t q₀ q₁ q₂ e = let h = of-digit x q₀ in lined (x ∷ []) (y ∷ r) (figure x) (digit-level x q₀) (omega (arith, h .1)) (code-back (figure x) 1 (y ∷ r) e)
     go true true true q₀ q₁ q₂ e = no-node e
-    go true true false q₀ q₁ q₂ e = lined (x ∷ y ∷ []) r (figure x * 10 + figure y) (two-digits x y q₀ q₁ (eqb-false _ _ q₂)) (code-back (figure x * 10 + figure y) 2 r e)
+    go true true false q₀ q₁ q₂ e =
+        let h = of-digit x q₀ in
+        let i = of-digit y q₁ in
+        lined (x ∷ y ∷ []) r (figure x * 10 + figure y) (digits-level x y q₀ q₁ (eqb-false _ _ q₂)) (omega (arith, h .1, i .1)) (code-back (figure x * 10 + figure y) 2 r e)
 
 -- ---- texts
 
@@ -190,14 +193,14 @@ again-none room before xs e =
 again-line : (room : ℕ) (before : List Line) (s : List ℕ) (xs : List Line) {l c w : ℕ} → lineOf before s ≡ Node l c w → Again room (record { level = l; code = c } ∷ before) (drop w s) xs → Again (suc room) before s xs
 unfolding spell inOrder
 again-line room before s xs {l} {c} {w} e a =
-    let n = seen before s e in
-    let k = line-back s (n .spelt) in
+    let n = node-seen before s e in
+    let k = line-back s (n .0) in
     let x : Line = record { level = l; code = c } in
     record {
       ys = x ∷ a .ys;
       joined = a .joined ∙ append-assoc (inOrder before) (x ∷ []) (a .ys);
       text = ap (λ (t : List ℕ). lineText x ++ t) (a .text ∙ k .left) ∙ sym (k .is);
-      legal = (k .small, n .fine, a .legal);
+      legal = (k .small, n .1, a .legal);
       rooms = omega (arith, a .rooms);
     }
 
