@@ -12,10 +12,11 @@ use Rattle.figures.specs.Limits.{most-nodes, greatest-depth}
 use Rattle.figures.specs.Numbers.{done}
 use Rattle.order.specs.Trees.{Tree, Forest, node, bare, cons, count, words, wordsF, depthF}
 use Rattle.order.specs.Reading.{causeOf}
+use Rattle.order.proofs.Causes.{has-tree}
 use Rattle.form.specs.Text.{code-size, Line, levelText, linesOf, linesF, lineText, spell}
 use Rattle.form.specs.Turns.{linesIn, levelsOf, climbOf}
 use Rattle.form.proofs.Spelt.{line-size, spell-more, spell-most, levels-append}
-use Rattle.form.proofs.Written.{lines-in, known, has-tree}
+use Rattle.form.proofs.Written.{lines-in, known}
 
 -- ---- climbing
 

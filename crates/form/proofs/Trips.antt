@@ -1,6 +1,6 @@
 -- Orders and texts are two spellings of the same trees (01, "Order form text"): each goes to the other and back unchanged. Assumes
 -- nothing.
-use mathlib.Core.Path.{_≡_, refl, ap, sym, subst, _∙_}
+use mathlib.Core.Path.{_≡_, refl, ap, sym, _∙_}
 use mathlib.Core.Bool.{Bool, true, false}
 use mathlib.Core.List.{List}
 use Prim.Native.Nat.{ℕ}
@@ -15,7 +15,7 @@ use Rattle.order.specs.Trees.{Tree}
 use Rattle.order.specs.Reading.{order, byOrder, orderOf, causeOf}
 use Rattle.order.specs.Answers.{Writing, writing, refuse, write}
 use Rattle.order.proofs.Orders.{tree-passes}
-use Rattle.order.proofs.Causes.{Passed, Seen, stopped, passed, seen}
+use Rattle.order.proofs.Causes.{Seen, stopped, passed, seen, order-passed}
 use Rattle.order.proofs.Unique.{words-unique}
 use Rattle.form.specs.Text.{Line, linesOf, textOf}
 use Rattle.form.specs.Reading.{Form, fault, form, byForm, formOf, wordsOf, readOf}
@@ -26,14 +26,6 @@ use Rattle.form.proofs.RoundTrip.{form-of}
 use Rattle.form.proofs.Grow.{formed}
 
 -- ---- orders and forms
-
--- What is known of an order's tree.
-order-passed : (ws : List ℕ) (t : Tree) → orderOf ws ≡ order t → Passed ws t
-order-passed ws t e = go (seen ws)
-  where
-    go : Seen ws → Passed ws t
-    go (stopped h r) = let z : _≡_ {A = ℕ} 0 1 = cc in absurd (omega arith)
-    go (passed u h p) = let z : u ≡ t = cc (p .is) in subst (Passed ws) z p
 
 -- The text of an order is read as its lines, and they have the order's words.
 pub order-text : (ws : List ℕ) (t : Tree) → orderOf ws ≡ order t → (formOf (textOf t) ≡ form (linesOf t 0)) × (wordsOf (linesOf t 0) ≡ ws)

@@ -15,7 +15,7 @@ use Rattle.order.specs.Trees.{Tree}
 use Rattle.order.specs.Reading.{byOrder, causeOf}
 use Rattle.order.specs.Answers.{checkOf, writing, write}
 use Rattle.order.proofs.Orders.{size}
-use Rattle.order.proofs.Causes.{Passed, Seen, stopped, passed, refused-by, seen}
+use Rattle.order.proofs.Causes.{Passed, refused-by, has-tree}
 use Rattle.form.specs.Text.{Line, linesOf, lineText, spell, textOf}
 use Rattle.form.specs.Reading.{wordsOf}
 use Rattle.form.specs.Writing.{writeOf}
@@ -42,19 +42,6 @@ pub record Known (s : List ℕ) (xs : List Line) : Type 0 where
   pub spelt : s ≡ wordsOf xs
   pub twice : length s ≡ 2 * length xs
   pub few : length xs ≤ most-nodes
-
--- The tree of an order whose cause is 0.
-pub record HasTree (s : List ℕ) : Type 0 where
-  pub tree : Tree
-  pub passes : Passed s tree
-
--- An order whose cause is 0 has a tree.
-pub has-tree : (s : List ℕ) → causeOf s ≡ done → HasTree s
-has-tree s e = go (seen s)
-  where
-    go : Seen s → HasTree s
-    go (stopped h r) = absurd (h e)
-    go (passed t h p) = record { tree = t; passes = p }
 
 -- `Known` holds of an order whose cause is 0.
 pub known : (s : List ℕ) → causeOf s ≡ done → Known s (linesIn s)

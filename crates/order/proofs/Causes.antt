@@ -1,7 +1,7 @@
 -- The number of an order is given exactly by the rows of 01's table, as specs/Causes.antt states them: each number has its cause, and
 -- words with a cause have its number; so an order passes, or its number refuses it. Assumes nothing.
 use Prim.Native.Nat.{ℕ, suc, _%_, _≤_}
-use mathlib.Core.Path.{_≡_, refl, ap, sym, _∙_}
+use mathlib.Core.Path.{_≡_, refl, ap, sym, subst, _∙_}
 use mathlib.Core.Bool.{Bool, true, false}
 use mathlib.Core.List.{List}
 use native.Mathlib.Decide.{decLt}
@@ -115,3 +115,24 @@ seen s = go (cause-is s)
     go (none e l t g w h) =
         let n : length (subtrees t) ≤ most-nodes = omega (arith, size t, ap length w) in
         passed t e (record { is = ap orderOf w ∙ tree-passes t g n h; spelt = w; good = g; nodes = n; deep = h })
+
+-- Words that are the order of a tree pass as that tree.
+pub order-passed : (ws : List ℕ) (t : Tree) → orderOf ws ≡ order t → Passed ws t
+order-passed ws t e = go (seen ws)
+  where
+    go : Seen ws → Passed ws t
+    go (stopped h r) = let z : _≡_ {A = ℕ} 0 1 = cc in absurd (omega arith)
+    go (passed u h p) = let z : u ≡ t = cc (p .is) in subst (Passed ws) z p
+
+-- The tree of an order whose cause is 0.
+pub record HasTree (s : List ℕ) : Type 0 where
+  pub tree : Tree
+  pub passes : Passed s tree
+
+-- An order whose cause is 0 has a tree.
+pub has-tree : (s : List ℕ) → causeOf s ≡ done → HasTree s
+has-tree s e = go (seen s)
+  where
+    go : Seen s → HasTree s
+    go (stopped h r) = absurd (h e)
+    go (passed t h p) = record { tree = t; passes = p }

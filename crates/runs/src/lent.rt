@@ -10,50 +10,26 @@ pub const HELD: u16 = 7;
 pub const MARK: u8 = b'#';
 
 // No output of the cases has more words or bytes.
-const MOST: usize = 512;
+pub const MOST: usize = 640;
 
-// Says the room that was lent, and the answer: its number, its line and its count.
-pub fn answer(room: usize, written: Written) {
-    say::text(b", room ");
-    say::count(room);
-    say::text(b": ");
+// Of what stands behind, so many are said one by one even where all are as they came.
+const FEW: usize = 16;
+
+// Says the answer: its number, its line and its count.
+pub fn answer(written: Written) {
     say::word(written.number);
     say::text(b", line ");
     say::count(written.line);
     say::text(b", ");
     say::count(written.count);
-    say::text(b" written");
+    say::text(b" written:");
 }
 
-// Says the words that were written, and the words behind them.
-pub fn words(out: &[u16], count: usize) {
-    say::text(b":");
-    if out.len() < count {
-        say::text(b" more than was lent");
-        return;
-    }
-    if count == 0 {
-        say::text(b" nothing");
-    }
-    say::words(&out[0..count]);
-    say::behind(out, count);
-}
-
-// Says the bytes that were written, and the bytes behind them.
-pub fn bytes(out: &[u8], count: usize) {
-    say::text(b": ");
-    if out.len() < count {
-        say::text(b"more than was lent");
-        return;
-    }
-    if count == 0 {
-        say::text(b"nothing");
-    }
-    say::bytes(&out[0..count]);
-    if count < out.len() {
-        say::text(b", then ");
-        say::bytes(&out[count..]);
-    }
+// Says that so many words or bytes behind what was written are as they came.
+fn stayed(count: usize) {
+    say::text(b", then ");
+    say::count(count);
+    say::text(b" as they came");
 }
 
 // Whether words of a lent output are as they came.
@@ -66,6 +42,32 @@ fn words_stayed(rest: &[u16]) -> bool {
     same::words(rest, &held[0..n])
 }
 
+// Says the words behind those that were written: all of them, or how many where they are many and as they came.
+fn words_behind(out: &[u16], count: usize) {
+    if out.len() < count {
+        return;
+    }
+    let many = out.len() - count;
+    if FEW < many && words_stayed(&out[count..]) {
+        stayed(many);
+        return;
+    }
+    say::behind(out, count);
+}
+
+// Says the words that were written, and the words behind them.
+pub fn words(out: &[u16], count: usize) {
+    if out.len() < count {
+        say::text(b" more than was lent");
+        return;
+    }
+    if count == 0 {
+        say::text(b" nothing");
+    }
+    say::words(&out[0..count]);
+    words_behind(out, count);
+}
+
 // Whether bytes of a lent output are as they came.
 fn bytes_stayed(rest: &[u8]) -> bool {
     let held = [MARK; MOST];
@@ -76,44 +78,30 @@ fn bytes_stayed(rest: &[u8]) -> bool {
     same::bytes(rest, &held[0..n])
 }
 
-// Says how many stand behind what was written, if there are any, and whether they are as they came.
-fn rest(count: usize, stayed: bool) {
-    if count == 0 {
+// Says the bytes behind those that were written: all of them, or how many where they are many and as they came.
+fn bytes_behind(rest: &[u8]) {
+    let many = rest.len();
+    if many == 0 {
+        return;
+    }
+    if FEW < many && bytes_stayed(rest) {
+        stayed(many);
         return;
     }
     say::text(b", then ");
-    say::count(count);
-    if stayed {
-        say::text(b" as they came");
-    } else {
-        say::text(b" changed");
-    }
+    say::bytes(rest);
 }
 
-// Says the last node that was written, and whether the words behind it are as they came.
-pub fn last_node(out: &[u16], count: usize) {
+// Says the bytes that were written, and the bytes behind them.
+pub fn bytes(out: &[u8], count: usize) {
+    say::text(b" ");
     if out.len() < count {
-        say::text(b", more than was lent");
+        say::text(b"more than was lent");
         return;
     }
-    if 2 <= count {
-        let from = count - 2;
-        say::text(b", the last node");
-        say::words(&out[from..count]);
+    if count == 0 {
+        say::text(b"nothing");
     }
-    rest(out.len() - count, words_stayed(&out[count..]));
-}
-
-// Says the last seven bytes that were written, and whether the bytes behind them are as they came.
-pub fn last_line(out: &[u8], count: usize) {
-    if out.len() < count {
-        say::text(b", more than was lent");
-        return;
-    }
-    if 7 <= count {
-        let from = count - 7;
-        say::text(b", the last line ");
-        say::bytes(&out[from..count]);
-    }
-    rest(out.len() - count, bytes_stayed(&out[count..]));
+    say::bytes(&out[0..count]);
+    bytes_behind(&out[count..]);
 }

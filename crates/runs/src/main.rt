@@ -1,15 +1,15 @@
-// Runs the crates `order` and `form` on the cases that 01 wants run and compared, and says each in one line; `stdout` has the lines.
+// Runs the crates `order` and `form` on the cases that 01 wants run and compared. The cases of orders are said in one line each; those
+// of forms are lines of `stdin`, each said with what came of it behind it. `stdout` has what is said.
 mod cases;
 mod cuts;
 mod examples;
 mod forms;
+mod input;
 mod lent;
-mod long_forms;
-mod rows;
+mod line;
 mod same;
 mod say;
 mod subtrees;
-mod texts;
 mod trees;
 mod trips;
 
@@ -31,48 +31,8 @@ fn orders() {
     cuts::short();
 }
 
-// Runs the groups of cases of forms that are read.
-fn reading() {
-    forms::codes();
-    forms::digits();
-    forms::letters();
-    forms::bases();
-    forms::bytes();
-    forms::spaces();
-    forms::margins();
-    forms::level_figures();
-    forms::signs();
-    forms::levels();
-    forms::later_levels();
-    forms::blanks();
-    forms::ends();
-    forms::outputs();
-    long_forms::depths();
-    long_forms::jumps();
-    long_forms::too_deep();
-    long_forms::children();
-    long_forms::most();
-    long_forms::past();
-    long_forms::faults();
-    long_forms::ninth();
-}
-
-// Runs the groups of cases of forms that are written, and of forms there and back.
-fn writing() {
-    texts::rooms();
-    texts::codes();
-    texts::depths();
-    texts::sizes();
-    texts::refused();
-    texts::too_large();
-    texts::no_room();
-    trips::orders();
-    trips::forms();
-}
-
-// Runs the cases in turn.
+// Runs the cases of orders, and then those of forms, which stand on standard input.
 fn main() {
     orders();
-    reading();
-    writing();
+    input::run();
 }

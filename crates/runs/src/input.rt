@@ -1,0 +1,33 @@
+// Standard input: the lines that it holds, each run in turn.
+use crate::forms;
+use crate::line;
+use crate::say;
+use libc::STDIN_FILENO;
+
+// Runs each line of a text; the last may stand without LF.
+fn lines(text: &[u8]) {
+    let mut at = 0;
+    while at < text.len() {
+        let end = line::find(text, b'\n', at);
+        forms::run(&text[at..end]);
+        at = end + 1;
+    }
+}
+
+// Says so if standard input holds more than was read.
+fn rest() {
+    let mut one = [0u8; 1];
+    let n = io::read_full(STDIN_FILENO, &mut one);
+    if n != 0 {
+        say::text(b"standard input is too long: not all of it was run");
+        say::end();
+    }
+}
+
+// Reads standard input, as much as one buffer holds, and runs its lines.
+pub fn run() {
+    let mut buffer = io::large_buffer();
+    let n = io::read_full(STDIN_FILENO, &mut buffer);
+    lines(&buffer[..n]);
+    rest();
+}
