@@ -15,7 +15,7 @@ use Rattle.form.specs.Text.{digit-0, digit-9, space, line-feed, digit, c
 use Rattle.form.specs.Reading.{isDigit, figure, value, isCode, codeBehind, speltOf, readLines}
 use Rattle.form.specs.Faults.{Legal, greatest-level}
 use Rattle.form.specs.declared.reading.LineRead.the-variants.{Node}
-use Rattle.form.proofs.Spelt.{one-digit, two-digits, line-size}
+use Rattle.form.proofs.LineBytes.{one-digit, two-digits, line-size}
 use Rattle.form.proofs.Faults.{fine-line, read-on}
 
 -- ---- digits

@@ -12,7 +12,7 @@ pub mod Grow
 pub mod Trips
 pub mod Letters
 mod Turn
-mod Spelt
+mod LineBytes
 mod Rows
 mod Written
 mod Answers

@@ -16,7 +16,7 @@ use Rattle.form.specs.Faults.{Legal}
 use Rattle.form.proofs.Faults.{read-done, some-bytes}
 use Rattle.form.proofs.TreeLines.{lines-count}
 use Rattle.form.proofs.Digits.{read-spelt}
-use Rattle.form.proofs.Spelt.{line-size}
+use Rattle.form.proofs.LineBytes.{line-size}
 
 -- ---- lines behind others
 

@@ -15,7 +15,7 @@ use Rattle.order.specs.Reading.{causeOf}
 use Rattle.order.proofs.Causes.{has-tree}
 use Rattle.form.specs.Text.{code-size, Line, levelText, linesOf, linesF, lineText, spell}
 use Rattle.form.specs.Turns.{linesIn, levelsOf, climbOf}
-use Rattle.form.proofs.Spelt.{line-size, spell-more, spell-most, levels-append}
+use Rattle.form.proofs.LineBytes.{line-size, spell-more, spell-most, levels-append}
 use Rattle.form.proofs.Written.{lines-in, known}
 
 -- ---- climbing

@@ -1,6 +1,6 @@
--- The lines of a tree: they have the tree's words, and there are as many as it has nodes. Assumes nothing.
+-- The lines of a tree: they have the tree's words, there is one for each node, and each has its node's code. Assumes nothing.
 use mathlib.Core.Path.{_≡_, refl, ap, sym, _∙_}
-use mathlib.Core.List.{List, [], _∷_, _++_, append-assoc, append-nil}
+use mathlib.Core.List.{List, [], _∷_, _++_, append-assoc, append-nil, map, map-append}
 use Prim.Native.Nat.{ℕ, suc, _≤_, _<_}
 use native.Mathlib.Omega.{arith}
 use lib.ListN.{length, length-append}
@@ -82,3 +82,28 @@ mutual
   row-count : (f : Forest) (l : ℕ) → length (linesF f l) ≡ length (subtreesF f)
   row-count bare l = refl
   row-count (cons t f) l = omega (arith, lines-count t l, row-count f l, length-append (linesOf t l) (linesF f l), length-append (subtrees t) (subtreesF f))
+
+-- ---- which line is which
+
+-- The codes of lines, in their order.
+abbrev pub codes : List Line → List ℕ
+codes xs = map (λ (x : Line). x .code) xs
+
+-- The code at the top of a tree.
+unfoldable pub topCode : Tree → ℕ
+topCode (node c f) = c
+
+-- Each line has the code at the top of the subtree of the same line: a form and its order count lines alike.
+mutual
+  unfolding linesOf subtrees topCode
+
+  pub lines-subtrees : (t : Tree) (l : ℕ) → codes (linesOf t l) ≡ map topCode (subtrees t)
+  lines-subtrees (node c f) l = ap (λ (r : List ℕ). c ∷ r) (row-subtrees f (suc l))
+
+  row-subtrees : (f : Forest) (l : ℕ) → codes (linesF f l) ≡ map topCode (subtreesF f)
+  row-subtrees bare l = refl
+  row-subtrees (cons t f) l =
+      map-append (λ (x : Line). x .code) (linesOf t l) (linesF f l)
+      ∙ ap (λ (r : List ℕ). r ++ codes (linesF f l)) (lines-subtrees t l)
+      ∙ ap (λ (r : List ℕ). map topCode (subtrees t) ++ r) (row-subtrees f l)
+      ∙ sym (map-append topCode (subtrees t) (subtreesF f))

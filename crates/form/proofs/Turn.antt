@@ -24,7 +24,7 @@ use Rattle.form.specs.declared.reading.Fault.the-variants.{PastLast, NoO
 use Rattle.form.specs.declared.reading.LineRead.{LineRead}
 use Rattle.form.specs.declared.reading.LineRead.the-variants.{Node, Refused}
 use Rattle.form.proofs.Faults.{fault-number, fine-line, ninth-line, read-done, read-past, read-fault, read-on, some-bytes}
-use Rattle.form.proofs.Spelt.{line-size}
+use Rattle.form.proofs.LineBytes.{line-size}
 use Rattle.form.proofs.Unique.{line-back}
 use Rattle.form.proofs.Steps.{follows-seen, adopt-first, adopt-one, adopted-length, full-seen, one-seen, Unadopted, handed, full, refused-seen, node-seen}
 use Rattle.form.proofs.Counts.{length-words, length-inOrder, Adopts, adopts, Kept, kept-on}
@@ -158,7 +158,7 @@ module _ {text words latest : List ℕ} {at n greatest : ℕ} (s : State text wo
   all-read r h a =
       let q : formOf text ≡ form (inOrder (s .before)) = s .reads ∙ ap (readLines (s .room) (s .before)) (drop-of-length-le text h) ∙ read-done (s .room) (s .before) in
       let z : 2 * n ≡ length (wordsOf (inOrder (s .before))) = omega (arith, length-words (inOrder (s .before)), length-inOrder (s .before), s .lines) in
-      subst (λ (f : Form). Got f r words) (sym q) (a ∙ ap (wrote done) z, ap (λ (m : ℕ). take m words) (sym z) ∙ s .wrote-words, omega (arith, s .rooms))
+      subst (λ (f : Form). Got f r words) (sym q) (a ∙ ap (wrote done) z, ap (λ (m : ℕ). take m words) (sym z) ∙ s .wrote-words)
 
   -- Bytes are left.
   left : at < length text → 0 < length (drop at text)

@@ -19,7 +19,7 @@ use Rattle.form.specs.declared.reading.LineRead.{LineRead}
 use Rattle.form.specs.declared.reading.LineRead.the-variants.{Node, Refused}
 use Rattle.form.proofs.Faults.{no-node, node-seen}
 use Rattle.form.proofs.Spelling.{of-digit, of-code}
-use Rattle.form.proofs.Spelt.{one-digit, two-digits, line-size}
+use Rattle.form.proofs.LineBytes.{one-digit, two-digits, line-size}
 
 -- ---- digits
 

@@ -22,7 +22,7 @@ use Rattle.form.specs.Writing.{writeOf}
 use Rattle.form.specs.Turns.{linesIn, levelsOf}
 use Rattle.form.proofs.Counts.{length-words}
 use Rattle.form.proofs.TreeLines.{lines-words}
-use Rattle.form.proofs.Spelt.{over-part, spell-append, spell-more, levels-append, levels-size}
+use Rattle.form.proofs.LineBytes.{over-part, spell-append, spell-more, levels-append, levels-size}
 
 -- ---- the lines of an order that passes
 

@@ -74,7 +74,7 @@ countedIn words latest (Refused f) = words
 -- What reading the lines answers, with their words at the front of w.
 abbrev pub Got : Form → Written → List ℕ → Type 0
 Got (fault n line) r w = (r ≡ refusedAt n line) × (n ≡ done → ⊥)
-Got (form xs) r w = (r ≡ wrote done (length (wordsOf xs))) × (take (length (wordsOf xs)) w ≡ wordsOf xs) × (length (wordsOf xs) ≤ most-words)
+Got (form xs) r w = (r ≡ wrote done (length (wordsOf xs))) × (take (length (wordsOf xs)) w ≡ wordsOf xs)
 
 -- ---- writing
 

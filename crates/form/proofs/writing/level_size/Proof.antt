@@ -1,5 +1,5 @@
 -- `form::writing::level_size` meets its contract. Assumes nothing.
-use Rattle.form.proofs.Spelt.{one-byte, two-bytes}
+use Rattle.form.proofs.LineBytes.{one-byte, two-bytes}
 use Rattle.form.proofs.writing.level_size.Statement.{statement}
 use Rattle.form.proofs.writing.level_size.Tie as tie
 

@@ -6,7 +6,7 @@ use lib.ListN.{length, length-set}
 use borrow.Author.Needs.{needs}
 use Rattle.figures.specs.Limits.{most-nodes, greatest-depth}
 use Rattle.form.proofs.Rows.{State, at-first, Turn, turn, all-listed}
-use Rattle.form.proofs.Spelt.{level-most}
+use Rattle.form.proofs.LineBytes.{level-most}
 use Rattle.form.proofs.writing.levels_into.Statement.{statement}
 use Rattle.form.proofs.writing.levels_into.Tie as tie
 

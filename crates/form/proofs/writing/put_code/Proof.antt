@@ -2,7 +2,7 @@
 use native.Mathlib.Omega.{arith}
 use lib.ListN.{length-set}
 use borrow.Author.Needs.{needs}
-use Rattle.form.proofs.Spelt.{six-stores}
+use Rattle.form.proofs.LineBytes.{six-stores}
 use Rattle.form.proofs.writing.put_code.Statement.{statement}
 use Rattle.form.proofs.writing.put_code.Tie as tie
 

@@ -2,7 +2,7 @@
 use native.Mathlib.Omega.{arith}
 use lib.ListN.{length-set}
 use borrow.Author.Needs.{needs}
-use Rattle.form.proofs.Spelt.{one-byte, two-bytes, one-store, two-stores}
+use Rattle.form.proofs.LineBytes.{one-byte, two-bytes, one-store, two-stores}
 use Rattle.form.proofs.writing.put_level.Statement.{statement}
 use Rattle.form.proofs.writing.put_level.Tie as tie
 

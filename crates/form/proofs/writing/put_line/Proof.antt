@@ -1,7 +1,7 @@
 -- `form::writing::put_line` meets its contract: the level, and the code behind it. Assumes nothing.
 use native.Mathlib.Omega.{arith}
 use borrow.Author.Needs.{needs}
-use Rattle.form.proofs.Spelt.{line-size, line-over, part-size}
+use Rattle.form.proofs.LineBytes.{line-size, line-over, part-size}
 use Rattle.form.proofs.writing.put_line.Statement.{statement}
 use Rattle.form.proofs.writing.put_line.Tie as tie
 

@@ -6,7 +6,7 @@ use lib.ListN.{length, getD}
 use borrow.Author.Needs.{needs}
 use Rattle.form.specs.Turns.{linesIn}
 use Rattle.form.proofs.Written.{Known, known, Put, put-none, PutNext, put-next, put-all}
-use Rattle.form.proofs.Spelt.{part-size}
+use Rattle.form.proofs.LineBytes.{part-size}
 use Rattle.form.proofs.writing.put_lines.Statement.{statement}
 use Rattle.form.proofs.writing.put_lines.Tie as tie
 
