@@ -1,16 +1,16 @@
 -- One line more: a new node without children behind the others, and its parent's number of children raised by one. Assumes nothing.
 use mathlib.Core.Path.{_≡_, refl, ap, sym, subst, _∙_}
-use mathlib.Core.List.{List, [], _∷_, _++_, append-assoc}
+use mathlib.Core.List.{List, [], _∷_, _++_, append-assoc, reverse, reverse-cons, reverse-append}
 use mathlib.Core.Bool.{Bool, true, false}
 use Prim.Native.Nat.{ℕ, suc, _+_, _*_, _≤_, _<_}
 use native.Mathlib.Omega.{arith}
 use lib.Dec.{leb, eqb}
-use lib.ListN.{length, getD, set, length-append}
+use lib.ListN.{length, getD, set, length-append, length-reverse}
 use lib.Seq.{getD-set-same, getD-set-other}
 use borrow.Author.Tests.{lt-leb, le-leb, lt-ltb, le-ltb, eq-eqb, ne-eqb, eqb-true, eqb-false, leb-true, leb-false}
 use Rattle.words.specs.Base.{if_then_else_}
 use Rattle.form.specs.Text.{Line}
-use Rattle.form.specs.Reading.{siblings, children, wordsOf, inOrder}
+use Rattle.form.specs.Reading.{siblings, children, wordsOf}
 
 -- Every line is deeper than l.
 abbrev pub Above : ℕ → List Line → Type 0
@@ -23,10 +23,9 @@ above-snoc l [] x a h = (h, tt)
 above-snoc l (y ∷ ys) x a h = (a .0, above-snoc l ys x (a .1) h)
 
 -- It is so in the order of the text too.
-above-inOrder : (l : ℕ) (xs : List Line) → Above l xs → Above l (inOrder xs)
-unfolding inOrder
-above-inOrder l [] a = tt
-above-inOrder l (x ∷ xs) a = above-snoc l (inOrder xs) x (above-inOrder l xs (a .1)) (a .0)
+above-reverse : (l : ℕ) (xs : List Line) → Above l xs → Above l (reverse xs)
+above-reverse l [] a = tt
+above-reverse l (x ∷ xs) a = subst (Above l) (sym (reverse-cons x xs)) (above-snoc l (reverse xs) x (above-reverse l xs (a .1)) (a .0))
 
 -- One more in both branches is one more.
 if-suc : (b : Bool) (n : ℕ) → (if b then suc (suc n) else suc n) ≡ suc (if b then suc n else n)
@@ -98,31 +97,24 @@ kids p back [] = refl
 kids p back (y ∷ front) = rw (two-on (length front)) (kids p back front)
 
 -- The siblings of a child of p are the children that p has so far.
-sibs : (p : Line) (front after : List Line) → Above (p .level) after → siblings (suc (p .level)) (after ++ (p ∷ front)) ≡ children (p .level) (inOrder after)
-unfolding siblings children inOrder if_then_else_
+sibs : (p : Line) (front after : List Line) → Above (p .level) after → siblings (suc (p .level)) (after ++ (p ∷ front)) ≡ children (p .level) (reverse after)
+unfolding siblings children if_then_else_
 sibs p front [] a = rw (lt-ltb (p .level) (suc (p .level)) (omega arith))
-sibs p front (x ∷ after) a = go (eqb (x .level) (suc (p .level))) refl (sibs p front after (a .1))
+sibs p front (x ∷ after) a = go (eqb (x .level) (suc (p .level))) refl (sibs p front after (a .1)) ∙ ap (children (p .level)) (sym (reverse-cons x after))
   where
-    go : (b : Bool) → eqb (x .level) (suc (p .level)) ≡ b → siblings (suc (p .level)) (after ++ (p ∷ front)) ≡ children (p .level) (inOrder after)
-        → siblings (suc (p .level)) (x ∷ after ++ (p ∷ front)) ≡ children (p .level) (inOrder after ++ (x ∷ []))
+    go : (b : Bool) → eqb (x .level) (suc (p .level)) ≡ b → siblings (suc (p .level)) (after ++ (p ∷ front)) ≡ children (p .level) (reverse after)
+        → siblings (suc (p .level)) (x ∷ after ++ (p ∷ front)) ≡ children (p .level) (reverse after ++ (x ∷ []))
     go true q ih =
         let h : p .level < x .level = a .0 in
-        rw (le-ltb (x .level) (suc (p .level)) h, q, ih, child (p .level) (inOrder after) x (above-inOrder _ after (a .1)) (eqb-true _ _ q))
+        rw (le-ltb (x .level) (suc (p .level)) h, q, ih, child (p .level) (reverse after) x (above-reverse _ after (a .1)) (eqb-true _ _ q))
     go false q ih =
         let h : p .level < x .level = a .0 in
-        rw (le-ltb (x .level) (suc (p .level)) h, q, ih, other (p .level) (inOrder after) x (eqb-false _ _ q))
+        rw (le-ltb (x .level) (suc (p .level)) h, q, ih, other (p .level) (reverse after) x (eqb-false _ _ q))
 
 -- A split of the lines is one in the order of the text.
-inOrder-split : (after : List Line) (p : Line) (front : List Line) → inOrder (after ++ (p ∷ front)) ≡ inOrder front ++ (p ∷ inOrder after)
-unfolding inOrder
-inOrder-split [] p front = refl
-inOrder-split (x ∷ after) p front = rw (inOrder-split after p front) (append-assoc (inOrder front) (p ∷ inOrder after) (x ∷ []))
-
--- There are as many lines in either order.
-pub length-inOrder : (xs : List Line) → length (inOrder xs) ≡ length xs
-unfolding inOrder
-length-inOrder [] = refl
-length-inOrder (x ∷ xs) = rw length-append (omega (arith, length-inOrder xs))
+reverse-split : (after : List Line) (p : Line) (front : List Line) → reverse (after ++ (p ∷ front)) ≡ reverse front ++ (p ∷ reverse after)
+reverse-split after p front =
+    reverse-append after (p ∷ front) ∙ ap (λ (xs : List Line). xs ++ reverse after) (reverse-cons p front) ∙ append-assoc (reverse front) (p ∷ []) (reverse after)
 
 -- Of lines that are listed the last first, the one at place p is the last of level l, and all behind it are deeper.
 pub record Open (before : List Line) (l p : ℕ) : Type 0 where
@@ -137,19 +129,18 @@ pub record Open (before : List Line) (l p : ℕ) : Type 0 where
 -- What a line x says of its parent at place p, and of the words with x.
 pub record Adopts (before : List Line) (p : ℕ) (x : Line) : Type 0 where
   pub inside : p < length before
-  pub had : getD (wordsOf (inOrder before)) (2 * p + 1) 0 ≡ siblings (x .level) before
-  pub words : wordsOf (inOrder (x ∷ before)) ≡ set (wordsOf (inOrder before)) (2 * p + 1) (suc (siblings (x .level) before)) ++ (x .code ∷ 0 ∷ [])
+  pub had : getD (wordsOf (reverse before)) (2 * p + 1) 0 ≡ siblings (x .level) before
+  pub words : wordsOf (reverse (x ∷ before)) ≡ set (wordsOf (reverse before)) (2 * p + 1) (suc (siblings (x .level) before)) ++ (x .code ∷ 0 ∷ [])
 
 -- `Adopts` holds of a split of the lines at the parent.
 adopts-split : (after : List Line) (p : Line) (front : List Line) (x : Line) → Above (p .level) after → x .level ≡ suc (p .level) → Adopts (after ++ (p ∷ front)) (length front) x
-unfolding inOrder
 adopts-split after p front x a e =
-    let b = above-inOrder (p .level) after a in
-    let s : siblings (x .level) (after ++ (p ∷ front)) ≡ children (p .level) (inOrder after) = ap (λ (l : ℕ). siblings l (after ++ (p ∷ front))) e ∙ sibs p front after a in
+    let b = above-reverse (p .level) after a in
+    let s : siblings (x .level) (after ++ (p ∷ front)) ≡ children (p .level) (reverse after) = ap (λ (l : ℕ). siblings l (after ++ (p ∷ front))) e ∙ sibs p front after a in
     record {
       inside = rw length-append (omega arith);
-      had = rw (s, inOrder-split after p front, ← length-inOrder front) (kids p (inOrder after) (inOrder front));
-      words = rw (s, inOrder-split after p front, ← length-inOrder front) (append p (inOrder after) x (inOrder front) b e);
+      had = rw (s, reverse-split after p front, ← length-reverse front) (kids p (reverse after) (reverse front));
+      words = ap wordsOf (reverse-cons x (after ++ (p ∷ front))) ∙ rw (s, reverse-split after p front, ← length-reverse front) (append p (reverse after) x (reverse front) b e);
     }
 
 -- `Adopts` holds of a line one level below the last of its level.

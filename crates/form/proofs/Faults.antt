@@ -1,7 +1,7 @@
 -- What a line is read as behind those before it, and what the whole text is then. Assumes nothing.
 use mathlib.Core.Path.{_≡_, refl, subst}
 use mathlib.Core.Bool.{Bool, true, false, not}
-use mathlib.Core.List.{List, [], _∷_}
+use mathlib.Core.List.{List, [], _∷_, reverse}
 use Prim.Native.Nat.{ℕ, zero, suc, _≤_, _<_}
 use native.Mathlib.Omega.{arith}
 use lib.Dec.{leb, ltb, eqb}
@@ -12,7 +12,7 @@ use Rattle.words.proofs.Tests.{and-left, and-right}
 use Rattle.figures.specs.Limits.{least-code, most-nodes, most-children, greatest-depth}
 use Rattle.figures.specs.Numbers.{done}
 use Rattle.form.specs.Text.{Line}
-use Rattle.form.specs.Reading.{faultNumber, speltOf, byLine, allowed, siblings, lineOf, inOrder, fault, form, readLines, formOf}
+use Rattle.form.specs.Reading.{faultNumber, speltOf, byLine, allowed, siblings, lineOf, fault, form, readLines, formOf}
 use Rattle.form.specs.Faults.{Fine}
 use Rattle.form.specs.declared.reading.Fault.{Fault}
 use Rattle.form.specs.declared.reading.Fault.the-variants.{PastLast, Misspelt, NoOption, LevelNotAllowed, TooDeep, NinthChild}
@@ -123,7 +123,7 @@ node-seen before s {l} {c} {w} e = go (seen before s e)
 -- ---- the whole text, by its next line
 
 -- Where no bytes are left, the lines are those before.
-pub read-done : (room : ℕ) (before : List Line) → readLines room before [] ≡ form (inOrder before)
+pub read-done : (room : ℕ) (before : List Line) → readLines room before [] ≡ form (reverse before)
 unfolding readLines
 read-done zero before = refl
 read-done (suc room) before = refl

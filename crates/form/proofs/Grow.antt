@@ -1,7 +1,7 @@
 -- Lines that may stand behind each other are the lines of one tree, and a form is the text of one good tree within the limits. Assumes
 -- nothing.
 use mathlib.Core.Path.{_≡_, refl, ap, sym, subst, _∙_}
-use mathlib.Core.List.{List, [], _∷_, _++_, append-assoc, append-nil, reverseAux}
+use mathlib.Core.List.{List, [], _∷_, _++_, append-assoc, append-nil, reverseAux, reverse, reverse-cons}
 use Prim.Native.Nat.{ℕ, zero, suc, _+_, _-_, _≤_, _<_}
 use native.Mathlib.Omega.{arith}
 use lib.ListN.{length}
@@ -10,7 +10,7 @@ use Rattle.words.specs.Base.{if_then_else_, within}
 use Rattle.figures.specs.Limits.{greatest-depth, most-nodes, most-children}
 use Rattle.order.specs.Trees.{Tree, Forest, node, bare, cons, count, words, depth, depthF, Good, GoodF, subtrees}
 use Rattle.form.specs.Text.{Line, linesOf, linesF, spell, textOf}
-use Rattle.form.specs.Reading.{allowed, siblings, inOrder, form, formOf, wordsOf}
+use Rattle.form.specs.Reading.{allowed, siblings, form, formOf, wordsOf}
 use Rattle.form.specs.Faults.{Legal}
 use Rattle.form.proofs.Faults.{within-both}
 use Rattle.form.proofs.TreeLines.{lines-words, lines-count}
@@ -106,11 +106,11 @@ grown t x = add t (x .level - 1) (x .code)
 
 module _ (t : Tree) (x : Line) (least : 1 ≤ x .level) (most : x .level ≤ suc (last t)) where
   -- Its lines are those of the tree, and the line.
-  grown-lines : (before : List Line) → inOrder before ≡ linesOf t 0 → inOrder (x ∷ before) ≡ linesOf (grown t x) 0
-  unfolding inOrder
+  grown-lines : (before : List Line) → reverse before ≡ linesOf t 0 → reverse (x ∷ before) ≡ linesOf (grown t x) 0
   grown-lines before e =
       let z : x .level ≡ 0 + suc (x .level - 1) = omega arith in
-      ap (λ (s : List Line). s ++ (x ∷ [])) e
+      reverse-cons x before
+      ∙ ap (λ (s : List Line). s ++ (x ∷ [])) e
       ∙ ap (λ (l : ℕ). linesOf t 0 ++ (line l (x .code) ∷ [])) z
       ∙ sym (add-lines t (x .level - 1) (x .code) 0 (omega arith))
 
@@ -121,18 +121,18 @@ module _ (t : Tree) (x : Line) (least : 1 ≤ x .level) (most : x .level ≤ suc
       add-last t (x .level - 1) (x .code) (omega arith) ∙ z
 
 -- The tree that the lines before are grows by a leaf for each line that may follow.
-grow : (xs before : List Line) (t : Tree) → inOrder before ≡ linesOf t 0 → ((l : ℕ) → allowed l before ≡ within 1 (suc (last t)) l) → Legal before xs → (u : Tree) × (inOrder before ++ xs ≡ linesOf u 0)
-unfolding inOrder allowed
-grow [] before t e a g = (t, append-nil (inOrder before) ∙ e)
+grow : (xs before : List Line) (t : Tree) → reverse before ≡ linesOf t 0 → ((l : ℕ) → allowed l before ≡ within 1 (suc (last t)) l) → Legal before xs → (u : Tree) × (reverse before ++ xs ≡ linesOf u 0)
+unfolding allowed
+grow [] before t e a g = (t, append-nil (reverse before) ∙ e)
 grow (x ∷ xs) before t e a g =
     let f = g .1 in
     let w = within-both 1 (suc (last t)) (x .level) (sym (a (x .level)) ∙ f .follows) in
     let r = grow xs (x ∷ before) (grown t x) (grown-lines t x (w .0) (w .1) before e) (λ l. ap (λ (m : ℕ). within 1 (suc m) l) (sym (grown-last t x (w .0) (w .1)))) (g .2) in
-    (r .0, sym (append-assoc (inOrder before) (x ∷ []) xs) ∙ r .1)
+    (r .0, sym (append-assoc (reverse before) (x ∷ []) xs) ∙ ap (λ (zs : List Line). zs ++ xs) (sym (reverse-cons x before)) ∙ r .1)
 
 -- Lines that may be a form's are the lines of a tree.
 tree-of : (x : Line) (xs : List Line) → Legal [] (x ∷ xs) → (t : Tree) × (x ∷ xs ≡ linesOf t 0)
-unfolding allowed inOrder linesOf last
+unfolding allowed linesOf last
 tree-of x xs g =
     let f = g .1 in
     let z : x .level ≡ 0 = eqb-true _ _ (f .follows) in

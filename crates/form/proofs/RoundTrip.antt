@@ -1,7 +1,7 @@
 -- What is written is read back: the lines of a good tree within the limits may stand behind each other, and the tree's text is read as
 -- its lines. Assumes nothing.
 use mathlib.Core.Path.{_≡_, refl, ap, sym, subst, _∙_}
-use mathlib.Core.List.{List, [], _∷_, _++_, append-assoc, append-nil, reverse, reverseAux, reverseAux-append}
+use mathlib.Core.List.{List, [], _∷_, _++_, append-nil, reverse, reverseAux, reverseAux-append, reverseAux-eq, reverseAux-reverseAux-nil}
 use mathlib.Core.Bool.{true}
 use Prim.Native.Nat.{ℕ, suc, _+_, _-_, _≤_, _<_}
 use native.Mathlib.Omega.{arith}
@@ -11,7 +11,7 @@ use Rattle.words.specs.Base.{_and_, if_then_else_}
 use Rattle.figures.specs.Limits.{greatest-depth, most-nodes, most-children}
 use Rattle.order.specs.Trees.{Tree, Forest, node, bare, cons, count, depth, depthF, Good, GoodF, subtrees}
 use Rattle.form.specs.Text.{Line, linesOf, linesF, lineText, spell, textOf}
-use Rattle.form.specs.Reading.{allowed, siblings, inOrder, form, readLines, formOf}
+use Rattle.form.specs.Reading.{allowed, siblings, form, readLines, formOf}
 use Rattle.form.specs.Faults.{Legal}
 use Rattle.form.proofs.Faults.{read-done, some-bytes}
 use Rattle.form.proofs.TreeLines.{lines-count}
@@ -96,10 +96,8 @@ unfolding allowed siblings
 tree-legal t g d = legal t 0 [] g (omega arith) refl (omega arith)
 
 -- Lines that are listed the last first, behind others, are in order again behind them.
-in-order : (xs before : List Line) → inOrder (reverseAux xs before) ≡ inOrder before ++ xs
-unfolding inOrder
-in-order [] before = sym (append-nil (inOrder before))
-in-order (x ∷ xs) before = in-order xs (x ∷ before) ∙ append-assoc (inOrder before) (x ∷ []) xs
+in-order : (xs before : List Line) → reverse (reverseAux xs before) ≡ reverse before ++ xs
+in-order xs before = reverseAux-reverseAux-nil xs before ∙ reverseAux-eq before xs
 
 -- The text of a tree has bytes.
 some-text : (t : Tree) → 0 < length (textOf t)
@@ -110,7 +108,7 @@ some-text (node c f) =
 
 -- The text of a good tree within the limits is read as the tree's lines.
 pub form-of : (t : Tree) → Good t → depth t ≤ greatest-depth → length (subtrees t) ≤ most-nodes → formOf (textOf t) ≡ form (linesOf t 0)
-unfolding textOf inOrder
+unfolding textOf
 form-of t g d n =
     let xs : List Line = linesOf t 0 in
     some-bytes (textOf t) (some-text t)

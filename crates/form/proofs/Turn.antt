@@ -1,13 +1,13 @@
 -- A turn of the reader: what is still to be read decides what the whole text is. Assumes nothing.
 use mathlib.Core.Path.{_≡_, refl, ap, sym, subst, _∙_}
-use mathlib.Core.List.{List, [], _∷_, _++_, append-assoc}
+use mathlib.Core.List.{List, [], _∷_, _++_, append-assoc, reverse}
 use mathlib.Core.Bool.{Bool, true, false, not}
 use Prim.Native.Nat.{ℕ, suc, _+_, _*_, _-_, _≤_, _<_}
 use native.Mathlib.Numerals.{add-one, add-two}
 use native.Mathlib.Omega.{arith}
 use native.Mathlib.Decide.{decLt}
 use lib.Dec.{leb, ltb, eqb}
-use lib.ListN.{length, take, drop, getD, set, replicate, length-append, length-set, length-drop, drop-of-length-le}
+use lib.ListN.{length, take, drop, getD, set, replicate, length-append, length-reverse, length-set, length-drop, drop-of-length-le}
 use lib.Seq.{take-suc-set, take-set-lt, getD-take, drop-drop}
 use borrow.Author.Tests.{ne-eqb, eqb-false, leb-true, leb-false, ltb-false}
 use Rattle.words.specs.Base.{_and_, if_then_else_}
@@ -17,7 +17,7 @@ use Rattle.figures.specs.Numbers.{done, no-form}
 use Rattle.figures.specs.Answers.{refusedAt, wrote}
 use Rattle.figures.specs.declared.Written.{Written}
 use Rattle.form.specs.Text.{code-size, Line, levelText, lineText}
-use Rattle.form.specs.Reading.{faultNumber, readNumber, speltOf, byLine, allowed, siblings, lineOf, inOrder, Form, fault, form, readLines, formOf, children, wordsOf}
+use Rattle.form.specs.Reading.{faultNumber, readNumber, speltOf, byLine, allowed, siblings, lineOf, Form, fault, form, readLines, formOf, children, wordsOf}
 use Rattle.form.specs.Turns.{follows, nextOf, countPlace, Parent, mayAdopt, adopted, Parents, underParent, countedIn, Got}
 use Rattle.form.specs.declared.reading.Fault.{Fault}
 use Rattle.form.specs.declared.reading.Fault.the-variants.{PastLast, NoOption, LevelNotAllowed, TooDeep, NinthChild}
@@ -27,7 +27,7 @@ use Rattle.form.proofs.Faults.{fault-number, fine-line, ninth-line, rea
 use Rattle.form.proofs.LineBytes.{line-size}
 use Rattle.form.proofs.Unique.{line-back}
 use Rattle.form.proofs.Steps.{follows-seen, adopt-first, adopt-one, adopted-length, full-seen, one-seen, Unadopted, handed, full, refused-seen, node-seen}
-use Rattle.form.proofs.Counts.{length-words, length-inOrder, Adopts, adopts, Kept, kept-on}
+use Rattle.form.proofs.Counts.{length-words, Adopts, adopts, Kept, kept-on}
 
 -- ---- the next line, as the code reads it
 
@@ -91,8 +91,8 @@ put-two w m a b k =
     rw (add-two m, add-one m, take-suc-set (set w m a) (suc m) b l, take-suc-set w m a i) (append-assoc (take m w) (a ∷ []) (b ∷ []))
 
 -- The words of the first line alone.
-first-words : (w : List ℕ) (n : ℕ) (x : Line) (before : List Line) → n ≡ 0 → before ≡ [] → take (2 * n) w ++ (x .code ∷ 0 ∷ []) ≡ wordsOf (inOrder (x ∷ before))
-unfolding inOrder wordsOf children
+first-words : (w : List ℕ) (n : ℕ) (x : Line) (before : List Line) → n ≡ 0 → before ≡ [] → take (2 * n) w ++ (x .code ∷ 0 ∷ []) ≡ wordsOf (reverse (x ∷ before))
+unfolding wordsOf children
 first-words w n x before e b = rw (e, b) refl
 
 -- No lines before are no siblings.
@@ -122,12 +122,12 @@ pub record State (text words latest : List ℕ) (at n greatest : ℕ) : Type 0 w
   pub long : length words ≡ most-words
   pub deep : length latest ≡ suc greatest-depth
   pub may : (l : ℕ) → allowed l before ≡ follows greatest l
-  pub wrote-words : take (2 * n) words ≡ wordsOf (inOrder before)
+  pub wrote-words : take (2 * n) words ≡ wordsOf (reverse before)
   pub kept : Kept before greatest latest
 
 -- Before line 1 nothing is read.
 pub start : (text words : List ℕ) → (length text ≡ 0 → ⊥) → length words ≡ most-words → State text words (replicate (suc greatest-depth) 0) 0 0 0
-unfolding allowed follows inOrder wordsOf if_then_else_
+unfolding allowed follows wordsOf if_then_else_
 start text words h k = record {
   room = most-nodes;
   before = [];
@@ -156,8 +156,8 @@ module _ {text words latest : List ℕ} {at n greatest : ℕ} (s : State text wo
   -- Where all bytes are read, the words are those of the lines.
   pub all-read : (r : Written) → length text ≤ at → r ≡ wrote done (2 * n) → Got (formOf text) r words
   all-read r h a =
-      let q : formOf text ≡ form (inOrder (s .before)) = s .reads ∙ ap (readLines (s .room) (s .before)) (drop-of-length-le text h) ∙ read-done (s .room) (s .before) in
-      let z : 2 * n ≡ length (wordsOf (inOrder (s .before))) = omega (arith, length-words (inOrder (s .before)), length-inOrder (s .before), s .lines) in
+      let q : formOf text ≡ form (reverse (s .before)) = s .reads ∙ ap (readLines (s .room) (s .before)) (drop-of-length-le text h) ∙ read-done (s .room) (s .before) in
+      let z : 2 * n ≡ length (wordsOf (reverse (s .before))) = omega (arith, length-words (reverse (s .before)), length-reverse (s .before), s .lines) in
       subst (λ (f : Form). Got f r words) (sym q) (a ∙ ap (wrote done) z, ap (λ (m : ℕ). take m words) (sym z) ∙ s .wrote-words)
 
   -- Bytes are left.
@@ -248,7 +248,7 @@ module _ {text words latest : List ℕ} {at n greatest : ℕ} (s : State text wo
     read-so m = fine-line (s .before) (drop at text) (node .spelt) (record { option = node .option; follows = fits; shallow = node .shallow; child = few m })
 
     -- Behind the words so far, with the child counted, its own two are those of a line more.
-    front : mayAdopt words latest level ≡ true → take (2 * n) (adopted words latest level) ++ (code ∷ 0 ∷ []) ≡ wordsOf (inOrder (line ∷ s .before))
+    front : mayAdopt words latest level ≡ true → take (2 * n) (adopted words latest level) ++ (code ∷ 0 ∷ []) ≡ wordsOf (reverse (line ∷ s .before))
     front m =
         elim (decLt 0 level) [
           | yes h ↦ counted h
@@ -259,7 +259,7 @@ module _ {text words latest : List ℕ} {at n greatest : ℕ} (s : State text wo
               ap (λ (w : List ℕ). take (2 * n) w ++ (code ∷ 0 ∷ [])) (sym (adopt-first words latest level z .1)) ∙ first-words words n line (s .before) k b
         ]
       where
-        counted : 0 < level → take (2 * n) (adopted words latest level) ++ (code ∷ 0 ∷ []) ≡ wordsOf (inOrder (line ∷ s .before))
+        counted : 0 < level → take (2 * n) (adopted words latest level) ++ (code ∷ 0 ∷ []) ≡ wordsOf (reverse (line ∷ s .before))
         counted h =
             let p = parent h in
             let j = countPlace latest level in
@@ -268,7 +268,7 @@ module _ {text words latest : List ℕ} {at n greatest : ℕ} (s : State text wo
             ap (λ (w : List ℕ). take (2 * n) w ++ (code ∷ 0 ∷ [])) (sym (adopt-one words latest level (λ z. omega arith) (one-seen words latest level m h) .1))
             ∙ ap (λ (w : List ℕ). w ++ (code ∷ 0 ∷ [])) (take-set-lt (2 * n) words j (getD words j 0 + 1) k)
             ∙ ap (λ (w : List ℕ). set w j (getD words j 0 + 1) ++ (code ∷ 0 ∷ [])) (s .wrote-words)
-            ∙ ap (λ (m : ℕ). set (wordsOf (inOrder (s .before))) j m ++ (code ∷ 0 ∷ [])) v
+            ∙ ap (λ (m : ℕ). set (wordsOf (reverse (s .before))) j m ++ (code ∷ 0 ∷ [])) v
             ∙ sym (p .words)
 
     -- The next turn begins behind it.

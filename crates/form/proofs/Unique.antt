@@ -1,6 +1,6 @@
 -- A line that is read has only one spelling, and so a text that is read without fault is the text of its lines. Assumes nothing.
 use mathlib.Core.Path.{_≡_, refl, ap, ap₂, sym, subst, _∙_}
-use mathlib.Core.List.{List, [], _∷_, _++_, append-assoc, append-nil}
+use mathlib.Core.List.{List, [], _∷_, _++_, append-assoc, append-nil, reverse, reverse-cons}
 use mathlib.Core.Bool.{Bool, true, false, not}
 use Prim.Native.Nat.{ℕ, zero, suc, _+_, _*_, _/_, _≤_, _<_}
 use native.Mathlib.Nat.{div-eq-of-lt-le, mod-eq-of-lt, mul-add-mod-self-right}
@@ -12,7 +12,7 @@ use borrow.Author.Tests.{eqb-false}
 use Rattle.words.specs.Base.{if_then_else_}
 use Rattle.figures.specs.Limits.{greatest-code, most-nodes}
 use Rattle.form.specs.Text.{digit-0, digit, code-size, Line, levelText, codeText, lineText, spell}
-use Rattle.form.specs.Reading.{faultNumber, isDigit, figure, value, isCode, codeBehind, speltOf, byLine, lineOf, inOrder, fault, form, readLines, formOf}
+use Rattle.form.specs.Reading.{faultNumber, isDigit, figure, value, isCode, codeBehind, speltOf, byLine, lineOf, fault, form, readLines, formOf}
 use Rattle.form.specs.Faults.{Legal, greatest-level}
 use Rattle.form.specs.declared.reading.Fault.the-variants.{Misspelt}
 use Rattle.form.specs.declared.reading.LineRead.{LineRead}
@@ -177,28 +177,28 @@ not-read e = let z : _≡_ {A = ℕ} 0 1 = cc in absurd (omega arith)
 -- What was read without fault: lines behind those before, for which there was room, and whose text the bytes are.
 record Again (room : ℕ) (before : List Line) (s : List ℕ) (xs : List Line) : Type 0 where
   ys : List Line
-  joined : xs ≡ inOrder before ++ ys
+  joined : xs ≡ reverse before ++ ys
   text : spell ys ≡ s
   legal : Legal before ys
   rooms : length ys ≤ room
 
 -- `Again` holds where no bytes are left.
-again-none : (room : ℕ) (before xs : List Line) → form (inOrder before) ≡ form xs → Again room before [] xs
+again-none : (room : ℕ) (before xs : List Line) → form (reverse before) ≡ form xs → Again room before [] xs
 unfolding spell
 again-none room before xs e =
-    let q : xs ≡ inOrder before = cc in
-    record { ys = []; joined = q ∙ sym (append-nil (inOrder before)); text = refl; legal = tt; rooms = omega arith }
+    let q : xs ≡ reverse before = cc in
+    record { ys = []; joined = q ∙ sym (append-nil (reverse before)); text = refl; legal = tt; rooms = omega arith }
 
 -- It holds of a line that is read, if it holds behind it.
 again-line : (room : ℕ) (before : List Line) (s : List ℕ) (xs : List Line) {l c w : ℕ} → lineOf before s ≡ Node l c w → Again room (record { level = l; code = c } ∷ before) (drop w s) xs → Again (suc room) before s xs
-unfolding spell inOrder
+unfolding spell
 again-line room before s xs {l} {c} {w} e a =
     let n = node-seen before s e in
     let k = line-back s (n .0) in
     let x : Line = record { level = l; code = c } in
     record {
       ys = x ∷ a .ys;
-      joined = a .joined ∙ append-assoc (inOrder before) (x ∷ []) (a .ys);
+      joined = a .joined ∙ ap (λ (zs : List Line). zs ++ a .ys) (reverse-cons x before) ∙ append-assoc (reverse before) (x ∷ []) (a .ys);
       text = ap (λ (t : List ℕ). lineText x ++ t) (a .text ∙ k .left) ∙ sym (k .is);
       legal = (k .small, n .1, a .legal);
       rooms = omega (arith, a .rooms);
@@ -219,7 +219,6 @@ again (suc room) before (b ∷ bs) xs e = go (lineOf before (b ∷ bs)) refl (λ
 
 -- Bytes that are read without fault are the text of their lines, each of which may stand there, and for which there was room.
 pub read-text : (room : ℕ) (s : List ℕ) (xs : List Line) → readLines room [] s ≡ form xs → (spell xs ≡ s) × Legal [] xs × (length xs ≤ room)
-unfolding inOrder
 read-text room s xs e =
     let a = again room [] s xs e in
     (ap spell (a .joined) ∙ a .text, subst (Legal []) (sym (a .joined)) (a .legal), rw (a .joined) (a .rooms))

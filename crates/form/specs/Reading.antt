@@ -1,7 +1,7 @@
 -- Order form text, read (01, "Order form text", and "Text" under "Order of checks"). Assumes nothing: these are definitions.
 use Prim.Native.Nat.{ℕ, zero, suc, _+_, _*_, _-_}
 use mathlib.Core.Bool.{Bool, not}
-use mathlib.Core.List.{List, [], _∷_, _++_}
+use mathlib.Core.List.{List, [], _∷_, reverse}
 use lib.Dec.{leb, ltb, eqb}
 use lib.ListN.{length, drop}
 use Rattle.words.specs.Base.{_and_, if_then_else_, within}
@@ -113,17 +113,12 @@ unfoldable pub byForm : {A : Type 0} → Form → (ℕ → ℕ → A) → (List 
 byForm (fault n line) f g = f n line
 byForm (form xs) f g = g xs
 
--- Lines that are listed the last first, in the order of the text.
-unfoldable pub inOrder : List Line → List Line
-inOrder [] = []
-inOrder (x ∷ xs) = inOrder xs ++ (x ∷ [])
-
--- "the first line at fault": the bytes behind the lines before, with room for so many lines more. A line without room is "past line 64",
--- whatever stands in it.
+-- "the first line at fault": the bytes behind the lines before, which are listed the last first, with room for so many lines more. A line
+-- without room is "past line 64", whatever stands in it.
 unfoldable pub readLines : ℕ → List Line → List ℕ → Form
-readLines zero before [] = form (inOrder before)
+readLines zero before [] = form (reverse before)
 readLines zero before (b ∷ bs) = fault (faultNumber PastLast) (suc (length before))
-readLines (suc room) before [] = form (inOrder before)
+readLines (suc room) before [] = form (reverse before)
 readLines (suc room) before (b ∷ bs) =
     byLine (lineOf before (b ∷ bs))
     (λ level code size. readLines room (record { level = level; code = code } ∷ before) (drop size (b ∷ bs)))
