@@ -162,20 +162,20 @@ pub data Unadopted (words latest : List ℕ) (y : LineRead) (f : Fault) : Type 0
   full : (l c w : ℕ) → y ≡ Node l c w → mayAdopt words latest l ≡ false → f ≡ NinthChild → Unadopted words latest y f
 
 -- `Unadopted` holds of a refusal.
-pub refused-seen : (words latest : List ℕ) (y : LineRead) {f : Fault} → underParent words latest y ≡ Refused f → Unadopted words latest y f
+pub unadopted-seen : (words latest : List ℕ) (y : LineRead) {f : Fault} → underParent words latest y ≡ Refused f → Unadopted words latest y f
 unfolding underParent if_then_else_
-refused-seen words latest (Refused g) e = handed e
-refused-seen words latest (Node l c w) {f} e = go (mayAdopt words latest l) refl e
+unadopted-seen words latest (Refused g) e = handed e
+unadopted-seen words latest (Node l c w) {f} e = go (mayAdopt words latest l) refl e
   where
     go : (b : Bool) → mayAdopt words latest l ≡ b → (if b then Node l c w else Refused NinthChild) ≡ Refused f → Unadopted words latest (Node l c w) f
     go true q e = no-node (sym e)
     go false q e = full l c w refl q (let z : f ≡ NinthChild = cc in z)
 
 -- A node under its parent was one before, and its parent had room for it.
-pub node-seen : (words latest : List ℕ) (y : LineRead) {l c w : ℕ} → underParent words latest y ≡ Node l c w → (y ≡ Node l c w) × (mayAdopt words latest l ≡ true)
+pub adopted-seen : (words latest : List ℕ) (y : LineRead) {l c w : ℕ} → underParent words latest y ≡ Node l c w → (y ≡ Node l c w) × (mayAdopt words latest l ≡ true)
 unfolding underParent if_then_else_
-node-seen words latest (Refused g) e = no-node e
-node-seen words latest (Node i d v) {l} {c} {w} e = go (mayAdopt words latest i) refl e
+adopted-seen words latest (Refused g) e = no-node e
+adopted-seen words latest (Node i d v) {l} {c} {w} e = go (mayAdopt words latest i) refl e
   where
     go : (b : Bool) → mayAdopt words latest i ≡ b → (if b then Node i d v else Refused NinthChild) ≡ Node l c w → (Node i d v ≡ Node l c w) × (mayAdopt words latest l ≡ true)
     go true q e = (e, ap (mayAdopt words latest) (let z : l ≡ i = cc in z) ∙ q)

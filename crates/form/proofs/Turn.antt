@@ -26,7 +26,7 @@ use Rattle.form.specs.declared.reading.LineRead.the-variants.{Node, Refu
 use Rattle.form.proofs.Faults.{fault-number, fine-line, ninth-line, read-done, read-past, read-fault, read-on, some-bytes}
 use Rattle.form.proofs.LineBytes.{line-size}
 use Rattle.form.proofs.Unique.{line-back}
-use Rattle.form.proofs.Steps.{follows-seen, adopt-first, adopt-one, adopted-length, full-seen, one-seen, Unadopted, handed, full, refused-seen, node-seen}
+use Rattle.form.proofs.Steps.{follows-seen, adopt-first, adopt-one, adopted-length, full-seen, one-seen, Unadopted, handed, full, unadopted-seen, adopted-seen}
 use Rattle.form.proofs.Counts.{length-words, Adopts, adopts, Kept, kept-on}
 
 -- ---- the next line, as the code reads it
@@ -147,10 +147,10 @@ got-fault : (f : Form) (w : List ℕ) {k l : ℕ} (m : ℕ) (r : Written) → f 
 got-fault f w {k} {l} m r q e z a = subst (λ (f : Form). Got f r w) (sym q) (a ∙ ap (refusedAt k) (sym e), z)
 
 -- No bytes are refused at line 1.
-pub no-text : (text w : List ℕ) (r : Written) → length text ≡ 0 → r ≡ refusedAt no-form 1 → Got (formOf text) r w
+pub empty-text : (text w : List ℕ) (r : Written) → length text ≡ 0 → r ≡ refusedAt no-form 1 → Got (formOf text) r w
 unfolding formOf
-no-text [] w r h a = (a, λ z. omega arith)
-no-text (b ∷ bs) w r h a = absurd (omega arith)
+empty-text [] w r h a = (a, λ z. omega arith)
+empty-text (b ∷ bs) w r h a = absurd (omega arith)
 
 module _ {text words latest : List ℕ} {at n greatest : ℕ} (s : State text words latest at n greatest) where
   -- Where all bytes are read, the words are those of the lines.
@@ -303,7 +303,7 @@ module _ {text words latest : List ℕ} {at n greatest : ℕ} (s : State text wo
 
   -- A line that is refused refuses the text, as the calls answered.
   pub bad-line : (r : Written) (w : List ℕ) {x : LineRead} {f : Fault} (k : ℕ) → at < length text → x ≡ underParent words latest (nextOf n greatest (drop at text)) → x ≡ Refused f → r ≡ refusedAt k (n + 1) → k ≡ readNumber x → Got (formOf text) r w
-  bad-line r w {x} {f} k h e q a b = go (refused-seen words latest (nextOf n greatest (drop at text)) (sym e ∙ q))
+  bad-line r w {x} {f} k h e q a b = go (unadopted-seen words latest (nextOf n greatest (drop at text)) (sym e ∙ q))
     where
       answer : r ≡ refusedAt (faultNumber f) (n + 1)
       answer = a ∙ ap (λ (m : ℕ). refusedAt m (n + 1)) (b ∙ ap readNumber q)
@@ -316,7 +316,7 @@ module _ {text words latest : List ℕ} {at n greatest : ℕ} (s : State text wo
   module _ {x : LineRead} {level code size : ℕ} (e : x ≡ underParent words latest (nextOf n greatest (drop at text))) (q : x ≡ Node level code size) where
     -- It is a node whose parent had room for it.
     counted : (nextOf n greatest (drop at text) ≡ Node level code size) × (mayAdopt words latest level ≡ true)
-    counted = node-seen words latest (nextOf n greatest (drop at text)) (sym e ∙ q)
+    counted = adopted-seen words latest (nextOf n greatest (drop at text)) (sym e ∙ q)
 
     -- There is room for it and for its level.
     pub room-for : (n < most-nodes) × (level ≤ greatest-depth)

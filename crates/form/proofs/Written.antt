@@ -95,9 +95,9 @@ next-of xs out₀ out line at x before after room same e l b o =
 
 module _ (s levels : List ℕ) (fine : causeOf s ≡ done) (listed : take (length (linesIn s)) levels ≡ levelsOf (linesIn s)) (line : ℕ) where
   -- The line behind those before is the one that is read.
-  line-read : (x : Line) (before after : List Line) → linesIn s ≡ before ++ (x ∷ after) → length before ≡ line → x ≡ record { level = getD levels line 0; code = getD s (2 * line) 0 }
+  this-line : (x : Line) (before after : List Line) → linesIn s ≡ before ++ (x ∷ after) → length before ≡ line → x ≡ record { level = getD levels line 0; code = getD s (2 * line) 0 }
   unfolding levelsOf wordsOf
-  line-read x before after e l =
+  this-line x before after e l =
       let n : length (linesIn s) ≡ line + suc (length after) = ap length e ∙ length-append before (x ∷ after) ∙ ap (λ (m : ℕ). m + suc (length after)) l in
       let level : getD levels line 0 ≡ x .level =
       sym (getD-take (length (linesIn s)) levels line 0 (omega arith)) ∙ ap (λ (r : List ℕ). getD r line 0) (listed ∙ ap levelsOf e ∙ levels-append before (x ∷ after)) ∙ getD-at (levelsOf before) (x .level) (levelsOf after) 0 line (levels-size before ∙ l) in
@@ -114,7 +114,7 @@ module _ (s levels : List ℕ) (fine : causeOf s ≡ done) (listed : take (lengt
     where
       go : (ys : List Line) → linesIn s ≡ p .before ++ ys → PutNext (linesIn s) out₀ out line at (record { level = getD levels line 0; code = getD s (2 * line) 0 })
       go [] e = absurd (omega (arith, known s fine .twice, ap length e, length-append (p .before) [], p .reached))
-      go (x ∷ ys) e = subst (PutNext (linesIn s) out₀ out line at) (line-read x (p .before) ys e (p .reached)) (next-of (linesIn s) out₀ out line at x (p .before) ys room same e (p .reached) (p .bytes) (p .is))
+      go (x ∷ ys) e = subst (PutNext (linesIn s) out₀ out line at) (this-line x (p .before) ys e (p .reached)) (next-of (linesIn s) out₀ out line at x (p .before) ys room same e (p .reached) (p .bytes) (p .is))
 
 -- After the last line all are written.
 pub put-all : (s out₀ out : List ℕ) (line at : ℕ) → causeOf s ≡ done → length s / 2 ≤ line → Put (linesIn s) out₀ out line at → out ≡ over (spell (linesIn s)) out₀

@@ -1,7 +1,7 @@
 // A form read: its lines in one pass over the bytes, and the words of its nodes. Assumes nothing beyond each function's `requires`.
 ghost use mathlib.Core.Bool.{true};
 ghost use mathlib.Core.Path.{_≡_};
-ghost use Prim.Native.Nat.{_+_, _*_, _≤_, _<_};
+ghost use Prim.Native.Nat.{_+_, _≤_, _<_};
 ghost use lib.ListN.{length, drop};
 ghost use Rattle.figures.specs.Limits.{most-words};
 ghost use Rattle.order.specs.Answers.{writing};

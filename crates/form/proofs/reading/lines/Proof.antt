@@ -3,7 +3,7 @@ use Prim.Native.Nat.{_+_, _-_, _≤_, _<_}
 use native.Mathlib.Omega.{arith}
 use lib.ListN.{length}
 use Rattle.figures.specs.Limits.{most-nodes, greatest-depth}
-use Rattle.form.proofs.Turn.{State, start, no-text, all-read, parents, bad-line, room-for, bytes-of, turn}
+use Rattle.form.proofs.Turn.{State, start, empty-text, all-read, parents, bad-line, room-for, bytes-of, turn}
 use borrow.Author.Needs.{needs}
 use Rattle.form.proofs.reading.lines.Statement.{statement}
 use Rattle.form.proofs.reading.lines.Tie as tie
@@ -28,7 +28,7 @@ refused-requires : tie.Need-refused-requires Inv-loop μ-loop
 refused-requires c κs = search needs
 
 returns : tie.Need-returns Inv-loop μ-loop
-returns c = no-text _ _ _ (c .before .if1 .taken) (c .refused .ensures)
+returns c = empty-text _ _ _ (c .before .if1 .taken) (c .refused .ensures)
 
 loop-holds : tie.Need-loop-holds Inv-loop μ-loop
 loop-holds c = start _ _ (c .if1 .left) (c .before .before .pre)
