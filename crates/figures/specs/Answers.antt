@@ -3,6 +3,7 @@ use Prim.Native.Nat.{ℕ}
 use Rattle.words.specs.Base.{if_then_else_, within}
 use Rattle.figures.specs.Limits.{least-k, greatest-k}
 use Rattle.figures.specs.Numbers.{done, k-outside}
+use Rattle.figures.specs.declared.Answer.{Answer}
 use Rattle.figures.specs.declared.Written.{Written}
 use Rattle.figures.specs.declared.depths.Asked.{Asked}
 use Rattle.figures.specs.declared.depths.Asked.the-variants.{Allowed, Outside}
@@ -15,6 +16,10 @@ depthOf k = if within least-k greatest-k k then Allowed (record { k = k }) else 
 abbrev pub numberOf : Asked → ℕ
 numberOf (Allowed k) = done
 numberOf Outside = k-outside
+
+-- A number with line 0: "for every other answer, 0 and 11 included, it is 0".
+abbrev pub answered : ℕ → Answer
+answered n = record { number = n; line = 0 }
 
 -- A number with line 0, and how many words or bytes were written.
 abbrev pub wrote : ℕ → ℕ → Written

@@ -1,4 +1,4 @@
--- The figures of 01 for orders and parts ("Orders", "Parts"). They unfold everywhere, so that a test against one computes.
+-- The figures of 01 for orders, parts and books ("Orders", "Parts", "The book"). They unfold everywhere, so that a test against one computes.
 -- Assumes nothing: these are definitions.
 use Prim.Native.Nat.{ℕ, _*_}
 
@@ -33,3 +33,19 @@ least-k = 2
 -- "to 6"
 abbrev pub greatest-k : ℕ
 greatest-k = 6
+
+-- The book's head: "Word 0: k. Word 1: words used. Word 2: live teachings", "Words 3 to 6: numbers of entries"
+abbrev pub head-words : ℕ
+head-words = 7
+
+-- "A lent slice of 7 to 16,384 words"
+abbrev pub most-book-words : ℕ
+most-book-words = 16384
+
+-- "count (1 to 65,535)"
+abbrev pub least-count : ℕ
+least-count = 1
+
+-- "to 65,535", and "live teachings, at most 65,535"
+abbrev pub greatest-count : ℕ
+greatest-count = 65535

@@ -1,4 +1,4 @@
--- The numbers of 01, "Numbers the desk hears", that an order, a part or a form can be answered with. Assumes nothing: these are definitions.
+-- The numbers of 01, "Numbers the desk hears", that an order, a part, a form or a book can be answered with. Assumes nothing: these are definitions.
 use Prim.Native.Nat.{ℕ}
 
 -- done
@@ -17,6 +17,14 @@ too-large = 2
 abbrev pub k-outside : ℕ
 k-outside = 3
 
+-- the book's slice is too short or too long
+abbrev pub book-size : ℕ
+book-size = 4
+
+-- the book is not in form
+abbrev pub not-in-form : ℕ
+not-in-form = 5
+
 -- the text is no form
 abbrev pub no-form : ℕ
 no-form = 10
@@ -24,3 +32,15 @@ no-form = 10
 -- the lent output is too short
 abbrev pub short-output : ℕ
 short-output = 11
+
+-- judged: the order's top is not in the book
+abbrev pub top-unknown : ℕ
+top-unknown = 20
+
+-- judged: a low part is not in the book
+abbrev pub low-unknown : ℕ
+low-unknown = 21
+
+-- judged: a middle part is not in the book
+abbrev pub middle-unknown : ℕ
+middle-unknown = 22

@@ -1,6 +1,6 @@
 // The figures and numbers of 01 by name, k, and the form of an answer: what every other crate counts with. Assumes nothing.
 ghost use mathlib.Core.Path.{_≡_};
-ghost use Rattle.figures.specs.Answers.{refusedAt, wrote};
+ghost use Rattle.figures.specs.Answers.{answered, refusedAt, wrote};
 
 mod depths;
 pub mod limits;
@@ -20,6 +20,13 @@ pub struct Written {
     pub number: u16,
     pub line: usize,
     pub count: usize,
+}
+
+// A number with line 0.
+pub fn answered(number: u16) -> Answer
+    ensures { λ r. ⌜ r ≡ answered number ⌝ }
+{
+    Answer { number, line: 0 }
 }
 
 // A number with line 0, and how many words or bytes were written.

@@ -12,8 +12,23 @@ pub const TOO_LARGE: u16 = 2;
 // k is outside 2 to 6
 pub const K_OUTSIDE: u16 = 3;
 
+// the book's slice is too short or too long
+pub const BOOK_SIZE: u16 = 4;
+
+// the book is not in form
+pub const NOT_IN_FORM: u16 = 5;
+
 // the text is no form
 pub const NO_FORM: u16 = 10;
 
 // the lent output is too short
 pub const SHORT_OUTPUT: u16 = 11;
+
+// judged: the order's top is not in the book
+pub const TOP_UNKNOWN: u16 = 20;
+
+// judged: a low part is not in the book
+pub const LOW_UNKNOWN: u16 = 21;
+
+// judged: a middle part is not in the book
+pub const MIDDLE_UNKNOWN: u16 = 22;

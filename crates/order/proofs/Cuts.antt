@@ -22,6 +22,7 @@ use Rattle.order.specs.declared.Walked.the-variants.{Broken, Whole}
 use Rattle.order.specs.declared.Laid.{Laid}
 use Rattle.figures.specs.declared.Written.{Written}
 use Rattle.order.proofs.Reading.{Sound, sound, first, reads-none, thenF, addT}
+use Rattle.order.proofs.Cutting.{count-cut}
 use Rattle.order.proofs.Walks.{two, first-all, two-words, past, short, no-node, start, rest}
 
 -- What a cut at d comes to that has written its first len words, from a node whose children are read up to `end`, with the trees of a
@@ -143,12 +144,6 @@ module _ (s : List ℕ) (at d : ℕ) (out : List ℕ) (room : Room (walkOf s at 
 -- What is written over the front does not depend on the two words that stood there.
 pub over-set : (w l : List ℕ) (a b : ℕ) → 2 ≤ length w → over w (set (set l 0 a) 1 b) ≡ over w l
 over-set w l a b h = rw (drop-set-lt (length w) (set l 0 a) 1 b h, drop-set-lt (length w) l 0 a (omega arith))
-
--- A cut row has as many trees.
-count-cut : (f : Forest) (d : ℕ) → count (cutF f d) ≡ count f
-unfolding count cutF
-count-cut bare d = refl
-count-cut (cons t f) d = ap suc (count-cut f d)
 
 -- Below depth 0 the node keeps its children, cut by one less.
 node-cut : (d c k : ℕ) (f : Forest) (r : List ℕ) → count f ≡ k → cutWords (suc d) (nodeOver true c k (read f r)) ≡ c ∷ k ∷ wordsF (cutF f d)

@@ -7,6 +7,7 @@ pub mod LineParts
 pub mod Reading
 pub mod Orders
 pub mod Causes
+pub mod Fitting
 pub mod Walks
 pub mod PartsAt
 pub mod Lines

@@ -3,6 +3,7 @@ use mathlib.Core.Path.{_≡_, refl, ap, sym, subst, _∙_}
 use mathlib.Core.List.{List, [], _∷_, _++_, append-assoc, append-nil}
 use Prim.Native.Nat.{ℕ, zero, suc, _+_, _-_, _*_, _/_, _≤_, _<_}
 use native.Mathlib.Decide.{decLt}
+use native.Mathlib.Numerals.{add-one}
 use native.Mathlib.Omega.{arith}
 use borrow.Author.Tests.{lt-ltb, le-ltb}
 use lib.ListN.{length, drop, length-append}
@@ -43,6 +44,13 @@ unfolding treeAt
 at-past [] i h = refl
 at-past (u ∷ us) zero h = absurd (omega arith)
 at-past (u ∷ us) (suc i) h = at-past us i (omega arith)
+
+-- From a place that has a tree on, the list is this tree and what follows it.
+pub tree-next : (ts : List Tree) (i : ℕ) (s : Tree) → treeAt ts i ≡ found s → drop i ts ≡ s ∷ drop (i + 1) ts
+unfolding treeAt
+tree-next [] i s e = not-found e
+tree-next (t ∷ ts) zero s e = let z : t ≡ s = cc in ap (λ (u : Tree). u ∷ ts) z
+tree-next (t ∷ ts) (suc i) s e = tree-next ts i s e ∙ rw (add-one i, add-one (suc i)) refl
 
 -- ---- a place in the words
 
@@ -104,20 +112,25 @@ mutual
       (λ l. spot-right i (words t) (wordsF f) s (subtrees t) (subtreesF f) l (size t)
       (spotF f (g .1) s (i - length (subtrees t)) (omega (arith, length-append (subtrees t) (subtreesF f)))))
 
+-- The subtree of each line of an order has its spot in the order's words.
+pub line-spot : (s : List ℕ) (t : Tree) (i : ℕ) → Passed s t → i < length (subtrees t) → Spot s (i * 2) (treeAt (subtrees t) i)
+line-spot s t i p h =
+    subst (λ (w : List ℕ). Spot w (i * 2) (treeAt (subtrees t) i)) (append-nil (words t) ∙ sym (p .spelt)) (spot t (p .good) [] i h)
+
 -- "A subtree is a contiguous part of the order's words": the subtree of line i + 1 is the words from word 2 i on.
 pub subtree-part : (s : List ℕ) (t u : Tree) (i : ℕ) → Passed s t → lineOf (suc i) (subtrees t) ≡ found u → (after : List ℕ) × (drop (i * 2) s ≡ words u ++ after)
 unfolding lineOf
 subtree-part s t u i p l = pick i (length (subtrees t))
     (λ h.
-    let q = spot t (p .good) [] i h in
+    let q = line-spot s t i p h in
     let e : u ≡ q .tree = cc (q .is) in
-    (q .after, rw (e, p .spelt, sym (append-nil (words t))) (q .here)))
+    (q .after, rw e (q .here)))
     (λ h. not-found (sym (at-past (subtrees t) i h) ∙ l))
 
 -- What stands at a spot: the tree, what the walk finds, the words of the cut, and the words of the tree.
 module _ (s : List ℕ) (at : ℕ) (x : Found) (p : Spot s at x) where
   -- The words from there on begin with the tree.
-  from-spot : treeFrom s at ≡ found (p .tree)
+  pub from-spot : treeFrom s at ≡ found (p .tree)
   unfolding treeFrom firstTree
   from-spot = rw (p .here, complete (p .tree) (p .good) 0 (p .after), reads-none (p .after)) refl
 
@@ -166,7 +179,7 @@ placed-line s (suc i) t p = pick i (length (subtrees t))
       tree = t;
       is = p .is;
       short = omega (arith, size t, ap length (p .spelt), p .nodes);
-      spot = subst (λ (w : List ℕ). Spot w (i * 2) (treeAt (subtrees t) i)) (append-nil (words t) ∙ sym (p .spelt)) (spot t (p .good) [] i l);
+      spot = line-spot s t i p l;
     }))
     (λ l. rw (le-ltb i (length (subtrees t)) l) (record { tree = t; is = p .is; lacks = at-past (subtrees t) i l }))
 

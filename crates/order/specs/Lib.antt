@@ -5,4 +5,5 @@ pub mod Causes
 pub mod Parts
 pub mod Walks
 pub mod Answers
+pub mod Fits
 pub mod Paper

@@ -7,6 +7,7 @@ ghost use Rattle.words.specs.Base.{over};
 ghost use Rattle.order.specs.Reading.{soundNode, causeOf};
 ghost use Rattle.order.specs.Walks.{walkOf, keptOf, Room, cutOf, wordsAtOf, endOf, laidOf, placeOf, partAtOf, kindOf};
 ghost use Rattle.order.specs.Answers.{checkOf, subtreeOf, writing, write, cutIntoOf, noPart, partWriting, partIntoOf};
+ghost use Rattle.order.specs.Fits.{fitsOf};
 use figures::Answer;
 use figures::Depth;
 use figures::Written;
@@ -103,7 +104,8 @@ fn kept(d: usize, n: usize) -> usize
 }
 
 // The tree at word `at`, and how long its cut at d is. It calls itself for each child, with fewer words left each time. Every public
-// function tests the order's length first, so that the calls go no deeper than an order has nodes, and one more for a child that is not there.
+// function but `put` tests the order's length first, so that the calls go no deeper than an order has nodes, and one more for a child that
+// is not there.
 fn walk(order: &[u16], at: usize, d: usize) -> Walked
     ensures { λ r. ⌜ r ≡ walkOf (now (order .entry)) at d ⌝ }
 {
@@ -232,8 +234,8 @@ pub fn subtree(order: &[u16], line: usize) -> &[u16]
 }
 
 // Writes the cut at d of the tree at word `at` to the front of `out`, which has room for it. It calls itself for each child, on the
-// part of `out` that is still to be written.
-fn put(order: &[u16], at: usize, d: usize, out: &mut [u16]) -> Laid
+// part of `out` that is still to be written; the caller has tested the order's length.
+pub fn put(order: &[u16], at: usize, d: usize, out: &mut [u16]) -> Laid
     requires { ⌜ Room (walkOf (now order) at d) (length (now out)) ⌝ }
     ensures came { λ r. ⌜ r ≡ laidOf (walkOf (now (order .entry)) at d) ⌝ }
     ensures wrote { λ _. ⌜ now (out .exit) ≡ over (cutOf (now (order .entry)) at d) (now (out .entry)) ⌝ }
@@ -330,4 +332,32 @@ pub fn part_into(order: &[u16], line: usize, k: Depth, out: &mut [u16]) -> PartW
             PartWritten { kind, written }
         }
     }
+}
+
+// Whether the words are an order within limits, of a depth from `least` to `greatest`.
+pub fn fits(order: &[u16], least: usize, greatest: usize) -> bool
+    ensures { λ r. ⌜ r ≡ fitsOf least greatest (now (order .entry)) ⌝ }
+{
+    let words = order.len();
+    if limits::MOST_WORDS < words {
+        return false;
+    }
+    let Walked::Whole {
+        end,
+        depth: h,
+        cut: _,
+    } = walk(order, 0, 0)
+    else {
+        return false;
+    };
+    if end < words {
+        return false;
+    }
+    if limits::GREATEST_DEPTH < h {
+        return false;
+    }
+    if h < least {
+        return false;
+    }
+    h <= greatest
 }

@@ -24,3 +24,13 @@ compareOf (x ∷ xs) (y ∷ ys) = firstWords (ltb x y) (ltb y x) (compareOf xs y
 -- The first list is lower.
 abbrev pub _≺_ : List ℕ → List ℕ → Type 0
 x ≺ y = compareOf x y ≡ Lower
+
+-- Whether an answer says that the first list is lower.
+abbrev pub isLower : Compared → Bool
+isLower Lower = true
+isLower Equal = false
+isLower Higher = false
+
+-- Whether the first list is lower, as a test.
+unfoldable pub before : List ℕ → List ℕ → Bool
+before x y = isLower (compareOf x y)

@@ -4,7 +4,7 @@ ghost use mathlib.Core.Path.{_≡_};
 ghost use Prim.Native.Nat.{_≤_};
 ghost use lib.ListN.{length, replicate};
 ghost use Rattle.words.specs.Base.{over};
-ghost use Rattle.words.specs.Compare.{compareOf};
+ghost use Rattle.words.specs.Compare.{compareOf, before};
 
 // How one slice stands to another.
 pub enum Compared {
@@ -36,6 +36,17 @@ pub fn compare(a: &[u16], b: &[u16]) -> Compared
         return Compared::Lower;
     }
     Compared::Equal
+}
+
+// Whether the first slice is lower than the second.
+pub fn precedes(a: &[u16], b: &[u16]) -> bool
+    ensures { λ r. ⌜ r ≡ before (now (a .entry)) (now (b .entry)) ⌝ }
+{
+    match compare(a, b) {
+        Compared::Lower => true,
+        Compared::Equal => false,
+        Compared::Higher => false,
+    }
 }
 
 // Copies the words to the front of `out`, which has room for them.

@@ -1,0 +1,188 @@
+-- Which words fit (specs/Fits.antt): what the walk from word 0 says of it, that `fitsOf` is `Fits`, and that the parts of an order fit.
+-- Assumes nothing.
+use Prim.Native.Nat.{ℕ, _-_, _*_, _/_, _≤_, _<_}
+use mathlib.Core.Path.{_≡_, refl, ap, sym, _∙_}
+use mathlib.Core.Bool.{true, false}
+use mathlib.Core.List.{List, [], Memᴰ·of-map}
+use native.Mathlib.Omega.{arith}
+use borrow.Author.Tests.{le-leb, lt-leb, leb-true}
+use lib.Dec.{leb}
+use lib.ListN.{length}
+use Rattle.words.specs.Base.{_and_, within, keep}
+use Rattle.words.specs.Compare.{compareOf}
+use Rattle.words.specs.declared.Compared.the-variants.{Lower}
+use Rattle.words.proofs.Tests.{no-test, and-left, and-right, and-both}
+use Rattle.figures.specs.Limits.{most-nodes, most-words, greatest-depth}
+use Rattle.order.specs.Trees.{Tree, node, words, depth, cut, subtrees}
+use Rattle.order.specs.Reading.{missing, found, treeOf, order, byOrder, orderOf}
+use Rattle.order.specs.Parts.{top, isLow, lows, middle, isMiddle, middles, lowParts, middleParts}
+use Rattle.order.specs.Fits.{fitsOf, Fits}
+use Rattle.order.proofs.Reading.{not-found}
+use Rattle.order.proofs.Unique.{words-unique}
+use Rattle.order.proofs.Once.{_∈_, kept-in, once-from}
+use Rattle.order.proofs.Cutting.{depth-cut, cut-depth, cut-deep, cut-good, cut-nodes, subtree-good, subtree-nodes}
+use Rattle.order.proofs.Paper.{subtree-from, subtree-depth}
+use Rattle.order.proofs.Orders.{FoundDeep, size, words-read, read-words, tree-passes}
+use Rattle.order.proofs.Causes.{Passed, Seen, stopped, passed, seen, order-passed}
+
+-- ---- what the walk says
+
+-- The tree of an order that passes is the one that is read.
+passed-found : {s : List ℕ} {t : Tree} → Passed s t → treeOf s ≡ found t
+passed-found {s} {t} p = ap treeOf (p .spelt) ∙ words-read t (p .good)
+
+-- A tree that is read of few enough words, and is not too deep, is an order.
+found-passed : (s : List ℕ) (t : Tree) → length s ≤ most-words → treeOf s ≡ found t → depth t ≤ greatest-depth → Passed s t
+found-passed s t l e d =
+    let r = read-words s t e in
+    let n : length (subtrees t) ≤ most-nodes = omega (arith, size t, ap length (r .0)) in
+    order-passed s t (ap orderOf (r .0) ∙ tree-passes t (r .1) n d)
+
+module _ (least greatest : ℕ) (s : List ℕ) where
+  -- Of an order the depth decides.
+  fits-order : (t : Tree) → orderOf s ≡ order t → fitsOf least greatest s ≡ within least greatest (depth t)
+  unfolding fitsOf byOrder
+  fits-order t e = rw e
+
+  -- Words that are no order do not fit.
+  fits-none : ((t : Tree) → Passed s t → ⊥) → fitsOf least greatest s ≡ false
+  unfolding fitsOf byOrder
+  fits-none h = go (seen s)
+    where
+      go : Seen s → fitsOf least greatest s ≡ false
+      go (stopped k e) = rw e
+      go (passed t k p) = absurd (h t p)
+
+  -- More words than an order has do not fit.
+  pub fits-long : most-words < length s → fitsOf least greatest s ≡ false
+  fits-long l = fits-none (λ t p. omega (arith, size t, ap length (p .spelt), p .nodes))
+
+  -- Words that are not exactly one good tree do not fit.
+  pub fits-missing : treeOf s ≡ missing → fitsOf least greatest s ≡ false
+  fits-missing e = fits-none (λ t p. not-found (sym e ∙ passed-found p))
+
+-- A tree of depth h is read of few enough words.
+module _ (least greatest h : ℕ) (s : List ℕ) (short : length s ≤ most-words) (f : FoundDeep (treeOf s) h) where
+  -- A tree that is too deep does not fit.
+  pub fits-deep : greatest-depth < h → fitsOf least greatest s ≡ false
+  fits-deep l =
+      fits-none least greatest s (λ t p.
+      let e : t ≡ f .tree = cc (passed-found p, f .is) in
+      omega (arith, ap depth e, f .deep, p .deep))
+
+  -- Otherwise its depth decides.
+  fits-found : h ≤ greatest-depth → fitsOf least greatest s ≡ within least greatest h
+  fits-found d =
+      let p = found-passed s (f .tree) short (f .is) (omega (arith, f .deep)) in
+      fits-order least greatest s (f .tree) (p .is) ∙ ap (within least greatest) (f .deep)
+
+  -- A tree that is less deep than the least depth does not fit.
+  pub fits-low : h ≤ greatest-depth → h < least → fitsOf least greatest s ≡ false
+  unfolding _and_
+  fits-low d l = fits-found d ∙ rw (lt-leb least h l)
+
+  -- Any other fits if it is no deeper than the greatest depth.
+  pub fits-high : h ≤ greatest-depth → least ≤ h → fitsOf least greatest s ≡ leb h greatest
+  unfolding _and_
+  fits-high d l = fits-found d ∙ rw (le-leb least h l)
+
+-- ---- what it means to fit
+
+module _ (least greatest : ℕ) (ws : List ℕ) where
+  -- Words that fit are the order of their tree.
+  tree-order : (f : Fits least greatest ws) → orderOf ws ≡ order (f .tree)
+  tree-order f = ap orderOf (f .spelt) ∙ tree-passes (f .tree) (f .good) (f .nodes) (f .deep)
+
+  -- Words that fit are those of a tree within the limits, of such a depth.
+  pub fits-tree : fitsOf least greatest ws ≡ true → Fits least greatest ws
+  unfolding fitsOf byOrder
+  fits-tree e = go (seen ws)
+    where
+      go : Seen ws → Fits least greatest ws
+      go (stopped k r) = no-test (rw r at e)
+      go (passed t k p) =
+          let b : within least greatest (depth t) ≡ true = sym (fits-order least greatest ws t (p .is)) ∙ e in
+          record {
+            tree = t;
+            spelt = p .spelt;
+            good = p .good;
+            nodes = p .nodes;
+            deep = p .deep;
+            above = leb-true _ _ (and-left _ _ b);
+            below = leb-true _ _ (and-right _ _ b);
+          }
+
+  -- And back: the words of such a tree fit.
+  pub tree-fits : Fits least greatest ws → fitsOf least greatest ws ≡ true
+  tree-fits f = fits-order least greatest ws (f .tree) (tree-order f) ∙ and-both (le-leb _ _ (f .above)) (le-leb _ _ (f .below))
+
+  -- The number of words that fit is even.
+  pub fits-even : fitsOf least greatest ws ≡ true → 2 * (length ws / 2) ≡ length ws
+  fits-even e = let f = fits-tree e in omega (arith, size (f .tree), ap length (f .spelt))
+
+-- The empty key stands below the words of a tree.
+empty-below : (t : Tree) → compareOf [] (words t) ≡ Lower
+unfolding compareOf words
+empty-below (node c f) = refl
+
+-- The empty key stands below every order.
+pub fits-some : (least greatest : ℕ) (ws : List ℕ) → fitsOf least greatest ws ≡ true → compareOf [] ws ≡ Lower
+fits-some least greatest ws e = let f = fits-tree least greatest ws e in ap (compareOf []) (f .spelt) ∙ empty-below (f .tree)
+
+-- ---- the parts of an order fit
+
+-- A tree whose words fit is an order.
+fits-passed : (t : Tree) (least greatest : ℕ) → Fits least greatest (words t) → Passed (words t) t
+fits-passed t least greatest f =
+    order-passed (words t) t (tree-order least greatest (words t) f ∙ ap order (words-unique (f .tree) t (sym (f .spelt))))
+
+-- The top of an order fits.
+pub top-fits : (k : ℕ) (t : Tree) (least greatest : ℕ) → Fits least greatest (words t) → Fits 0 (k - 2) (words (top k t))
+unfolding top
+top-fits k t least greatest f =
+    let p = fits-passed t least greatest f in
+    record {
+      tree = cut t (k - 2);
+      spelt = refl;
+      good = cut-good t (k - 2) (p .good);
+      nodes = omega (arith, cut-nodes t (k - 2), p .nodes);
+      deep = omega (arith, depth-cut t (k - 2), p .deep);
+      above = omega arith;
+      below = cut-depth t (k - 2);
+    }
+
+-- Each low part of an order fits.
+pub low-fits : (k : ℕ) (t s : Tree) (least greatest : ℕ) → Fits least greatest (words t) → s ∈ lowParts k t → Fits 0 (k - 2) (words s)
+unfolding lowParts lows isLow
+low-fits k t s least greatest f m =
+    let p = fits-passed t least greatest f in
+    let r = kept-in (isLow k) (subtrees t) (once-from _ m) in
+    record {
+      tree = s;
+      spelt = refl;
+      good = subtree-good t (r .0) (p .good);
+      nodes = omega (arith, subtree-nodes t (r .0), p .nodes);
+      deep = omega (arith, subtree-depth (subtree-from t (r .0)), p .deep);
+      above = omega arith;
+      below = leb-true (depth s) (k - 2) (r .1);
+    }
+
+-- Each middle part of an order fits, and is k-1 deep.
+pub middle-fits : (k : ℕ) (t u : Tree) (least greatest : ℕ) → Fits least greatest (words t) → u ∈ middleParts k t → Fits (k - 1) (k - 1) (words u)
+unfolding middleParts middles isMiddle middle
+middle-fits k t u least greatest f m =
+    let p = fits-passed t least greatest f in
+    let q = Memᴰ·of-map (middle k) (keep (isMiddle k) (subtrees t)) (once-from _ m) in
+    let s : Tree = q .0 in
+    let r = kept-in (isMiddle k) (subtrees t) (q .1) in
+    let is : cut s (k - 1) ≡ u = q .2 in
+    let deep : depth (cut s (k - 1)) ≡ k - 1 = cut-deep s (k - 1) (leb-true (k - 1) (depth s) (r .1)) in
+    record {
+      tree = cut s (k - 1);
+      spelt = ap words (sym is);
+      good = cut-good s (k - 1) (subtree-good t (r .0) (p .good));
+      nodes = omega (arith, cut-nodes s (k - 1), subtree-nodes t (r .0), p .nodes);
+      deep = omega (arith, depth-cut s (k - 1), subtree-depth (subtree-from t (r .0)), p .deep);
+      above = omega arith;
+      below = omega arith;
+    }

@@ -1,0 +1,57 @@
+-- What a search finds: whether some entry has the key, by the search's answer and by each of its turns. Assumes nothing.
+use Prim.Native.Nat.{ℕ, _+_}
+use mathlib.Core.Path.{_≡_, refl, _∙_}
+use mathlib.Core.Bool.{true, false}
+use mathlib.Core.List.{List, [], _∷_}
+use native.Mathlib.Omega.{arith}
+use lib.ListN.{length}
+use Rattle.words.specs.Base.{if_then_else_}
+use Rattle.words.specs.Compare.{compareOf}
+use Rattle.words.specs.declared.Compared.{Compared}
+use Rattle.words.specs.declared.Compared.the-variants.{Lower, Equal, Higher}
+use Rattle.words.proofs.Ordered.{compare-equal, compare-flip}
+use Rattle.words.proofs.Tests.{same-words}
+use Rattle.section.specs.Entries.{Entry, has, look, Below, Sorted}
+use Rattle.section.specs.declared.Found.the-variants.{At, Absent}
+use Rattle.section.proofs.Counts.{lower-differs, below-lacks}
+
+-- ---- one turn of a search
+
+-- Past a lower entry the key is still to be found.
+pub has-lower : (e : Entry) (es : List Entry) (key : List ℕ) → compareOf (e .key) key ≡ Lower → has key (e ∷ es) ≡ has key es
+unfolding has if_then_else_
+has-lower e es key h = rw (lower-differs (e .key) key h)
+
+-- An entry told equal has the key.
+pub has-equal : (e : Entry) (es : List Entry) (key : List ℕ) → compareOf (e .key) key ≡ Equal → has key (e ∷ es) ≡ true
+unfolding has if_then_else_
+has-equal e es key h = rw (compare-equal (e .key) key h, same-words key)
+
+-- From a higher entry on no entry has the key.
+pub has-higher : (e : Entry) (es : List Entry) (key : List ℕ) → Sorted (e ∷ es) → compareOf (e .key) key ≡ Higher → has key (e ∷ es) ≡ false
+unfolding Below
+has-higher e es key s h = below-lacks key (e ∷ es) (compare-flip (e .key) key ∙ rw h) s
+
+-- ---- the whole search
+
+-- A key found has an entry.
+pub look-has : (key : List ℕ) (at p : ℕ) (es : List Entry) → look key at es ≡ At p → has key es ≡ true
+unfolding look
+look-has key at p [] h = absurd (let z : _≡_ {A = ℕ} 0 1 = cc in omega arith)
+look-has key at p (e ∷ es) h = go (compareOf (e .key) key) refl (look-has key (at + (2 + length (e .key))) p es)
+  where
+    go : (o : Compared) → compareOf (e .key) key ≡ o → (look key (at + (2 + length (e .key))) es ≡ At p → has key es ≡ true) → has key (e ∷ es) ≡ true
+    go Lower c later = has-lower e es key c ∙ later (rw c at h)
+    go Equal c later = has-equal e es key c
+    go Higher c later = let q : Absent at ≡ At p = rw c at h in absurd (let z : _≡_ {A = ℕ} 0 1 = cc in omega arith)
+
+-- A key not found has none.
+pub look-lacks : (key : List ℕ) (at p : ℕ) (es : List Entry) → Sorted es → look key at es ≡ Absent p → has key es ≡ false
+unfolding look Sorted
+look-lacks key at p [] s h = unfold has in refl
+look-lacks key at p (e ∷ es) s h = go (compareOf (e .key) key) refl (look-lacks key (at + (2 + length (e .key))) p es (s .2))
+  where
+    go : (o : Compared) → compareOf (e .key) key ≡ o → (look key (at + (2 + length (e .key))) es ≡ Absent p → has key es ≡ false) → has key (e ∷ es) ≡ false
+    go Lower c later = has-lower e es key c ∙ later (rw c at h)
+    go Equal c later = let q : At at ≡ Absent p = rw c at h in absurd (let z : _≡_ {A = ℕ} 0 1 = cc in omega arith)
+    go Higher c later = has-higher e es key s c
