@@ -7,7 +7,7 @@ use native.Mathlib.Omega.{arith}
 use lib.Dec.{ltb}
 use lib.ListN.{length, length-append, length-reverse}
 use Rattle.words.specs.Base.{_and_, if_then_else_}
-use Rattle.words.proofs.Tests.{no-test}
+use Rattle.words.proofs.Tests.{no-test, fails-right}
 use Rattle.figures.specs.Limits.{least-code, most-nodes}
 use Rattle.figures.specs.Numbers.{done, no-form}
 use Rattle.figures.specs.Answers.{refusedAt}
@@ -63,19 +63,13 @@ pub data NotFour (a b c d : ℕ) : Type 0 where
   third : isDigit c ≡ false → NotFour a b c d
   fourth : isDigit d ≡ false → NotFour a b c d
 
--- Two tests of which the second fails do not both pass.
-and-fails : (a b : Bool) → b ≡ false → (a and b) ≡ false
-unfolding _and_
-and-fails true b e = e
-and-fails false b e = refl
-
 -- Such bytes are no code, whatever stands behind them.
 no-code : (a b c d e : ℕ) → NotFour a b c d → isCode space a b c d e ≡ false
 unfolding isCode _and_
 no-code a b c d e (first h) = rw h
-no-code a b c d e (second h) = and-fails (isDigit a) _ (rw h)
-no-code a b c d e (third h) = and-fails (isDigit a) _ (and-fails (isDigit b) _ (rw h))
-no-code a b c d e (fourth h) = and-fails (isDigit a) _ (and-fails (isDigit b) _ (and-fails (isDigit c) _ (rw h)))
+no-code a b c d e (second h) = fails-right (isDigit a) _ (rw h)
+no-code a b c d e (third h) = fails-right (isDigit a) _ (fails-right (isDigit b) _ (rw h))
+no-code a b c d e (fourth h) = fails-right (isDigit a) _ (fails-right (isDigit b) _ (fails-right (isDigit c) _ (rw h)))
 
 -- Nothing is read behind the level, even where the text ends.
 none-behind : (l w a b c d : ℕ) (rest : List ℕ) → NotFour a b c d → codeBehind l w (space ∷ a ∷ b ∷ c ∷ d ∷ rest) ≡ Refused Misspelt

@@ -6,8 +6,8 @@ use mathlib.Core.Logic.{inl, inr}
 use mathlib.Core.List.{List·Memᴰ·head as here, List·Memᴰ·tail as there, List·Memᴰ·not-nil, List·Memᴰ·append-cases}
 use native.Mathlib.Omega.{arith}
 use lib.ListN.{length, length-append}
+use Rattle.words.specs.Base.{_∈_}
 use Rattle.order.specs.Trees.{Tree, Forest, node, bare, cons, count, depth, depthF, cut, cutF, subtrees, subtreesF, Good, GoodF}
-use Rattle.order.proofs.Once.{_∈_}
 
 -- ---- cuts
 

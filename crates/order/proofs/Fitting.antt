@@ -8,7 +8,7 @@ use native.Mathlib.Omega.{arith}
 use borrow.Author.Tests.{le-leb, lt-leb, leb-true}
 use lib.Dec.{leb}
 use lib.ListN.{length}
-use Rattle.words.specs.Base.{_and_, within, keep}
+use Rattle.words.specs.Base.{_and_, within, keep, _∈_}
 use Rattle.words.specs.Compare.{compareOf}
 use Rattle.words.specs.declared.Compared.the-variants.{Lower}
 use Rattle.words.proofs.Tests.{no-test, and-left, and-right, and-both}
@@ -19,7 +19,7 @@ use Rattle.order.specs.Parts.{top, isLow, lows, middle, isMiddle, middle
 use Rattle.order.specs.Fits.{fitsOf, Fits}
 use Rattle.order.proofs.Reading.{not-found}
 use Rattle.order.proofs.Unique.{words-unique}
-use Rattle.order.proofs.Once.{_∈_, kept-in, once-from}
+use Rattle.order.proofs.Once.{kept-in, once-from}
 use Rattle.order.proofs.Cutting.{depth-cut, cut-depth, cut-deep, cut-good, cut-nodes, subtree-good, subtree-nodes}
 use Rattle.order.proofs.Paper.{subtree-from, subtree-depth}
 use Rattle.order.proofs.Orders.{FoundDeep, size, words-read, read-words, tree-passes}

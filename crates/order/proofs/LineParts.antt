@@ -7,7 +7,7 @@ use mathlib.Core.List.{List, [], _∷_, List·Memᴰ·head as here, List·Memᴰ
 use native.Mathlib.Omega.{arith}
 use borrow.Author.Tests.{leb-true, leb-false, le-leb, lt-leb}
 use lib.Dec.{leb}
-use Rattle.words.specs.Base.{if_then_else_}
+use Rattle.words.specs.Base.{if_then_else_, _∈_}
 use Rattle.order.specs.Trees.{Tree, depth, cut, subtrees}
 use Rattle.order.specs.Reading.{found}
 use Rattle.order.specs.Answers.{treeAt, lineOf}
@@ -15,7 +15,6 @@ use Rattle.order.specs.Parts.{isLow, middle, partOf}
 use Rattle.order.specs.Paper.{IsL, IsP}
 use Rattle.order.specs.declared.Kind.the-variants.{Low, Middle}
 use Rattle.order.proofs.Reading.{not-found}
-use Rattle.order.proofs.Once.{_∈_}
 use Rattle.order.proofs.Paper.{subtree-from, subtree-to, subtree-depth, cut-is-r, r-only}
 
 -- ---- lines

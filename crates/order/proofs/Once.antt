@@ -1,19 +1,14 @@
 -- Membership, and each part once (01, "Parts": "once per teaching however often it occurs in it"). Assumes nothing.
 use mathlib.Core.Path.{_≡_, refl, ap, sym, _∙_}
 use mathlib.Core.Bool.{Bool, true, false, not}
-use mathlib.Core.List.{List, [], _∷_, List·Memᴰ, List·Memᴰ·head as here, List·Memᴰ·tail as there, List·Memᴰ·not-nil}
-use Rattle.words.specs.Base.{if_then_else_, keep}
+use mathlib.Core.List.{List, [], _∷_, List·Memᴰ·head as here, List·Memᴰ·tail as there, List·Memᴰ·not-nil}
+use Rattle.words.specs.Base.{if_then_else_, keep, _∈_}
 use Rattle.words.proofs.Tests.{no-test}
 use Rattle.order.specs.Trees.{Tree}
 use Rattle.order.specs.Parts.{sameTree, eachOnce}
 use Rattle.order.proofs.Unique.{same-tree, tree-same}
 
 module _ {A : Type 0} where
-  infix 50 _∈_
-  -- The list has the member.
-  abbrev pub _∈_ : A → List A → Type 0
-  a ∈ l = List·Memᴰ a l
-
   -- The kept members are the members that pass the test.
   pub kept-in : (p : A → Bool) {s : A} (ts : List A) → s ∈ keep p ts → (s ∈ ts) × (p s ≡ true)
   unfolding keep if_then_else_

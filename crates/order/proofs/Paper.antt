@@ -10,14 +10,14 @@ use native.Mathlib.Decide.{decLt}
 use native.Mathlib.Omega.{arith}
 use borrow.Author.Tests.{leb-true, le-leb, lt-leb}
 use lib.ListN.{length}
-use Rattle.words.specs.Base.{keep}
+use Rattle.words.specs.Base.{keep, _∈_}
 use Rattle.order.specs.Trees.{Tree, Forest, node, bare, cons, depth, depthF, cut, cutF, subtrees, subtreesF}
 use Rattle.order.specs.Reading.{byFound, Found, missing, found}
 use Rattle.order.specs.Parts.{top, isLow, lows, middle, isMiddle, middles, lowParts, middleParts}
 use Rattle.order.specs.Paper.{Position, childOf, code, rootedAt, labelAt, Subtree, InDomain, IsDepth, IsR, IsL, IsP}
 use Rattle.order.proofs.Reading.{not-found}
 use Rattle.order.proofs.Cutting.{cut-depth, cut-deep, cut-shallow}
-use Rattle.order.proofs.Once.{_∈_, kept-in, in-kept, once-from, once-to}
+use Rattle.order.proofs.Once.{kept-in, in-kept, once-from, once-to}
 
 -- ---- positions
 

@@ -2,12 +2,12 @@
 use Prim.Native.Nat.{ℕ, _+_, _-_, _≤_}
 use mathlib.Core.Path.{_≡_, refl, sym, _∙_}
 use mathlib.Core.Bool.{Bool, true, false}
-use mathlib.Core.List.{List, [], _∷_, List·Memᴰ, List·Memᴰ·head as here, List·Memᴰ·tail as there}
+use mathlib.Core.List.{List, [], _∷_, List·Memᴰ·head as here, List·Memᴰ·tail as there}
 use native.Mathlib.Nat.{zero-add}
 use native.Mathlib.Omega.{arith}
 use lib.Dec.{leb, ltb}
 use borrow.Author.Tests.{lt-ltb, leb-true, leb-false}
-use Rattle.words.specs.Base.{if_then_else_, sameWords}
+use Rattle.words.specs.Base.{if_then_else_, sameWords, _∈_}
 use Rattle.words.specs.Compare.{compareOf, _≺_}
 use Rattle.words.specs.declared.Compared.{Compared}
 use Rattle.words.specs.declared.Compared.the-variants.{Lower, Equal, Higher}
@@ -196,17 +196,17 @@ has-add n x z (e ∷ es) = go (compareOf (e .key) x) refl (has-add n x z es)
 -- ---- the entries themselves
 
 -- A key that has an entry has one among the members.
-pub has-entry : (z : List ℕ) (es : List Entry) → has z es ≡ true → (e : Entry) × List·Memᴰ e es × (e .key ≡ z)
+pub has-entry : (z : List ℕ) (es : List Entry) → has z es ≡ true → (e : Entry) × (e ∈ es) × (e .key ≡ z)
 unfolding has if_then_else_
 has-entry z [] h = no-test h
 has-entry z (e ∷ es) h = go (sameWords (e .key) z) refl h (has-entry z es)
   where
-    go : (b : Bool) → sameWords (e .key) z ≡ b → (if b then true else has z es) ≡ true → (has z es ≡ true → (i : Entry) × List·Memᴰ i es × (i .key ≡ z)) → (i : Entry) × List·Memᴰ i (e ∷ es) × (i .key ≡ z)
+    go : (b : Bool) → sameWords (e .key) z ≡ b → (if b then true else has z es) ≡ true → (has z es ≡ true → (i : Entry) × (i ∈ es) × (i .key ≡ z)) → (i : Entry) × (i ∈ (e ∷ es)) × (i .key ≡ z)
     go true t q later = (e, here refl, words-same (e .key) z t)
     go false t q later = let r = later q in (r .0, there (r .1), r .2)
 
 -- A key with an entry among the members has one.
-pub entry-has : (z : List ℕ) {e : Entry} {es : List Entry} → List·Memᴰ e es → e .key ≡ z → has z es ≡ true
+pub entry-has : (z : List ℕ) {e : Entry} {es : List Entry} → e ∈ es → e .key ≡ z → has z es ≡ true
 unfolding has if_then_else_
 entry-has z (here {x} q) k = let t : sameWords (x .key) z ≡ true = cc (same-words z) in rw t
 entry-has z (there {x} {xs} m) k = go (sameWords (x .key) z) (entry-has z m k)
@@ -216,7 +216,7 @@ entry-has z (there {x} {xs} m) k = go (sameWords (x .key) z) (entry-has z m k)
     go false h = h
 
 -- In a sorted section a key counts what its entry counts.
-pub entry-count : (z : List ℕ) {e : Entry} {es : List Entry} → Sorted es → List·Memᴰ e es → e .key ≡ z → countOf z es ≡ e .count
+pub entry-count : (z : List ℕ) {e : Entry} {es : List Entry} → Sorted es → e ∈ es → e .key ≡ z → countOf z es ≡ e .count
 unfolding Sorted countOf
 entry-count z {e} s (here {x} {xs} q) k =
     let t : sameWords (x .key) z ≡ true = cc (same-words z) in

@@ -1,18 +1,19 @@
 -- What a search finds: whether some entry has the key, by the search's answer and by each of its turns. Assumes nothing.
-use Prim.Native.Nat.{ℕ, _+_}
+use Prim.Native.Nat.{ℕ, _+_, _-_, _*_, _<_, _≤_}
 use mathlib.Core.Path.{_≡_, refl, _∙_}
 use mathlib.Core.Bool.{true, false}
 use mathlib.Core.List.{List, [], _∷_}
 use native.Mathlib.Omega.{arith}
-use lib.ListN.{length}
+use lib.ListN.{length, getD, take, drop}
 use Rattle.words.specs.Base.{if_then_else_}
 use Rattle.words.specs.Compare.{compareOf}
 use Rattle.words.specs.declared.Compared.{Compared}
 use Rattle.words.specs.declared.Compared.the-variants.{Lower, Equal, Higher}
 use Rattle.words.proofs.Ordered.{compare-equal, compare-flip}
 use Rattle.words.proofs.Tests.{same-words}
-use Rattle.section.specs.Entries.{Entry, has, look, Below, Sorted}
+use Rattle.section.specs.Entries.{Entry, entries, has, look, Below, Sorted}
 use Rattle.section.specs.declared.Found.the-variants.{At, Absent}
+use Rattle.section.proofs.Words.{entries-at}
 use Rattle.section.proofs.Counts.{lower-differs, below-lacks}
 
 -- ---- one turn of a search
@@ -55,3 +56,30 @@ look-lacks key at p (e ∷ es) s h = go (compareOf (e .key) key) refl (look-lack
     go Lower c later = has-lower e es key c ∙ later (rw c at h)
     go Equal c later = let q : At at ≡ Absent p = rw c at h in absurd (let z : _≡_ {A = ℕ} 0 1 = cc in omega arith)
     go Higher c later = has-higher e es key s c
+
+-- ---- the turns of a search over words
+
+-- The entry that stands at `at`, the first of those left, whose words end at `end`, and a key.
+module _ (book : List ℕ) (at left end : ℕ) (more : 0 < left) (ends : end ≡ at + 2 + 2 * getD book at 0) where
+  -- The entries past it are sorted if those left are.
+  pub sorted-past : Sorted (entries left (drop at book)) → Sorted (entries (left - 1) (drop end book))
+  unfolding Sorted
+  sorted-past h = (rw (entries-at book at left end more ends) at h) .2
+
+  module _ (key : List ℕ) where
+    -- Past a lower entry the others decide.
+    pub has-past : compareOf (take (end - (at + 2)) (drop (at + 2) book)) key ≡ Lower → has key (entries left (drop at book)) ≡ has key (entries (left - 1) (drop end book))
+    has-past c = rw (entries-at book at left end more ends) (has-lower _ _ key c)
+
+    -- An equal entry is the key's.
+    pub has-here : compareOf (take (end - (at + 2)) (drop (at + 2) book)) key ≡ Equal → has key (entries left (drop at book)) ≡ true
+    has-here c = rw (entries-at book at left end more ends) (has-equal _ _ key c)
+
+    -- Among sorted entries, from a higher one on there is none of the key's.
+    pub has-not : Sorted (entries left (drop at book)) → compareOf (take (end - (at + 2)) (drop (at + 2) book)) key ≡ Higher → has key (entries left (drop at book)) ≡ false
+    has-not h c = rw (entries-at book at left end more ends) (has-higher _ _ key (rw (entries-at book at left end more ends) at h) c)
+
+-- With no entry left the key has none.
+pub has-none : (book key : List ℕ) (at left : ℕ) → left ≤ 0 → has key (entries left (drop at book)) ≡ false
+unfolding has entries
+has-none book key at left h = let z : left ≡ 0 = omega arith in rw z

@@ -1,0 +1,8 @@
+-- What the proofs of several functions, and those of other crates, use.
+pub mod Runs
+pub mod Passing
+pub mod Meaning
+pub mod Depths
+pub mod Heads
+pub mod Holding
+pub mod Openings

@@ -1,0 +1,71 @@
+-- The words of an opened book, and that it is in form; and what `openOf` is, case by case, as the code meets the cases. Assumes nothing.
+use Prim.Native.Nat.{ℕ, suc, _-_, _≤_}
+use mathlib.Core.Path.{_≡_, refl, ap}
+use mathlib.Core.Bool.{true, false}
+use mathlib.Core.List.{List, [], _∷_}
+use native.Mathlib.Omega.{arith}
+use borrow.Author.Tests.{le-leb}
+use lib.ListN.{length, replicate, set}
+use Rattle.words.specs.Base.{if_then_else_, within}
+use Rattle.words.proofs.Tests.{and-both}
+use Rattle.figures.specs.Limits.{head-words, least-k, greatest-k}
+use Rattle.figures.specs.Numbers.{done, k-outside, book-size}
+use Rattle.figures.specs.Answers.{answered}
+use Rattle.figures.specs.declared.Answer.{Answer}
+use Rattle.section.specs.Entries.{sectionWords, total}
+use Rattle.book.specs.Book.{sectionOf, body, used, live, encode, lay, ascendingFrom, sectionInForm, inForm}
+use Rattle.book.specs.Decoding.{sized}
+use Rattle.book.specs.Taught.{bookOf}
+use Rattle.book.specs.Opening.{outcome, openOf}
+use Rattle.book.specs.declared.Section.{Section}
+use Rattle.book.specs.declared.Section.the-variants.{Taught, Tops, Lows, Middles}
+use Rattle.book.proofs.Meaning.{proper-form}
+
+-- ---- the opened book
+
+-- Its words are k, the words of the head, and zeros.
+pub empty-laid : (n k : ℕ) → head-words ≤ n → lay n (bookOf k []) ≡ set (set (replicate n 0) 0 k) 1 head-words
+unfolding lay encode bookOf body used live total sectionWords
+empty-laid n k h = go (n - head-words) n (omega arith)
+  where
+    go : (m n : ℕ) → n ≡ suc (suc (suc (suc (suc (suc (suc m)))))) → lay n (bookOf k []) ≡ set (set (replicate n 0) 0 k) 1 head-words
+    go m n e =
+        let q : suc (suc (suc (suc (suc (suc (suc m)))))) - head-words ≡ m = omega arith in
+        rw e (ap (λ (j : ℕ). k ∷ head-words ∷ 0 ∷ 0 ∷ 0 ∷ 0 ∷ 0 ∷ replicate {A = ℕ} j 0) q)
+
+-- Each of its sections is in form.
+empty-section : (k : ℕ) (s : Section) → sectionInForm s (bookOf k []) ≡ true
+unfolding sectionInForm sectionOf ascendingFrom bookOf
+empty-section k Taught = refl
+empty-section k Tops = refl
+empty-section k Lows = refl
+empty-section k Middles = refl
+
+-- It is in form.
+pub opened-formed : (k : ℕ) → least-k ≤ k → k ≤ greatest-k → inForm (bookOf k []) ≡ true
+unfolding bookOf live total
+opened-formed k l g =
+    proper-form (bookOf k []) (record {
+      depth = and-both (le-leb least-k k l) (le-leb k greatest-k g);
+      few = omega arith;
+      section = empty-section k;
+    })
+
+-- ---- the cases
+
+module _ (ws : List ℕ) (k : ℕ) (a : Answer) where
+  -- A slice of no size for a book is refused by 4.
+  pub no-room : a ≡ answered book-size → sized ws ≡ false → openOf ws k ≡ outcome a ws
+  unfolding openOf if_then_else_
+  no-room e z = rw (z, e)
+
+  -- In any other a k outside is refused by 3.
+  pub no-depth : a ≡ answered k-outside → sized ws ≡ true → within least-k greatest-k k ≡ false → openOf ws k ≡ outcome a ws
+  unfolding openOf if_then_else_
+  no-depth e z w = rw (z, w, e)
+
+  -- Else k and the words of the head, written over zeros, are the opened book.
+  pub opens : a ≡ answered done → sized ws ≡ true → within least-k greatest-k k ≡ true → head-words ≤ length ws
+      → (l : List ℕ) (v : ℕ) → l ≡ replicate (length ws) 0 → v ≡ k → openOf ws k ≡ outcome a (set (set l 0 v) 1 head-words)
+  unfolding openOf if_then_else_
+  opens e z w h l v f g = rw (z, w, e, f, g, empty-laid (length ws) k h)

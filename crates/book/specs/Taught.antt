@@ -1,0 +1,57 @@
+-- The book of the orders taught, and a book that agrees with itself (01, "The book"). Assumes nothing: these are definitions.
+use Prim.Native.Nat.{ℕ}
+use mathlib.Core.Bool.{Bool}
+use mathlib.Core.List.{List, [], _∷_}
+use lib.Dec.{eqb}
+use lib.ListN.{length}
+use Rattle.words.specs.Base.{_and_, sameWords}
+use Rattle.section.specs.Entries.{Entry, sectionWords, add}
+use Rattle.order.specs.Trees.{Tree, words}
+use Rattle.order.specs.Reading.{byFound, treeOf}
+use Rattle.order.specs.Parts.{top, lowParts, middleParts}
+use Rattle.book.specs.Book.{Book}
+
+-- An order and how many of its teachings are live.
+pub record Teaching : Type 0 where
+  pub order : Tree
+  pub times : ℕ
+
+-- The book of no orders.
+abbrev pub emptyBook : ℕ → Book
+emptyBook k = record { k = k; T = []; R = []; L = []; P = [] }
+
+-- n more of each tree.
+unfoldable pub addEach : ℕ → List Tree → List Entry → List Entry
+addEach n [] es = es
+addEach n (t ∷ ts) es = add n (words t) (addEach n ts es)
+
+-- n teachings of an order: n more of it, and of each of its parts "once per teaching however often it occurs in it".
+unfoldable pub taught : ℕ → Tree → Book → Book
+taught n t b = record {
+  k = b .k;
+  T = add n (words t) (b .T);
+  R = add n (words (top (b .k) t)) (b .R);
+  L = addEach n (lowParts (b .k) t) (b .L);
+  P = addEach n (middleParts (b .k) t) (b .P);
+}
+
+-- "A book's R, L and P are the tops, low parts and middle parts of the orders taught."
+unfoldable pub bookOf : ℕ → List Teaching → Book
+bookOf k [] = emptyBook k
+bookOf k (o ∷ os) = taught (o .times) (o .order) (bookOf k os)
+
+-- The teachings that a section T counts.
+unfoldable pub teachingsIn : List Entry → List Teaching
+teachingsIn [] = []
+teachingsIn (e ∷ es) =
+    byFound (treeOf (e .key)) (teachingsIn es) (λ t. record { order = t; times = e .count } ∷ teachingsIn es)
+
+-- Two sections have the same entries.
+unfoldable pub sameSection : List Entry → List Entry → Bool
+sameSection s t = eqb (length s) (length t) and sameWords (sectionWords s) (sectionWords t)
+
+-- "A book in form whose R, L, P are those of its T agrees with itself."
+unfoldable pub agreeing : Book → Bool
+agreeing b =
+    let c : Book = bookOf (b .k) (teachingsIn (b .T)) in
+    sameSection (b .R) (c .R) and sameSection (b .L) (c .L) and sameSection (b .P) (c .P)

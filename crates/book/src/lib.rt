@@ -1,0 +1,198 @@
+// The book: whether a lent slice of words is one in form, and where its sections start; and opening one. Assumes nothing beyond each
+// inner function's `requires`.
+ghost use mathlib.Core.Path.{_≡_};
+ghost use Prim.Native.Nat.{_≤_};
+ghost use lib.ListN.{length, drop};
+ghost use Rattle.book.specs.Decoding.{formOf};
+ghost use Rattle.book.specs.Passes.{wholeAt, stretchOf, zeros, headOf};
+ghost use Rattle.book.specs.Opening.{outcome, openOf};
+use figures::Answer;
+use figures::Asked;
+use figures::Depth;
+use figures::answered;
+use figures::limits;
+use figures::numbers;
+
+// A section of the book.
+pub enum Section {
+    Taught,
+    Tops,
+    Lows,
+    Middles,
+}
+
+// k, where the sections R, L and P start, and how many words are used. T starts behind the head.
+pub struct Places {
+    pub k: Depth,
+    pub tops: usize,
+    pub lows: usize,
+    pub middles: usize,
+    pub used: usize,
+}
+
+// What a look at a book's form gives.
+pub enum Form {
+    Refused(u16),
+    InForm(Places),
+}
+
+// The entry at a word, if all its words are there: the word past it, and its count.
+pub enum Whole {
+    NoEntry,
+    Entry { end: usize, count: usize },
+}
+
+// What a pass over a section finds: the word past it, and the sum of its counts.
+pub enum Stretch {
+    Broken,
+    InOrder { end: usize, sum: usize },
+}
+
+// The entry at word `at`, if all its words are there.
+fn whole_at(book: &[u16], at: usize) -> Whole
+    ensures { λ r. ⌜ r ≡ wholeAt (now (book .entry)) at ⌝ }
+{
+    if book.len() < 2 {
+        return Whole::NoEntry;
+    }
+    if book.len() - 2 < at {
+        return Whole::NoEntry;
+    }
+    let nodes = book[at] as usize;
+    let count = book[at + 1] as usize;
+    let start = at + 2;
+    if (book.len() - start) / 2 < nodes {
+        return Whole::NoEntry;
+    }
+    let end = start + 2 * nodes;
+    Whole::Entry { end, count }
+}
+
+// One pass over the n entries from `from`: each is whole, counts at least 1, is an order of a depth from `least` to `greatest`, and stands
+// above the one before it.
+fn pass(book: &[u16], from: usize, n: u16, least: usize, greatest: usize) -> Stretch
+    ensures { λ r. ⌜ r ≡ stretchOf (now (book .entry)) from n least greatest ⌝ }
+{
+    let mut at = from;
+    let mut left = n;
+    let mut sum: usize = 0;
+    let mut last: usize = 0;
+    let mut last_end: usize = 0;
+    while 0 < left {
+        let Whole::Entry { end, count } = whole_at(book, at) else {
+            return Stretch::Broken;
+        };
+        let start = at + 2;
+        if count < 1 {
+            return Stretch::Broken;
+        }
+        if !order::fits(&book[start..end], least, greatest) {
+            return Stretch::Broken;
+        }
+        if !words::precedes(&book[last..last_end], &book[start..end]) {
+            return Stretch::Broken;
+        }
+        last = start;
+        last_end = end;
+        at = end;
+        sum += count;
+        left -= 1;
+    }
+    Stretch::InOrder { end: at, sum }
+}
+
+// Whether every word from `at` on is zero.
+fn zeros_from(book: &[u16], at: usize) -> bool
+    ensures { λ r. ⌜ r ≡ zeros (drop at (now (book .entry))) ⌝ }
+{
+    let mut i = at;
+    while i < book.len() {
+        if book[i] != 0 {
+            return false;
+        }
+        i += 1;
+    }
+    true
+}
+
+// Whether the head says how many teachings are live and how many words are used, and the words past these are zero.
+fn head_agrees(book: &[u16], live: usize, used: usize) -> bool
+    requires { ⌜ 7 ≤ length (now book) ⌝ }
+    ensures { λ r. ⌜ r ≡ headOf (now (book .entry)) live used ⌝ }
+{
+    let says_live = book[2] as usize;
+    let says_used = book[1] as usize;
+    if live != says_live {
+        return false;
+    }
+    if used != says_used {
+        return false;
+    }
+    zeros_from(book, used)
+}
+
+// Whether the words are a book in form, in one pass over them, and where its sections start: 4, 5, or the places.
+pub fn in_form(book: &[u16]) -> Form
+    ensures { λ r. ⌜ r ≡ formOf (now (book .entry)) ⌝ }
+{
+    if book.len() < limits::HEAD_WORDS {
+        return Form::Refused(numbers::BOOK_SIZE);
+    }
+    if limits::MOST_BOOK_WORDS < book.len() {
+        return Form::Refused(numbers::BOOK_SIZE);
+    }
+    let Asked::Allowed(k) = Depth::new(book[0]) else {
+        return Form::Refused(numbers::NOT_IN_FORM);
+    };
+    let low = k.of_tops();
+    let middle = k.of_middles();
+    let Stretch::InOrder {
+        end: tops,
+        sum: live,
+    } = pass(book, limits::HEAD_WORDS, book[3], 0, limits::GREATEST_DEPTH)
+    else {
+        return Form::Refused(numbers::NOT_IN_FORM);
+    };
+    let Stretch::InOrder { end: lows, sum: _ } = pass(book, tops, book[4], 0, low) else {
+        return Form::Refused(numbers::NOT_IN_FORM);
+    };
+    let Stretch::InOrder {
+        end: middles,
+        sum: _,
+    } = pass(book, lows, book[5], 0, low)
+    else {
+        return Form::Refused(numbers::NOT_IN_FORM);
+    };
+    let Stretch::InOrder { end: used, sum: _ } = pass(book, middles, book[6], middle, middle) else {
+        return Form::Refused(numbers::NOT_IN_FORM);
+    };
+    if !head_agrees(book, live, used) {
+        return Form::Refused(numbers::NOT_IN_FORM);
+    }
+    Form::InForm(Places {
+        k,
+        tops,
+        lows,
+        middles,
+        used,
+    })
+}
+
+// Opens an empty book of that k in the slice: 4, 3, or done, with the whole slice written.
+pub fn open(book: &mut [u16], k: u16) -> Answer
+    ensures { λ r. ⌜ outcome r (now (book .exit)) ≡ openOf (now (book .entry)) k ⌝ }
+{
+    if book.len() < limits::HEAD_WORDS {
+        return answered(numbers::BOOK_SIZE);
+    }
+    if limits::MOST_BOOK_WORDS < book.len() {
+        return answered(numbers::BOOK_SIZE);
+    }
+    let Asked::Allowed(depth) = Depth::new(k) else {
+        return answered(numbers::K_OUTSIDE);
+    };
+    words::clear(book);
+    book[0] = depth.value();
+    book[1] = limits::HEAD_WORDS as u16;
+    answered(numbers::DONE)
+}

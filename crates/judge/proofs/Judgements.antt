@@ -1,0 +1,126 @@
+-- What is answered for a book in form, by the tests that the code makes in turn. Assumes nothing.
+use Prim.Native.Nat.{ℕ, zero, suc, _+_, _*_, _/_, _<_, _≤_}
+use mathlib.Core.Path.{_≡_, refl, ap, sym, _∙_}
+use mathlib.Core.Bool.{Bool, true, false}
+use mathlib.Core.List.{List, [], _∷_}
+use native.Mathlib.Numerals.{add-one}
+use native.Mathlib.Omega.{arith}
+use lib.ListN.{length, drop, drop-of-length-le}
+use Rattle.words.specs.Base.{if_then_else_}
+use Rattle.figures.specs.Numbers.{done, top-unknown, low-unknown, middle-unknown}
+use Rattle.figures.specs.Answers.{answered}
+use Rattle.figures.specs.declared.Answer.{Answer}
+use Rattle.order.specs.Trees.{Tree, subtrees}
+use Rattle.order.specs.Reading.{byOrder, orderOf, causeOf}
+use Rattle.order.specs.Parts.{isLow}
+use Rattle.order.specs.Walks.{partAtOf}
+use Rattle.order.specs.Answers.{checkOf}
+use Rattle.order.specs.declared.PartAt.{PartAt}
+use Rattle.order.specs.declared.PartAt.the-variants.{NoPart, LowTo, MiddleTo}
+use Rattle.order.proofs.Causes.{Passed, has-tree, refused-by}
+use Rattle.order.proofs.Lines.{Spot, line-spot, tree-next}
+use Rattle.book.specs.Book.{Book}
+use Rattle.book.specs.Decoding.{bookIn, byBook, onBook, formOf}
+use Rattle.book.specs.Holding.{Holds}
+use Rattle.book.specs.declared.Places.{Places}
+use Rattle.book.specs.declared.Form.the-variants.{Refused}
+use Rattle.book.proofs.Heads.{is-sized}
+use Rattle.book.proofs.Holding.{refused-by as refused-at}
+use Rattle.judge.specs.Judging.{knows, unknownLine, firstUnknown, verdict, judgeOf}
+use Rattle.judge.specs.Seeking.{topKnown, lineUnknown, unknownNumber, lineAnswer}
+use Rattle.judge.proofs.Spots.{two-words-a-line, short-order, PartIs, part-told}
+
+-- ---- the first unknown line and its number
+
+-- The number of an unknown part, by the kind that its word tells.
+part-number : (k at : ℕ) (s : Tree) (w : PartAt) → PartIs k at s w → (if isLow k s then low-unknown else middle-unknown) ≡ unknownNumber w
+unfolding if_then_else_
+part-number k at s NoPart h = absurd h
+part-number k at s (LowTo e) h = rw (h .0)
+part-number k at s (MiddleTo e c) h = rw (h .0)
+
+-- The first unknown line is no line past the last.
+unknown-within : (b : Book) (line : ℕ) (ts : List Tree) → unknownLine b (suc line) ts ≤ line + length ts
+unfolding unknownLine if_then_else_
+unknown-within b line [] = omega arith
+unknown-within b line (s ∷ ss) = go (knows b s) (unknown-within b (suc line) ss)
+  where
+    go : (known : Bool) → unknownLine b (suc (suc line)) ss ≤ suc line + length ss → (if known then unknownLine b (suc (suc line)) ss else suc line) ≤ line + suc (length ss)
+    go true h = omega arith
+    go false h = omega arith
+
+-- An order's tree, and a book.
+module _ (b : Book) (os : List ℕ) (t : Tree) (p : Passed os t) where
+  -- One line's answer, known or not, and those of the lines past it.
+  answer-step : (i : ℕ) (s : Tree) (ss : List Tree) (known : Bool) → PartIs (b .k) (i * 2) s (partAtOf os (i * 2) (b .k))
+      → firstUnknown b (suc (suc i)) ss ≡ lineAnswer (b .k) os (unknownLine b (suc (suc i)) ss)
+      → (if known then firstUnknown b (suc (suc i)) ss else record { number = if isLow (b .k) s then low-unknown else middle-unknown; line = suc i })
+      ≡ lineAnswer (b .k) os (if known then unknownLine b (suc (suc i)) ss else suc i)
+  unfolding if_then_else_ lineAnswer
+  answer-step i s ss true h ih = ih
+  answer-step i s ss false h ih = ap (λ (n : ℕ). record { number = n; line = suc i }) (part-number (b .k) (i * 2) s (partAtOf os (i * 2) (b .k)) h)
+
+  -- The answer for the lines from one on is that of their first unknown line.
+  answers-from : (n i : ℕ) → i + n ≡ length (subtrees t) → firstUnknown b (suc i) (drop i (subtrees t)) ≡ lineAnswer (b .k) os (unknownLine b (suc i) (drop i (subtrees t)))
+  unfolding firstUnknown unknownLine
+  answers-from zero i h =
+      let past : length (subtrees t) ≤ i = omega arith in
+      rw (drop-of-length-le (subtrees t)) (unfold lineAnswer in refl)
+  answers-from (suc n) i h =
+      let q = line-spot os t i p (omega arith) in
+      let s = q .tree in
+      let next : drop i (subtrees t) ≡ s ∷ drop (suc i) (subtrees t) = tree-next (subtrees t) i s (q .is) ∙ rw add-one in
+      rw next (answer-step i s (drop (suc i) (subtrees t)) (knows b s) (part-told os (i * 2) _ q (b .k) (partAtOf os (i * 2) (b .k)) (partAtOf os (i * 2) (b .k)) (short-order os t p) refl refl) (answers-from n (suc i) (omega arith)))
+
+  -- The order's first unknown line is one of its lines, or 0.
+  pub line-within : lineUnknown b os ≤ length os / 2
+  unfolding lineUnknown byOrder
+  line-within = rw (p .is) (omega (arith, unknown-within b 0 (subtrees t), two-words-a-line os t p))
+
+  -- The answer for all lines is that of the first unknown one.
+  line-answers : firstUnknown b 1 (subtrees t) ≡ lineAnswer (b .k) os (lineUnknown b os)
+  unfolding lineUnknown byOrder
+  line-answers = rw (p .is) (answers-from (length (subtrees t)) 0 (omega arith))
+
+-- ---- a book in form
+
+-- The number of the answer to an order is its cause.
+pub cause-told : (os : List ℕ) (a : Answer) → a ≡ checkOf os → a .number ≡ causeOf os
+unfolding checkOf
+cause-told os a e = ap (λ (x : Answer). x .number) e
+
+module _ (ws os : List ℕ) (p : Places) (H : Holds ws p) where
+  -- The book judges.
+  judge-held : judgeOf ws os ≡ byOrder (orderOf os) answered (verdict (bookIn ws))
+  unfolding judgeOf onBook byBook if_then_else_
+  judge-held = rw (is-sized ws (H .long) (H .short), H .decoded)
+
+  -- An order with a cause of 1 or 2 is answered by it.
+  pub judge-refused : (causeOf os ≡ done → ⊥) → judgeOf ws os ≡ checkOf os
+  unfolding byOrder checkOf
+  judge-refused n = judge-held ∙ rw (refused-by os n)
+
+  module _ (e : causeOf os ≡ done) where
+    -- The order's tree is judged.
+    judge-tree : (t : Tree) → Passed os t → judgeOf ws os ≡ (if topKnown (bookIn ws) os then firstUnknown (bookIn ws) 1 (subtrees t) else record { number = top-unknown; line = 1 })
+    unfolding byOrder verdict topKnown
+    judge-tree t q = judge-held ∙ rw (q .is)
+
+    -- "20 with line 1 if the top is unknown"
+    pub judge-top : topKnown (bookIn ws) os ≡ false → judgeOf ws os ≡ record { number = top-unknown; line = 1 }
+    unfolding if_then_else_
+    judge-top f = let x = has-tree os e in judge-tree (x .tree) (x .passes) ∙ rw f
+
+    -- Otherwise the first unknown line decides.
+    pub judge-lines : topKnown (bookIn ws) os ≡ true → judgeOf ws os ≡ lineAnswer (p .k .k) os (lineUnknown (bookIn ws) os)
+    unfolding if_then_else_
+    judge-lines f =
+        let x = has-tree os e in
+        judge-tree (x .tree) (x .passes) ∙ rw (f, H .depth) (line-answers (bookIn ws) os (x .tree) (x .passes))
+
+-- ---- any words
+
+-- A slice that is no book in form is answered by 4 or 5.
+pub judge-unheld : (ws os : List ℕ) (n : ℕ) → formOf ws ≡ Refused n → judgeOf ws os ≡ answered n
+unfolding judgeOf
+judge-unheld ws os n e = refused-at ws n e answered (λ b. byOrder (orderOf os) answered (verdict b))

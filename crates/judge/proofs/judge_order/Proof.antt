@@ -1,0 +1,62 @@
+-- `judge::judge_order` meets its contract, by the tests that it makes in turn. Assumes nothing.
+use Prim.Native.Nat.{ℕ}
+use mathlib.Core.Path.{_≡_, ap, sym, _∙_}
+use mathlib.Core.List.{List}
+use native.Mathlib.Omega.{arith}
+use borrow.Author.Needs.{needs}
+use borrow.Author.Tests.{not-true, not-false}
+use Rattle.figures.specs.Numbers.{done}
+use Rattle.order.specs.Reading.{causeOf}
+use Rattle.order.proofs.Causes.{HasTree, has-tree}
+use Rattle.book.specs.Decoding.{bookIn}
+use Rattle.judge.specs.Seeking.{lineAnswer}
+use Rattle.judge.proofs.Judgements.{cause-told, line-within, judge-refused, judge-top, judge-lines}
+use Rattle.judge.proofs.judge_order.Statement.{statement}
+use Rattle.judge.proofs.judge_order.Tie as tie
+
+-- Past the first test the words are an order.
+ordered : (c : tie.Else1) → causeOf (c .before .before .before .before .before .args .order .now) ≡ done
+ordered c = sym (cause-told _ _ (c .before .before .check .ensures)) ∙ c .if1 .left
+
+check-requires : tie.Need-check-requires
+check-requires c κs = search needs
+
+returns : tie.Need-returns
+returns c =
+    let a = c .before .before .check in
+    a .ensures ∙ sym (judge-refused _ _ _ (c .before .before .before .before .before .pre) (λ e. c .if1 .taken (cause-told _ _ (a .ensures) ∙ e)))
+
+top-known-requires : tie.Need-top-known-requires
+top-known-requires c κs = (c .before .before .before .before .before .pre, ordered c)
+
+returns-2 : tie.Need-returns-2
+returns-2 c = let o = c .before .before in sym (judge-top _ _ _ (o .before .before .before .before .before .pre) (ordered o) (sym (c .before .top-known .ensures) ∙ not-true _ (c .if2 .taken)))
+
+first-unknown-requires : tie.Need-first-unknown-requires
+first-unknown-requires c κs = let o = c .before .before in (o .before .before .before .before .before .pre, ordered o)
+
+line-answer-requires : tie.Need-line-answer-requires
+line-answer-requires c κs =
+    let o = c .before .before .before in
+    let s = o .before .before .before .before .before .args in
+    let t = has-tree (s .order .now) (ordered o) in
+    rw (c .first-unknown .ensures) (line-within (bookIn (s .book .now)) (s .order .now) (t .tree) (t .passes))
+
+returns-3 : tie.Need-returns-3
+returns-3 c =
+    let o = c .before .before .before .before in
+    let s = o .before .before .before .before .before in
+    c .line-answer .ensures ∙ ap (lineAnswer (s .args .places .k .k) (s .args .order .now)) (c .before .first-unknown .ensures)
+    ∙ sym (judge-lines _ _ _ (s .pre) (ordered o) (sym (c .before .before .before .top-known .ensures) ∙ not-false _ (c .before .before .if2 .left)))
+
+pub judge-order-spec : {M : Type 1} → statement M
+judge-order-spec =
+    tie.close
+    (tie.spec
+    check-requires
+    returns
+    top-known-requires
+    returns-2
+    first-unknown-requires
+    line-answer-requires
+    returns-3)

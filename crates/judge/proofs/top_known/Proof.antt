@@ -1,0 +1,88 @@
+-- `judge::top_known` meets its contract: the words sought in R are those of the order's top. Assumes nothing.
+use Prim.Native.Nat.{ℕ, _-_, _≤_}
+use mathlib.Core.Path.{_≡_, refl}
+use native.Mathlib.Omega.{arith}
+use borrow.Author.Needs.{needs}
+use lib.ListN.{length, take, drop}
+use Rattle.order.specs.Trees.{words}
+use Rattle.order.specs.Parts.{top}
+use Rattle.order.proofs.Causes.{HasTree, has-tree}
+use Rattle.book.specs.declared.Section.the-variants.{Tops}
+use Rattle.judge.proofs.Tops.{top-room, top-count, top-key, top-there, top-lacking}
+use Rattle.judge.proofs.top_known.Statement.{statement}
+use Rattle.judge.proofs.top_known.Tie as tie
+
+-- The order's tree.
+tree : (s : tie.Start) → HasTree (s .args .order .now)
+tree s = has-tree _ (s .pre .1)
+
+-- The words that were written are those of the top.
+key : (c : tie.After-cut2) → let s = c .before .before .before .before .before .before in take (c .before .put .result .count - 0) (drop 0 (c .before .put .last .1 .1 .1 .0)) ≡ words (top (s .args .places .k .k) (tree s .tree))
+key c =
+    let s = c .before .before .before .before .before .before in
+    top-key _ _ (tree s .passes) (c .before .before .before .of-tops .result) _ _ _ _ (c .before .before .before .of-tops .ensures) (c .before .put .ensures .0) (c .before .put .ensures .1)
+
+of-tops-requires : tie.Need-of-tops-requires
+of-tops-requires c κs = search needs
+
+slice-aggregate-put : tie.Need-slice-aggregate-put
+slice-aggregate-put c = search needs
+
+put-requires : tie.Need-put-requires
+put-requires c κs = let t = tree (c .before .before .before .before) in top-room _ (t .tree) (t .passes) (c .before .of-tops .result) 128 (omega arith)
+
+shared-slice-read-many : tie.Need-shared-slice-read-many
+shared-slice-read-many c = omega (arith, (c .before .before .before .before .before .before .before) .pre .0 .long)
+
+cast-many : tie.Need-cast-many
+cast-many c = omega (arith, c .shared-slice-known3 .given 4)
+
+sub-find : tie.Need-sub-find
+sub-find c = search needs
+
+part-find-start : tie.Need-part-find-start
+part-find-start c = search needs
+
+part-find-end : tie.Need-part-find-end
+part-find-end c =
+    let p = c .before .before .before in
+    let d = p .before .before in
+    let t = tree (d .before .before .before) in
+    omega (arith, p .put .kept .1 .1 .1 .0, top-count _ (t .tree) (t .passes) (d .of-tops .result) _ (p .put .ensures .0))
+
+find-requires : tie.Need-find-requires
+find-requires c κs = (c .before .before .before .before .before .before .before .before .before) .pre .0 .section Tops .within
+
+enum-told : tie.Need-enum-told
+enum-told c = search needs
+
+enum-told-2 : tie.Need-enum-told-2
+enum-told-2 c = search needs
+
+returns : tie.Need-returns
+returns c =
+    let s = c .before .before .before .before .before .before .before .before .before .before .before .before in
+    top-there _ _ _ _ (s .pre .0) (tree s .passes) _ _ _ (key (c .before .before .before .before .before .before)) refl (c .before .before .find .ensures) _ (c .enum-told .given .1)
+
+returns-2 : tie.Need-returns-2
+returns-2 c =
+    let s = c .before .before .before .before .before .before .before .before .before .before .before .before in
+    top-lacking _ _ _ _ (s .pre .0) (tree s .passes) _ _ _ (key (c .before .before .before .before .before .before)) refl (c .before .before .find .ensures) _ (c .enum-told2 .given .1)
+
+pub top-known-spec : {M : Type 1} → statement M
+top-known-spec =
+    tie.close
+    (tie.spec
+    of-tops-requires
+    slice-aggregate-put
+    put-requires
+    shared-slice-read-many
+    cast-many
+    sub-find
+    part-find-start
+    part-find-end
+    find-requires
+    enum-told
+    enum-told-2
+    returns
+    returns-2)

@@ -1,0 +1,180 @@
+// Judging: whether an order's parts are all in the book, and the first line whose part is not. Nothing lent is changed. Assumes nothing
+// beyond each inner function's `requires`.
+ghost use mathlib.Core.Path.{_≡_};
+ghost use Prim.Native.Nat.{_*_, _/_, _≤_, _<_};
+ghost use lib.ListN.{length};
+ghost use Rattle.words.specs.Compare.{compareOf};
+ghost use Rattle.figures.specs.Limits.{most-words};
+ghost use Rattle.figures.specs.Numbers.{done};
+ghost use Rattle.order.specs.Reading.{causeOf};
+ghost use Rattle.book.specs.Decoding.{bookIn};
+ghost use Rattle.book.specs.Holding.{Holds};
+ghost use Rattle.judge.specs.Judging.{judgeOf};
+ghost use Rattle.judge.specs.Seeking.{topKnown, lineUnknown, spelledIn, keyOf, Seeks, lineAnswer};
+use book::Form;
+use book::Places;
+use figures::Answer;
+use figures::Depth;
+use figures::answered;
+use figures::limits;
+use figures::numbers;
+use order::PartAt;
+use section::Found;
+use words::Compared;
+
+// The part that a line stands for: whether it is low, which words it has, of the order or of its cut, and its section's entries.
+pub struct Sought {
+    pub low: bool,
+    pub from: usize,
+    pub to: usize,
+    pub at: usize,
+    pub many: usize,
+}
+
+// Whether the order's top is in the book.
+fn top_known(book: &[u16], places: Places, order: &[u16]) -> bool
+    requires { ⌜ Holds (now book) places ⌝ }
+    requires { ⌜ causeOf (now order) ≡ done ⌝ }
+    ensures { λ r. ⌜ r ≡ topKnown (bookIn (now (book .entry))) (now (order .entry)) ⌝ }
+{
+    let mut cut: [u16; 128] = [0; 128];
+    let laid = order::put(order, 0, places.k.of_tops(), &mut cut);
+    let count = laid.count;
+    let many = book[4] as usize;
+    match section::find(book, places.tops, many, &cut[0..count]) {
+        Found::At(_) => true,
+        Found::Absent(_) => false,
+    }
+}
+
+// The part that a line stands for, the lines counted from 0; the words of a middle part are written to `cut`.
+fn seek(book: &[u16], places: Places, order: &[u16], line: usize, cut: &mut [u16]) -> Sought
+    requires { ⌜ Holds (now book) places ⌝ }
+    requires { ⌜ causeOf (now order) ≡ done ⌝ }
+    requires { ⌜ line < length (now order) / 2 ⌝ }
+    requires { ⌜ most-words ≤ length (now cut) ⌝ }
+    ensures { λ r. ⌜ Seeks (bookIn (now (book .entry))) (now (book .entry)) (now (order .entry)) (line * 2) (now (cut .exit)) r ⌝ }
+{
+    let from = line * 2;
+    match order::part_at(order, from, places.k) {
+        PartAt::NoPart => Sought {
+            low: true,
+            from,
+            to: from,
+            at: places.used,
+            many: 0,
+        },
+        PartAt::LowTo { end } => {
+            let many = book[5] as usize;
+            Sought {
+                low: true,
+                from,
+                to: end,
+                at: places.lows,
+                many,
+            }
+        }
+        PartAt::MiddleTo { end: _, count } => {
+            order::put(order, from, places.k.of_middles(), cut);
+            let many = book[6] as usize;
+            Sought {
+                low: false,
+                from: 0,
+                to: count,
+                at: places.middles,
+                many,
+            }
+        }
+    }
+}
+
+// How an entry's tree stands to the part that is sought: a low part is compared where it lies in the order.
+fn against(tree: &[u16], part: Sought, order: &[u16], cut: &[u16]) -> Compared
+    requires { ⌜ (part .from ≤ part .to) × (part .to ≤ length (spelledIn (part .low) (now order) (now cut))) ⌝ }
+    ensures { λ r. ⌜ r ≡ compareOf (now (tree .entry)) (keyOf part (now (order .entry)) (now (cut .entry))) ⌝ }
+{
+    let from = part.from;
+    let to = part.to;
+    if part.low {
+        return words::compare(tree, &order[from..to]);
+    }
+    words::compare(tree, &cut[from..to])
+}
+
+// The first line whose part is unknown, counted from 1; 0 where every part is known.
+fn first_unknown(book: &[u16], places: Places, order: &[u16]) -> usize
+    requires { ⌜ Holds (now book) places ⌝ }
+    requires { ⌜ causeOf (now order) ≡ done ⌝ }
+    ensures { λ r. ⌜ r ≡ lineUnknown (bookIn (now (book .entry))) (now (order .entry)) ⌝ }
+{
+    let mut cut: [u16; 128] = [0; 128];
+    let lines = order.len() / 2;
+    let mut line: usize = 0;
+    'lines: loop {
+        if lines <= line {
+            break 'lines 0;
+        }
+        let part = seek(book, places, order, line, &mut cut);
+        line += 1;
+        let mut at = part.at;
+        let mut left = part.many;
+        while 0 < left {
+            let start = at + 2;
+            let end = section::past(book, at);
+            match against(&book[start..end], part, order, &cut) {
+                Compared::Lower => {
+                    at = end;
+                    left -= 1;
+                }
+                Compared::Equal => continue 'lines,
+                Compared::Higher => break 'lines line,
+            }
+        }
+        break 'lines line;
+    }
+}
+
+// The answer for the first unknown line: 21 or 22 by the depth of its uncut subtree; 0 for line 0.
+fn line_answer(order: &[u16], k: Depth, line: usize) -> Answer
+    requires { ⌜ line ≤ length (now order) / 2 ⌝ }
+    ensures { λ r. ⌜ r ≡ lineAnswer (k .k) (now (order .entry)) line ⌝ }
+{
+    if line == 0 {
+        return answered(numbers::DONE);
+    }
+    let number = match order::part_at(order, (line - 1) * 2, k) {
+        PartAt::NoPart => numbers::LOW_UNKNOWN,
+        PartAt::LowTo { end: _ } => numbers::LOW_UNKNOWN,
+        PartAt::MiddleTo { end: _, count: _ } => numbers::MIDDLE_UNKNOWN,
+    };
+    Answer { number, line }
+}
+
+// Judges an order by a book in form.
+fn judge_order(book: &[u16], places: Places, order: &[u16]) -> Answer
+    requires { ⌜ Holds (now book) places ⌝ }
+    ensures { λ r. ⌜ r ≡ judgeOf (now (book .entry)) (now (order .entry)) ⌝ }
+{
+    let checked = order::check(order);
+    if checked.number != numbers::DONE {
+        return checked;
+    }
+    if !top_known(book, places, order) {
+        return Answer {
+            number: numbers::TOP_UNKNOWN,
+            line: 1,
+        };
+    }
+    let line = first_unknown(book, places, order);
+    line_answer(order, places.k, line)
+}
+
+// Judges an order: 4, 5, 1, 2, or 0 if its top, its low parts and its middle parts are all in the book, and otherwise 20, 21 or 22 with a line.
+pub fn judge(book: &[u16], order: &[u16]) -> Answer
+    ensures { λ r. ⌜ r ≡ judgeOf (now (book .entry)) (now (order .entry)) ⌝ }
+{
+    match book::in_form(book) {
+        Form::Refused(number) => answered(number),
+        Form::InForm(places) => judge_order(book, places, order),
+    }
+}
