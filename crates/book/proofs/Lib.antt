@@ -6,3 +6,4 @@ pub mod Depths
 pub mod Heads
 pub mod Holding
 pub mod Openings
+pub mod Sound

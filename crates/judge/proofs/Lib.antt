@@ -6,3 +6,5 @@ pub mod Tops
 pub mod LineAnswers
 pub mod Rounds
 pub mod Judgements
+pub mod Verdicts
+pub mod Demand2

@@ -24,14 +24,14 @@ use Rattle.judge.specs.Seeking.{Seeks}
 use Rattle.judge.proofs.Spots.{LineAt, short-order, part-told, spot-within, spot-words}
 
 -- The part of a low subtree is the subtree.
-pub low-part : (k : ℕ) (s : Tree) → isLow k s ≡ true → partOf k s .tree ≡ s
+pub low-tree : (k : ℕ) (s : Tree) → isLow k s ≡ true → partOf k s .tree ≡ s
 unfolding partOf if_then_else_
-low-part k s e = rw e
+low-tree k s e = rw e
 
 -- The part of any other subtree is its cut.
-pub middle-part : (k : ℕ) (s : Tree) → isLow k s ≡ false → partOf k s .tree ≡ middle k s
+pub middle-tree : (k : ℕ) (s : Tree) → isLow k s ≡ false → partOf k s .tree ≡ middle k s
 unfolding partOf if_then_else_
-middle-part k s e = rw e
+middle-tree k s e = rw e
 
 -- A line of an order, and a book in form.
 module _ (ws os : List ℕ) (p : Places) (line : ℕ) (H : Holds ws p) (c : LineAt os line) (w : PartAt) (is : w ≡ partAtOf os (line * 2) (p .k .k)) where
@@ -52,7 +52,7 @@ module _ (ws os : List ℕ) (p : Places) (line : ℕ) (H : Holds ws p) (c : Line
         tree = s;
         here = from-spot os (line * 2) _ (c .spot);
         kind = sym low;
-        key = spot-words os (line * 2) _ (c .spot) e (t .1) ∙ ap words (sym (low-part (bookIn ws .k) s low));
+        key = spot-words os (line * 2) _ (c .spot) e (t .1) ∙ ap words (sym (low-tree (bookIn ws .k) s low));
         forward = omega (arith, t .1);
         lies = omega (arith, t .1, c .lies, spot-within os (line * 2) _ (c .spot) (omega (arith, c .lies)));
         among = rw m (S .are);
@@ -75,7 +75,7 @@ module _ (ws os : List ℕ) (p : Places) (line : ℕ) (H : Holds ws p) (c : Line
         tree = s;
         here = from-spot os (line * 2) _ (c .spot);
         kind = sym low;
-        key = rw (sub-zero, o, long, take-append-seam (cutOf os (line * 2) d)) (new ∙ rw (H .depth) (ap words (sym (middle-part (bookIn ws .k) s low))));
+        key = rw (sub-zero, o, long, take-append-seam (cutOf os (line * 2) d)) (new ∙ rw (H .depth) (ap words (sym (middle-tree (bookIn ws .k) s low))));
         forward = omega arith;
         lies = rw (o, long) (simp length-append (omega arith));
         among = rw m (S .are);

@@ -37,13 +37,13 @@ in-at (here e) = (0, ap found (sym e))
 in-at (there m) = let r = in-at m in (suc (r .0), r .1)
 
 -- A line's tree is a subtree.
-line-in : (t s : Tree) (line : ℕ) → OnLine t s line → s ∈ subtrees t
+pub line-in : (t s : Tree) (line : ℕ) → OnLine t s line → s ∈ subtrees t
 unfolding lineOf
 line-in t s zero l = not-found (l .is)
 line-in t s (suc i) l = at-in (subtrees t) i (l .is)
 
 -- A subtree has a line.
-in-line : {t s : Tree} → s ∈ subtrees t → (line : ℕ) × OnLine t s line
+pub in-line : {t s : Tree} → s ∈ subtrees t → (line : ℕ) × OnLine t s line
 unfolding lineOf
 in-line m = let r = in-at m in (suc (r .0), record { is = r .1 })
 

@@ -1,0 +1,105 @@
+-- Demand 2: "An order passes exactly when its top, its low parts and its middle parts are all in the book, as García's paper (document 000)
+-- defines them"; and judging answers exactly by the rows of 01's table, for any words. Assumes nothing.
+use Prim.Native.Nat.{ℕ}
+use mathlib.Core.Path.{_≡_, refl, ap, sym, subst, _∙_}
+use mathlib.Core.List.{List}
+use native.Mathlib.Omega.{arith}
+use Rattle.figures.specs.Numbers.{done, book-size, not-in-form}
+use Rattle.figures.specs.Answers.{answered}
+use Rattle.figures.specs.declared.Answer.{Answer}
+use Rattle.order.specs.Trees.{Tree, words}
+use Rattle.order.specs.Reading.{Order, order, byOrder, orderOf, causeOf}
+use Rattle.order.specs.Causes.{Cause}
+use Rattle.order.proofs.Orders.{tree-passes}
+use Rattle.order.proofs.Causes.{cause-only, cause-is, Passed, Seen, stopped, passed, seen, refused-by}
+use Rattle.book.specs.Book.{Book}
+use Rattle.book.specs.Decoding.{placesOf, formOf}
+use Rattle.book.specs.Sound.{IsBook, Why, shorter, longer, formless, book}
+use Rattle.book.specs.declared.Form.{Form}
+use Rattle.book.specs.declared.Form.the-variants.{Refused, InForm}
+use Rattle.book.proofs.Sound.{on-any, why-is, why-only}
+use Rattle.judge.specs.Judging.{verdict, judgeOf}
+use Rattle.judge.specs.Verdicts.{IsOrder, Passes, PassesBy, Verdict, passing, no-top, no-low, no-middle, Judged, no-book, no-order, judged}
+use Rattle.judge.proofs.Judgements.{judge-unheld}
+use Rattle.judge.proofs.Verdicts.{verdict-is, verdict-one}
+
+-- ---- the order
+
+-- Words that are read as an order are one within limits.
+passed-order : (os : List ℕ) (t : Tree) → Passed os t → IsOrder os t
+passed-order os t p = record { spelt = p .spelt; good = p .good; nodes = p .nodes; deep = p .deep }
+
+-- And the other way round.
+order-read : (os : List ℕ) (t : Tree) → IsOrder os t → orderOf os ≡ order t
+order-read os t o = ap orderOf (o .spelt) ∙ tree-passes t (o .good) (o .nodes) (o .deep)
+
+-- ---- the book
+
+module _ (ws os : List ℕ) where
+  -- A book judges the order.
+  by-book : (b : Book) → IsBook ws b → judgeOf ws os ≡ byOrder (orderOf os) answered (verdict b)
+  unfolding judgeOf
+  by-book b i = on-any ws b i answered (λ c. byOrder (orderOf os) answered (verdict c))
+
+  -- An order with a cause of 1 or 2 is answered by it.
+  by-cause : (b : Book) → IsBook ws b → (causeOf os ≡ done → ⊥) → judgeOf ws os ≡ answered (causeOf os)
+  unfolding byOrder
+  by-cause b i n = by-book b i ∙ rw (refused-by os n)
+
+  -- Any other is answered by the verdict.
+  by-verdict : (b : Book) (t : Tree) → IsBook ws b → orderOf os ≡ order t → judgeOf ws os ≡ verdict b t
+  unfolding byOrder
+  by-verdict b t i e = by-book b i ∙ rw e
+
+  -- Judging answers by a row of 01's table.
+  pub judged-is : Judged ws os (judgeOf ws os)
+  judged-is = go (why-is ws)
+    where
+      ordered : (b : Book) → IsBook ws b → Seen os → Judged ws os (judgeOf ws os)
+      ordered b i (stopped h r) = no-order b (causeOf os) (by-cause b i h) i (cause-is os) h
+      ordered b i (passed t h p) =
+          judged b t i (passed-order os t p) (subst (Verdict b t) (sym (by-verdict b t i (p .is))) (verdict-is b (i .sound .least) t))
+
+      go : Why ws (formOf ws) → Judged ws os (judgeOf ws os)
+      go (shorter r l) = no-book book-size (judge-unheld ws os book-size r) (shorter refl l)
+      go (longer r l) = no-book book-size (judge-unheld ws os book-size r) (longer refl l)
+      go (formless r l m n) = no-book not-in-form (judge-unheld ws os not-in-form r) (formless refl l m n)
+      go (book b r i) = ordered b i (seen os)
+
+  -- And by no other.
+  pub judged-only : (a : Answer) → Judged ws os a → judgeOf ws os ≡ a
+  judged-only a (no-book n e w) = judge-unheld ws os n (why-only ws (Refused n) w) ∙ sym e
+  judged-only a (no-order b n e i c x) =
+      let q : causeOf os ≡ n = cause-only os n c in
+      by-cause b i (λ z. x (sym q ∙ z)) ∙ ap answered q ∙ sym e
+  judged-only a (judged b t i o v) =
+      by-verdict b t i (order-read os t o) ∙ verdict-one b (i .sound .least) t (verdict b t) a (verdict-is b (i .sound .least) t) v
+
+  -- ---- passing
+
+  -- A refusal by the book is not 0.
+  refusal-not-0 : (n : ℕ) → Why ws (Refused n) → n ≡ done → ⊥
+  refusal-not-0 n (shorter r l) e = let z : n ≡ book-size = cc in omega arith
+  refusal-not-0 n (longer r l) e = let z : n ≡ book-size = cc in omega arith
+  refusal-not-0 n (formless r l m x) e = let z : n ≡ not-in-form = cc in omega arith
+  refusal-not-0 n (book b r i) e = let z : _≡_ {A = ℕ} 0 1 = cc in omega arith
+
+  -- Of the verdicts only passing is 0.
+  verdict-0 : (b : Book) (t : Tree) (a : Answer) → Verdict b t a → a .number ≡ done → Passes b t
+  verdict-0 b t a (passing e p) f = p
+  verdict-0 b t a (no-top e n) f = absurd (omega (arith, ap (λ (x : Answer). x .number) e))
+  verdict-0 b t a (no-low l s e r d n) f = absurd (omega (arith, ap (λ (x : Answer). x .number) e))
+  verdict-0 b t a (no-middle l s e r d n) f = absurd (omega (arith, ap (λ (x : Answer). x .number) e))
+
+  -- "An order passes exactly when": what is answered by 0 passes,
+  pub answered-passes : judgeOf ws os .number ≡ done → PassesBy ws os
+  answered-passes e = go (judged-is)
+    where
+      go : Judged ws os (judgeOf ws os) → PassesBy ws os
+      go (no-book n f w) = absurd (refusal-not-0 n w (sym (ap (λ (x : Answer). x .number) f) ∙ e))
+      go (no-order b n f i c x) = absurd (x (sym (ap (λ (x : Answer). x .number) f) ∙ e))
+      go (judged b t i o v) = record { book = b; tree = t; isBook = i; isOrder = o; passes = verdict-0 b t _ v e }
+
+  -- and what passes is answered by 0 with line 0.
+  pub passes-answered : PassesBy ws os → judgeOf ws os ≡ answered done
+  passes-answered p = judged-only (answered done) (judged (p .book) (p .tree) (p .isBook) (p .isOrder) (passing refl (p .passes)))

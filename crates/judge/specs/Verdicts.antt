@@ -1,0 +1,78 @@
+-- The rows of 01's table that judging can answer, by document 000's r, l and p and by sound books, apart from the tests of `judgeOf`. That
+-- judging answers exactly by these rows is shown in proofs/Verdicts.antt. Assumes nothing: these are definitions.
+use Prim.Native.Nat.{ℕ, _-_, _≤_, _<_}
+use mathlib.Core.Path.{_≡_}
+use mathlib.Core.List.{List}
+use lib.ListN.{length}
+use Rattle.words.specs.Base.{_∈_}
+use Rattle.figures.specs.Limits.{most-nodes, greatest-depth}
+use Rattle.figures.specs.Numbers.{done, top-unknown, low-unknown, middle-unknown}
+use Rattle.figures.specs.Answers.{answered}
+use Rattle.figures.specs.declared.Answer.{Answer}
+use Rattle.section.specs.Entries.{Entry}
+use Rattle.order.specs.Trees.{Tree, words, depth, Good, subtrees}
+use Rattle.order.specs.Reading.{found}
+use Rattle.order.specs.Causes.{Cause}
+use Rattle.order.specs.Answers.{lineOf}
+use Rattle.order.specs.Paper.{IsR, IsL, IsP}
+use Rattle.book.specs.Book.{Book}
+use Rattle.book.specs.Sound.{IsBook, Why}
+use Rattle.book.specs.declared.Form.the-variants.{Refused}
+
+-- The words are those of an order within limits.
+pub record IsOrder (os : List ℕ) (t : Tree) : Type 0 where
+  pub spelt : os ≡ words t
+  pub good : Good t
+  pub nodes : length (subtrees t) ≤ most-nodes
+  pub deep : depth t ≤ greatest-depth
+
+-- A tree is in a section: some entry has its words.
+pub record In (es : List Entry) (t : Tree) : Type 0 where
+  pub entry : Entry
+  pub there : entry ∈ es
+  pub spelt : entry .key ≡ words t
+
+-- "An order passes when its top is in R, all its low parts are in L and all its middle parts are in P": as sets, by 000's r, l and p.
+pub record Passes (b : Book) (t : Tree) : Type 0 where
+  pub top : (u : Tree) → IsR (b .k - 1) t u → In (b .R) u
+  pub lows : (u : Tree) → IsL (b .k - 1) t u → In (b .L) u
+  pub middles : (u : Tree) → IsP (b .k) t u → In (b .P) u
+
+-- A subtree's part is in the book. "The depth of the uncut subtree decides between L and P."
+pub record Known (b : Book) (s : Tree) : Type 0 where
+  pub low : depth s ≤ b .k - 2 → In (b .L) s
+  pub middle : b .k - 1 ≤ depth s → (u : Tree) → IsR (b .k) s u → In (b .P) u
+
+-- The top is known, s is the subtree of the line, and on every line before it the part is known.
+pub record Reached (b : Book) (t : Tree) (line : ℕ) (s : Tree) : Type 0 where
+  pub top : (u : Tree) → IsR (b .k - 1) t u → In (b .R) u
+  pub on : lineOf line (subtrees t) ≡ found s
+  pub earlier : (j : ℕ) (u : Tree) → j < line → lineOf j (subtrees t) ≡ found u → Known b u
+
+-- Why a book answers an order by a.
+pub data Verdict (b : Book) (t : Tree) (a : Answer) : Type 0 where
+  -- 0: "passes"
+  passing : a ≡ answered done → Passes b t → Verdict b t a
+  -- 20: "top not in R", with line 1, whatever the lines say
+  no-top : a ≡ record { number = top-unknown; line = 1 } → ((u : Tree) → IsR (b .k - 1) t u → In (b .R) u → ⊥) → Verdict b t a
+  -- 21: "low part unknown", at "the least line whose subtree's part is unknown"
+  no-low : (line : ℕ) (s : Tree) → a ≡ record { number = low-unknown; line = line } → Reached b t line s → depth s ≤ b .k - 2 → (In (b .L) s → ⊥) → Verdict b t a
+  -- 22: "middle part unknown", at that line
+  no-middle : (line : ℕ) (s : Tree) → a ≡ record { number = middle-unknown; line = line } → Reached b t line s → b .k - 1 ≤ depth s → ((u : Tree) → IsR (b .k) s u → In (b .P) u → ⊥) → Verdict b t a
+
+-- Why judging answers a: "Judge: 4, 5, 1, 2, verdict."
+pub data Judged (ws os : List ℕ) (a : Answer) : Type 0 where
+  -- 4 and 5, by the book alone
+  no-book : (n : ℕ) → a ≡ answered n → Why ws (Refused n) → Judged ws os a
+  -- 1 and 2, by the order
+  no-order : (b : Book) (n : ℕ) → a ≡ answered n → IsBook ws b → Cause os n → (n ≡ done → ⊥) → Judged ws os a
+  -- the verdict
+  judged : (b : Book) (t : Tree) → IsBook ws b → IsOrder os t → Verdict b t a → Judged ws os a
+
+-- The slice is a book in form, the words are an order within limits, and the order passes by the book.
+pub record PassesBy (ws os : List ℕ) : Type 0 where
+  pub book : Book
+  pub tree : Tree
+  pub isBook : IsBook ws book
+  pub isOrder : IsOrder os tree
+  pub passes : Passes book tree
