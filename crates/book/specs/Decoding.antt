@@ -6,7 +6,7 @@ use mathlib.Core.List.{List}
 use mathlib.Core.Option.{Option, none, some}
 use lib.ListN.{length, getD, drop}
 use Rattle.words.specs.Base.{_and_, if_then_else_, within, sameWords}
-use Rattle.figures.specs.Limits.{head-words, most-book-words}
+use Rattle.figures.specs.Limits.{head-words, k-word, taught-word, tops-word, lows-word, middles-word, most-book-words}
 use Rattle.figures.specs.Numbers.{book-size, not-in-form}
 use Rattle.section.specs.Entries.{sectionWords, entries, span}
 use Rattle.book.specs.Book.{Book, lay, inForm, used}
@@ -22,29 +22,29 @@ pastEntries from slot ws = from + span (getD ws slot 0) (drop from ws)
 
 -- Where section R starts.
 unfoldable pub topsAt : List ℕ → ℕ
-topsAt ws = pastEntries head-words 3 ws
+topsAt ws = pastEntries head-words taught-word ws
 
 -- Where section L starts.
 unfoldable pub lowsAt : List ℕ → ℕ
-lowsAt ws = pastEntries (topsAt ws) 4 ws
+lowsAt ws = pastEntries (topsAt ws) tops-word ws
 
 -- Where section P starts.
 unfoldable pub middlesAt : List ℕ → ℕ
-middlesAt ws = pastEntries (lowsAt ws) 5 ws
+middlesAt ws = pastEntries (lowsAt ws) lows-word ws
 
 -- Where the four sections end.
 unfoldable pub endAt : List ℕ → ℕ
-endAt ws = pastEntries (middlesAt ws) 6 ws
+endAt ws = pastEntries (middlesAt ws) middles-word ws
 
 -- The book that the head and the words behind it hold.
 unfoldable pub bookIn : List ℕ → Book
 bookIn ws =
     record {
-      k = getD ws 0 0;
-      T = entries (getD ws 3 0) (drop head-words ws);
-      R = entries (getD ws 4 0) (drop (topsAt ws) ws);
-      L = entries (getD ws 5 0) (drop (lowsAt ws) ws);
-      P = entries (getD ws 6 0) (drop (middlesAt ws) ws);
+      k = getD ws k-word 0;
+      T = entries (getD ws taught-word 0) (drop head-words ws);
+      R = entries (getD ws tops-word 0) (drop (topsAt ws) ws);
+      L = entries (getD ws lows-word 0) (drop (lowsAt ws) ws);
+      P = entries (getD ws middles-word 0) (drop (middlesAt ws) ws);
     }
 
 -- The words hold a book in form, and are its words and then zeros.
@@ -85,10 +85,10 @@ startOf Middles p = p .middles
 
 -- The head's word with a section's number of entries.
 abbrev pub slotOf : Section → ℕ
-slotOf Taught = 3
-slotOf Tops = 4
-slotOf Lows = 5
-slotOf Middles = 6
+slotOf Taught = taught-word
+slotOf Tops = tops-word
+slotOf Lows = lows-word
+slotOf Middles = middles-word
 
 -- What a look at a book's form gives: the number of its refusal, or where its sections start.
 unfoldable pub formOf : List ℕ → Form

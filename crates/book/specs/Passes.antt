@@ -6,6 +6,7 @@ use lib.Dec.{leb, eqb}
 use lib.ListN.{length, getD, drop}
 use Rattle.words.specs.Base.{_and_, if_then_else_}
 use Rattle.words.specs.Compare.{before}
+use Rattle.figures.specs.Limits.{used-word, live-word}
 use Rattle.section.specs.Entries.{firstEntry, entries, width, span, total}
 use Rattle.book.specs.Book.{entryInForm}
 use Rattle.book.specs.declared.Whole.{Whole}
@@ -43,4 +44,4 @@ zeros (x ∷ xs) = eqb x 0 and zeros xs
 
 -- The head says how many teachings are live and how many words are used, and the words past these are zero.
 unfoldable pub headOf : List ℕ → ℕ → ℕ → Bool
-headOf ws live used = eqb live (getD ws 2 0) and eqb used (getD ws 1 0) and zeros (drop used ws)
+headOf ws live used = eqb live (getD ws live-word 0) and eqb used (getD ws used-word 0) and zeros (drop used ws)

@@ -1,11 +1,10 @@
 -- The book of the orders taught, and a book that agrees with itself (01, "The book"). Assumes nothing: these are definitions.
 use Prim.Native.Nat.{ℕ}
-use mathlib.Core.Bool.{Bool}
+use mathlib.Core.Bool.{Bool, true, false}
 use mathlib.Core.List.{List, [], _∷_}
 use lib.Dec.{eqb}
-use lib.ListN.{length}
 use Rattle.words.specs.Base.{_and_, sameWords}
-use Rattle.section.specs.Entries.{Entry, sectionWords, add}
+use Rattle.section.specs.Entries.{Entry, add}
 use Rattle.order.specs.Trees.{Tree, words}
 use Rattle.order.specs.Reading.{byFound, treeOf}
 use Rattle.order.specs.Parts.{top, lowParts, middleParts}
@@ -46,9 +45,12 @@ teachingsIn [] = []
 teachingsIn (e ∷ es) =
     byFound (treeOf (e .key)) (teachingsIn es) (λ t. record { order = t; times = e .count } ∷ teachingsIn es)
 
--- Two sections have the same entries.
+-- Two sections have the same entries, trees and counts.
 unfoldable pub sameSection : List Entry → List Entry → Bool
-sameSection s t = eqb (length s) (length t) and sameWords (sectionWords s) (sectionWords t)
+sameSection [] [] = true
+sameSection [] (f ∷ fs) = false
+sameSection (e ∷ es) [] = false
+sameSection (e ∷ es) (f ∷ fs) = sameWords (e .key) (f .key) and eqb (e .count) (f .count) and sameSection es fs
 
 -- "A book in form whose R, L, P are those of its T agrees with itself."
 unfoldable pub agreeing : Book → Bool

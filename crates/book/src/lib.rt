@@ -3,6 +3,7 @@
 ghost use mathlib.Core.Path.{_≡_};
 ghost use Prim.Native.Nat.{_≤_};
 ghost use lib.ListN.{length, drop};
+ghost use Rattle.figures.specs.Limits.{head-words};
 ghost use Rattle.book.specs.Decoding.{formOf};
 ghost use Rattle.book.specs.Passes.{wholeAt, stretchOf, zeros, headOf};
 ghost use Rattle.book.specs.Opening.{outcome, openOf};
@@ -117,11 +118,11 @@ fn zeros_from(book: &[u16], at: usize) -> bool
 
 // Whether the head says how many teachings are live and how many words are used, and the words past these are zero.
 fn head_agrees(book: &[u16], live: usize, used: usize) -> bool
-    requires { ⌜ 7 ≤ length (now book) ⌝ }
+    requires { ⌜ head-words ≤ length (now book) ⌝ }
     ensures { λ r. ⌜ r ≡ headOf (now (book .entry)) live used ⌝ }
 {
-    let says_live = book[2] as usize;
-    let says_used = book[1] as usize;
+    let says_live = book[limits::LIVE_WORD] as usize;
+    let says_used = book[limits::USED_WORD] as usize;
     if live != says_live {
         return false;
     }
@@ -141,7 +142,7 @@ pub fn in_form(book: &[u16]) -> Form
     if limits::MOST_BOOK_WORDS < book.len() {
         return Form::Refused(numbers::BOOK_SIZE);
     }
-    let Asked::Allowed(k) = Depth::new(book[0]) else {
+    let Asked::Allowed(k) = Depth::new(book[limits::K_WORD]) else {
         return Form::Refused(numbers::NOT_IN_FORM);
     };
     let low = k.of_tops();
@@ -149,21 +150,34 @@ pub fn in_form(book: &[u16]) -> Form
     let Stretch::InOrder {
         end: tops,
         sum: live,
-    } = pass(book, limits::HEAD_WORDS, book[3], 0, limits::GREATEST_DEPTH)
+    } = pass(
+        book,
+        limits::HEAD_WORDS,
+        book[limits::TAUGHT_WORD],
+        0,
+        limits::GREATEST_DEPTH,
+    )
     else {
         return Form::Refused(numbers::NOT_IN_FORM);
     };
-    let Stretch::InOrder { end: lows, sum: _ } = pass(book, tops, book[4], 0, low) else {
+    let Stretch::InOrder { end: lows, sum: _ } = pass(book, tops, book[limits::TOPS_WORD], 0, low)
+    else {
         return Form::Refused(numbers::NOT_IN_FORM);
     };
     let Stretch::InOrder {
         end: middles,
         sum: _,
-    } = pass(book, lows, book[5], 0, low)
+    } = pass(book, lows, book[limits::LOWS_WORD], 0, low)
     else {
         return Form::Refused(numbers::NOT_IN_FORM);
     };
-    let Stretch::InOrder { end: used, sum: _ } = pass(book, middles, book[6], middle, middle) else {
+    let Stretch::InOrder { end: used, sum: _ } = pass(
+        book,
+        middles,
+        book[limits::MIDDLES_WORD],
+        middle,
+        middle,
+    ) else {
         return Form::Refused(numbers::NOT_IN_FORM);
     };
     if !head_agrees(book, live, used) {
@@ -192,7 +206,7 @@ pub fn open(book: &mut [u16], k: u16) -> Answer
         return answered(numbers::K_OUTSIDE);
     };
     words::clear(book);
-    book[0] = depth.value();
-    book[1] = limits::HEAD_WORDS as u16;
+    book[limits::K_WORD] = depth.value();
+    book[limits::USED_WORD] = limits::HEAD_WORDS as u16;
     answered(numbers::DONE)
 }

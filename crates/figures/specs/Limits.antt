@@ -34,9 +34,37 @@ least-k = 2
 abbrev pub greatest-k : ℕ
 greatest-k = 6
 
--- The book's head: "Word 0: k. Word 1: words used. Word 2: live teachings", "Words 3 to 6: numbers of entries"
+-- The book's head: words 0 to 6
 abbrev pub head-words : ℕ
 head-words = 7
+
+-- "Word 0: k."
+abbrev pub k-word : ℕ
+k-word = 0
+
+-- "Word 1: words used."
+abbrev pub used-word : ℕ
+used-word = 1
+
+-- "Word 2: live teachings"
+abbrev pub live-word : ℕ
+live-word = 2
+
+-- "Words 3 to 6: numbers of entries in T, R, L, P."
+abbrev pub taught-word : ℕ
+taught-word = 3
+
+-- The number of entries in R.
+abbrev pub tops-word : ℕ
+tops-word = 4
+
+-- The number of entries in L.
+abbrev pub lows-word : ℕ
+lows-word = 5
+
+-- The number of entries in P.
+abbrev pub middles-word : ℕ
+middles-word = 6
 
 -- "A lent slice of 7 to 16,384 words"
 abbrev pub most-book-words : ℕ

@@ -18,5 +18,21 @@ pub const GREATEST_DEPTH: usize = 12;
 // The book's head: words 0 to 6
 pub const HEAD_WORDS: usize = 7;
 
+// "Word 0: k. Word 1: words used. Word 2: live teachings"
+pub const K_WORD: usize = 0;
+
+pub const USED_WORD: usize = 1;
+
+pub const LIVE_WORD: usize = 2;
+
+// "Words 3 to 6: numbers of entries in T, R, L, P"
+pub const TAUGHT_WORD: usize = 3;
+
+pub const TOPS_WORD: usize = 4;
+
+pub const LOWS_WORD: usize = 5;
+
+pub const MIDDLES_WORD: usize = 6;
+
 // "A lent slice of 7 to 16,384 words"
 pub const MOST_BOOK_WORDS: usize = 16384;

@@ -37,10 +37,10 @@ fn top_known(book: &[u16], places: Places, order: &[u16]) -> bool
     requires { ⌜ causeOf (now order) ≡ done ⌝ }
     ensures { λ r. ⌜ r ≡ topKnown (bookIn (now (book .entry))) (now (order .entry)) ⌝ }
 {
-    let mut cut: [u16; 128] = [0; 128];
+    let mut cut = [0u16; limits::MOST_WORDS];
     let laid = order::put(order, 0, places.k.of_tops(), &mut cut);
     let count = laid.count;
-    let many = book[4] as usize;
+    let many = book[limits::TOPS_WORD] as usize;
     match section::find(book, places.tops, many, &cut[0..count]) {
         Found::At(_) => true,
         Found::Absent(_) => false,
@@ -57,6 +57,7 @@ fn seek(book: &[u16], places: Places, order: &[u16], line: usize, cut: &mut [u16
 {
     let from = line * 2;
     match order::part_at(order, from, places.k) {
+        // Never met: every line of an order has a part.
         PartAt::NoPart => Sought {
             low: true,
             from,
@@ -65,7 +66,7 @@ fn seek(book: &[u16], places: Places, order: &[u16], line: usize, cut: &mut [u16
             many: 0,
         },
         PartAt::LowTo { end } => {
-            let many = book[5] as usize;
+            let many = book[limits::LOWS_WORD] as usize;
             Sought {
                 low: true,
                 from,
@@ -76,7 +77,7 @@ fn seek(book: &[u16], places: Places, order: &[u16], line: usize, cut: &mut [u16
         }
         PartAt::MiddleTo { end: _, count } => {
             order::put(order, from, places.k.of_middles(), cut);
-            let many = book[6] as usize;
+            let many = book[limits::MIDDLES_WORD] as usize;
             Sought {
                 low: false,
                 from: 0,
@@ -107,7 +108,7 @@ fn first_unknown(book: &[u16], places: Places, order: &[u16]) -> usize
     requires { ⌜ causeOf (now order) ≡ done ⌝ }
     ensures { λ r. ⌜ r ≡ lineUnknown (bookIn (now (book .entry))) (now (order .entry)) ⌝ }
 {
-    let mut cut: [u16; 128] = [0; 128];
+    let mut cut = [0u16; limits::MOST_WORDS];
     let lines = order.len() / 2;
     let mut line: usize = 0;
     'lines: loop {
@@ -143,6 +144,7 @@ fn line_answer(order: &[u16], k: Depth, line: usize) -> Answer
         return answered(numbers::DONE);
     }
     let number = match order::part_at(order, (line - 1) * 2, k) {
+        // Never met: every line of an order has a part.
         PartAt::NoPart => numbers::LOW_UNKNOWN,
         PartAt::LowTo { end: _ } => numbers::LOW_UNKNOWN,
         PartAt::MiddleTo { end: _, count: _ } => numbers::MIDDLE_UNKNOWN,

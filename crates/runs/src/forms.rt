@@ -4,6 +4,8 @@
 //   write ROOM W W ..    the order of these words is written to an output of so many bytes
 //   there W W ..         the order of these words is written and read back
 //   back TEXT            the text is read and written back
+// The cases of books stand on lines like these: see `books`.
+use crate::books;
 use crate::lent;
 use crate::lent::HELD;
 use crate::lent::MARK;
@@ -15,11 +17,6 @@ use crate::trips;
 
 // The words that a line may have.
 const MOST_WORDS: usize = 140;
-
-// Says that a line is no case.
-fn not_understood() {
-    say::text(b"not understood");
-}
 
 // Reads a text to an output, and says the answer, the words written and the words behind them.
 fn read_to(text: &[u8], out: &mut [u16]) {
@@ -33,13 +30,13 @@ fn read_to(text: &[u8], out: &mut [u16]) {
 fn read(room: usize, rest: &[u8]) {
     let mut out = [HELD; MOST];
     if out.len() < room {
-        not_understood();
+        say::not_understood();
         return;
     }
     let mut text = [0u8; MOST];
     let n = line::text(rest, &mut text);
     if text.len() < n {
-        not_understood();
+        say::not_understood();
         return;
     }
     read_to(&text[0..n], &mut out[0..room]);
@@ -57,13 +54,13 @@ fn write_to(order: &[u16], out: &mut [u8]) {
 fn write(room: usize, rest: &[u8]) {
     let mut out = [MARK; MOST];
     if out.len() < room {
-        not_understood();
+        say::not_understood();
         return;
     }
     let mut order = [0u16; MOST_WORDS];
     let n = line::words(rest, &mut order);
     if order.len() < n {
-        not_understood();
+        say::not_understood();
         return;
     }
     write_to(&order[0..n], &mut out[0..room]);
@@ -74,7 +71,7 @@ fn there(rest: &[u8]) {
     let mut order = [0u16; MOST_WORDS];
     let n = line::words(rest, &mut order);
     if order.len() < n {
-        not_understood();
+        say::not_understood();
         return;
     }
     trips::answer(trips::words(&order[0..n]));
@@ -85,7 +82,7 @@ fn back(rest: &[u8]) {
     let mut text = [0u8; MOST];
     let n = line::text(rest, &mut text);
     if text.len() < n {
-        not_understood();
+        say::not_understood();
         return;
     }
     trips::answer(trips::bytes(&text[0..n]));
@@ -94,7 +91,7 @@ fn back(rest: &[u8]) {
 // Runs a case that has a room, by its kind and what stands behind that.
 fn with_room(reads: bool, behind: &[u8]) {
     if behind.len() == 0 {
-        not_understood();
+        say::not_understood();
         return;
     }
     let end = line::find(behind, b' ', 1);
@@ -106,7 +103,7 @@ fn with_room(reads: bool, behind: &[u8]) {
     }
 }
 
-// Runs a case, by its kind and what stands behind that.
+// Runs a case of forms, or else one of books, by its kind and what stands behind that.
 fn case(kind: &[u8], behind: &[u8]) {
     if same::bytes(kind, b"read") {
         with_room(true, behind);
@@ -124,12 +121,12 @@ fn case(kind: &[u8], behind: &[u8]) {
         back(behind);
         return;
     }
-    not_understood();
+    books::case(kind, behind);
 }
 
 // Says a line, and what comes of the case on it.
 pub fn run(line: &[u8]) {
-    say::bytes(line);
+    say::text(line);
     say::end();
     let end = line::find(line, b' ', 0);
     let kind = &line[0..end];

@@ -69,6 +69,77 @@ pub fn words(list: &[u8], words: &mut [u16]) -> usize {
     count
 }
 
+// Writes one word to every place.
+fn fill(words: &mut [u16], word: u16) {
+    for i in 0..words.len() {
+        words[i] = word;
+    }
+}
+
+// Lets the last of the first `count` words stand so many times in all, and answers how many words there are then, or NONE.
+fn repeat(words: &mut [u16], count: usize, times: usize) -> usize {
+    if count == 0 {
+        return NONE;
+    }
+    if times == 0 {
+        return NONE;
+    }
+    if words.len() < count {
+        return NONE;
+    }
+    let more = times - 1;
+    if words.len() - count < more {
+        return NONE;
+    }
+    let word = words[count - 1];
+    let end = count + more;
+    fill(&mut words[count..end], word);
+    end
+}
+
+// Puts a word behind the first `count` words, and answers how many there are then, or NONE.
+fn put(digits: &[u8], words: &mut [u16], count: usize) -> usize {
+    let word = number(digits);
+    if GREATEST < word {
+        return NONE;
+    }
+    if words.len() <= count {
+        return NONE;
+    }
+    words[count] = word as u16;
+    count + 1
+}
+
+// Does what a piece of a list says, a word or *N, behind the first `count` words, and answers how many there are then, or NONE.
+fn piece(spelt: &[u8], words: &mut [u16], count: usize) -> usize {
+    if spelt.len() == 0 {
+        return NONE;
+    }
+    if spelt[0] == b'*' {
+        return repeat(words, count, number(&spelt[1..]));
+    }
+    put(spelt, words, count)
+}
+
+// Reads a list as `words` does, in which *N behind a word lets it stand N times in all.
+pub fn runs(list: &[u8], words: &mut [u16]) -> usize {
+    let mut at = 0;
+    let mut count = 0;
+    while at < list.len() {
+        if list[at] != b' ' {
+            return NONE;
+        }
+        let from = at + 1;
+        let end = find(list, b' ', from);
+        count = piece(&list[from..end], words, count);
+        if words.len() < count {
+            return NONE;
+        }
+        at = end;
+    }
+    count
+}
+
 // The byte that a byte of a line stands for: LF for |, CR for ^, a tab for ~, byte 0 for @, byte 255 for $, and else itself.
 fn meant(byte: u8) -> u8 {
     match byte {

@@ -1,5 +1,6 @@
-// Runs the crates `order` and `form` on the cases that 01 wants run and compared. The cases of orders are said in one line each; those
-// of forms are lines of `stdin`, each said with what came of it behind it. `stdout` has what is said.
+// Runs the crates `order`, `form`, `book` and `judge` on the cases that 01 wants run and compared. The cases of orders are said in one
+// line each; those of forms and books are lines of `stdin`, each said with what came of it behind it. `stdout` has what is said.
+mod books;
 mod cases;
 mod cuts;
 mod examples;
@@ -31,7 +32,7 @@ fn orders() {
     cuts::short();
 }
 
-// Runs the cases of orders, and then those of forms, which stand on standard input.
+// Runs the cases of orders, and then those of forms and books, which stand on standard input.
 fn main() {
     orders();
     input::run();

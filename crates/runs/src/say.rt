@@ -1,6 +1,7 @@
 // How a line is said on standard output: text, numbers, bytes, words, and trees in the notation of document 000.
 use libc::STDOUT_FILENO;
 ghost use Prim.Native.Nat.{_≤_};
+ghost use lib.ListN.{length};
 
 // Says bytes as they stand.
 pub fn text(bytes: &[u8]) {
@@ -43,6 +44,11 @@ pub fn bytes(bytes: &[u8]) {
 // Ends a line.
 pub fn end() {
     text(b"\n");
+}
+
+// Says that a line is no case.
+pub fn not_understood() {
+    text(b"not understood");
 }
 
 // Says a case and its answer's number, as one line.
@@ -95,6 +101,42 @@ pub fn words(words: &[u16]) {
     for i in 0..words.len() {
         text(b" ");
         word(words[i]);
+    }
+}
+
+// The place of the first word other than `word`, at `from` or behind it; the length where there is none.
+fn other(words: &[u16], word: u16, from: usize) -> usize
+    requires { ⌜ from ≤ length (now words) ⌝ }
+    ensures { λ r. ⌜ (from ≤ r) × (r ≤ length (now (words .entry))) ⌝ }
+{
+    let mut at = from;
+    while at < words.len() {
+        if words[at] != word {
+            return at;
+        }
+        at += 1;
+    }
+    at
+}
+
+// Says a word with a blank before it, and how many times it stands in a row where that is more than once.
+fn run(n: u16, times: usize) {
+    text(b" ");
+    word(n);
+    if 1 < times {
+        text(b" *");
+        count(times);
+    }
+}
+
+// Says words as `words` does, but each run of equal words as one of them and their number.
+pub fn runs(words: &[u16]) {
+    let mut at = 0;
+    while at < words.len() {
+        let n = words[at];
+        let end = other(words, n, at + 1);
+        run(n, end - at);
+        at = end;
     }
 }
 

@@ -40,7 +40,7 @@ line-answer-requires c κs =
     let o = c .before .before .before in
     let s = o .before .before .before .before .before .args in
     let t = has-tree (s .order .now) (ordered o) in
-    rw (c .first-unknown .ensures) (line-within (bookIn (s .book .now)) (s .order .now) (t .tree) (t .passes))
+    omega (arith, c .first-unknown .ensures, line-within (bookIn (s .book .now)) (s .order .now) (t .tree) (t .passes))
 
 returns-3 : tie.Need-returns-3
 returns-3 c =
