@@ -4,10 +4,11 @@ use mathlib.Core.Path.{_≡_, refl, sym, ap, _∙_}
 use mathlib.Core.Bool.{Bool, true, false}
 use mathlib.Core.List.{List}
 use native.Mathlib.Nat.{zero-add}
-use borrow.Author.Tests.{le-leb, lt-leb}
+use borrow.Author.Tests.{le-leb, lt-leb, leb-true}
+use lib.Dec.{leb}
 use lib.ListN.{length, getD, drop}
-use Rattle.words.specs.Base.{if_then_else_, within}
-use Rattle.words.proofs.Tests.{and-both, fails-left, fails-right}
+use Rattle.words.specs.Base.{_and_, if_then_else_, within}
+use Rattle.words.proofs.Tests.{and-left, and-right, and-both, fails-left, fails-right}
 use Rattle.figures.specs.Limits.{head-words, most-book-words, least-k, greatest-k, greatest-count}
 use Rattle.figures.specs.Numbers.{book-size, not-in-form}
 use Rattle.figures.specs.declared.depths.Depth.{Depth}
@@ -40,6 +41,24 @@ too-long ws h = fails-right _ _ (lt-leb (length ws) most-book-words h)
 pub is-sized : (ws : List ℕ) → head-words ≤ length ws → length ws ≤ most-book-words → sized ws ≡ true
 unfolding sized
 is-sized ws h g = and-both (le-leb head-words (length ws) h) (le-leb (length ws) most-book-words g)
+
+-- A number below 7 is no size of a book.
+pub size-short : (n : ℕ) → n < head-words → within head-words most-book-words n ≡ false
+size-short n h = fails-left _ _ (lt-leb head-words n h)
+
+-- Of any other the greatest decides.
+pub size-by-most : (n : ℕ) → head-words ≤ n → within head-words most-book-words n ≡ leb n most-book-words
+unfolding _and_
+size-by-most n h = rw (le-leb head-words n h)
+
+-- A size of a book is 7 to 16,384.
+pub size-told : (n : ℕ) → within head-words most-book-words n ≡ true → (head-words ≤ n) × (n ≤ most-book-words)
+size-told n e = (leb-true _ _ (and-left _ _ e), leb-true _ _ (and-right (leb head-words n) _ e))
+
+-- A slice has the size of a book if its length is one.
+pub sized-by : (ws : List ℕ) (b : Bool) → within head-words most-book-words (length ws) ≡ b → sized ws ≡ b
+unfolding sized
+sized-by ws b e = e
 
 -- ---- what a call does
 

@@ -7,3 +7,4 @@ pub mod Heads
 pub mod Holding
 pub mod Openings
 pub mod Sound
+pub mod Rows

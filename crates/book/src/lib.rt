@@ -3,7 +3,8 @@
 ghost use mathlib.Core.Path.{_≡_};
 ghost use Prim.Native.Nat.{_≤_};
 ghost use lib.ListN.{length, drop};
-ghost use Rattle.figures.specs.Limits.{head-words};
+ghost use Rattle.words.specs.Base.{within};
+ghost use Rattle.figures.specs.Limits.{head-words, most-book-words};
 ghost use Rattle.book.specs.Decoding.{formOf};
 ghost use Rattle.book.specs.Passes.{wholeAt, stretchOf, zeros, headOf};
 ghost use Rattle.book.specs.Opening.{outcome, openOf};
@@ -43,10 +44,20 @@ pub enum Whole {
     Entry { end: usize, count: usize },
 }
 
-// What a pass over a section finds: the word past it, and the sum of its counts.
+// What a pass over a section finds: in order, with the word past it and the sum of its counts, or not.
 pub enum Stretch {
     Broken,
-    InOrder { end: usize, sum: usize },
+    InOrder(usize, usize),
+}
+
+// Whether a slice of so many words has the size of a book.
+fn is_book_size(words: usize) -> bool
+    ensures { λ r. ⌜ r ≡ within head-words most-book-words words ⌝ }
+{
+    if words < limits::HEAD_WORDS {
+        return false;
+    }
+    words <= limits::MOST_BOOK_WORDS
 }
 
 // The entry at word `at`, if all its words are there.
@@ -99,7 +110,7 @@ fn pass(book: &[u16], from: usize, n: u16, least: usize, greatest: usize) -> Str
         sum += count;
         left -= 1;
     }
-    Stretch::InOrder { end: at, sum }
+    Stretch::InOrder(at, sum)
 }
 
 // Whether every word from `at` on is zero.
@@ -136,10 +147,7 @@ fn head_agrees(book: &[u16], live: usize, used: usize) -> bool
 pub fn in_form(book: &[u16]) -> Form
     ensures { λ r. ⌜ r ≡ formOf (now (book .entry)) ⌝ }
 {
-    if book.len() < limits::HEAD_WORDS {
-        return Form::Refused(numbers::BOOK_SIZE);
-    }
-    if limits::MOST_BOOK_WORDS < book.len() {
+    if !is_book_size(book.len()) {
         return Form::Refused(numbers::BOOK_SIZE);
     }
     let Asked::Allowed(k) = Depth::new(book[limits::K_WORD]) else {
@@ -147,37 +155,23 @@ pub fn in_form(book: &[u16]) -> Form
     };
     let low = k.of_tops();
     let middle = k.of_middles();
-    let Stretch::InOrder {
-        end: tops,
-        sum: live,
-    } = pass(
+    let Stretch::InOrder(tops, live) = pass(
         book,
         limits::HEAD_WORDS,
         book[limits::TAUGHT_WORD],
         0,
         limits::GREATEST_DEPTH,
-    )
-    else {
-        return Form::Refused(numbers::NOT_IN_FORM);
-    };
-    let Stretch::InOrder { end: lows, sum: _ } = pass(book, tops, book[limits::TOPS_WORD], 0, low)
-    else {
-        return Form::Refused(numbers::NOT_IN_FORM);
-    };
-    let Stretch::InOrder {
-        end: middles,
-        sum: _,
-    } = pass(book, lows, book[limits::LOWS_WORD], 0, low)
-    else {
-        return Form::Refused(numbers::NOT_IN_FORM);
-    };
-    let Stretch::InOrder { end: used, sum: _ } = pass(
-        book,
-        middles,
-        book[limits::MIDDLES_WORD],
-        middle,
-        middle,
     ) else {
+        return Form::Refused(numbers::NOT_IN_FORM);
+    };
+    let Stretch::InOrder(lows, _) = pass(book, tops, book[limits::TOPS_WORD], 0, low) else {
+        return Form::Refused(numbers::NOT_IN_FORM);
+    };
+    let Stretch::InOrder(middles, _) = pass(book, lows, book[limits::LOWS_WORD], 0, low) else {
+        return Form::Refused(numbers::NOT_IN_FORM);
+    };
+    let Stretch::InOrder(used, _) = pass(book, middles, book[limits::MIDDLES_WORD], middle, middle)
+    else {
         return Form::Refused(numbers::NOT_IN_FORM);
     };
     if !head_agrees(book, live, used) {
@@ -196,10 +190,7 @@ pub fn in_form(book: &[u16]) -> Form
 pub fn open(book: &mut [u16], k: u16) -> Answer
     ensures { λ r. ⌜ outcome r (now (book .exit)) ≡ openOf (now (book .entry)) k ⌝ }
 {
-    if book.len() < limits::HEAD_WORDS {
-        return answered(numbers::BOOK_SIZE);
-    }
-    if limits::MOST_BOOK_WORDS < book.len() {
+    if !is_book_size(book.len()) {
         return answered(numbers::BOOK_SIZE);
     }
     let Asked::Allowed(depth) = Depth::new(k) else {

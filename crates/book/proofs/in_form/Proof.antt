@@ -1,17 +1,23 @@
 -- `book::in_form` meets its contract: each test that led to a return decides the form, and each pass says where the next section starts.
 -- Assumes nothing.
-use Prim.Native.Nat.{ℕ}
+use Prim.Native.Nat.{ℕ, _≤_}
 use mathlib.Core.Path.{refl, sym, _∙_}
 use mathlib.Core.List.{List}
 use native.Mathlib.Omega.{arith}
 use borrow.Author.Tests.{not-true, not-false}
 use borrow.Author.Needs.{needs}
+use lib.ListN.{length}
+use Rattle.figures.specs.Limits.{head-words, most-book-words}
 use Rattle.figures.specs.declared.depths.Depth.{Depth}
 use Rattle.book.specs.declared.Section.the-variants.{Taught, Tops, Lows, Middles}
 use Rattle.book.proofs.Depths.{allowed, outside}
-use Rattle.book.proofs.Heads.{too-short, too-long, is-sized, Head, Ran, Sections, form-unsized, no-k, section-found, no-section, no-head, in-form-at}
+use Rattle.book.proofs.Heads.{sized-by, size-told, Head, Ran, Sections, form-unsized, no-k, section-found, no-section, no-head, in-form-at}
 use Rattle.book.proofs.in_form.Statement.{statement}
 use Rattle.book.proofs.in_form.Tie as tie
+
+-- The slice has the size of a book.
+size : (c : tie.Else1) → (head-words ≤ length (c .before .before .before .args .book .now)) × (length (c .before .before .before .args .book .now) ≤ most-book-words)
+size c = size-told _ (sym (c .before .is-book-size .ensures) ∙ not-false _ (c .if1 .left))
 
 -- The words, where k is known.
 abbrev words : tie.After-known-told → List ℕ
@@ -24,10 +30,11 @@ depth c = c .before .k .given .0 .0
 -- The size and k are right.
 head : (c : tie.After-known-told) → Head (words c) (depth c)
 head c =
+    let z = size (c .before .before .before .before .before) in
     let a = allowed _ _ (c .before .before .before .new .ensures) _ (c .before .k .given .1) in
     record {
-      long = c .before .before .before .before .before .before .if1 .left;
-      short = c .before .before .before .before .before .if2 .left;
+      long = z .0;
+      short = z .1;
       is = a .0;
       allows = a .1;
       few = omega (arith, c .before .before .before .before .before .before .before .shared-slice-known .given 2);
@@ -96,14 +103,14 @@ sections c =
       of-middles = at-end c;
     }
 
-returns : tie.Need-returns
-returns c = sym (form-unsized _ (too-short _ (c .if1 .taken)))
+is-book-size-requires : tie.Need-is-book-size-requires
+is-book-size-requires c κs = search needs
 
-returns-2 : tie.Need-returns-2
-returns-2 c = sym (form-unsized _ (too-long _ (c .if2 .taken)))
+returns : tie.Need-returns
+returns c = sym (form-unsized _ (sized-by _ _ (sym (c .before .is-book-size .ensures) ∙ not-true _ (c .if1 .taken))))
 
 shared-slice-read-new : tie.Need-shared-slice-read-new
-shared-slice-read-new c = search needs
+shared-slice-read-new c = omega (arith, size (c .before) .0)
 
 new-requires : tie.Need-new-requires
 new-requires c κs = search needs
@@ -114,8 +121,8 @@ enum-known-k c = search needs
 enum-told : tie.Need-enum-told
 enum-told c = search needs
 
-returns-3 : tie.Need-returns-3
-returns-3 c = sym (no-k _ (is-sized _ (c .before .before .before .before .before .if1 .left) (c .before .before .before .before .if2 .left)) (outside _ _ (c .before .before .new .ensures) (c .enum-told .given .1)))
+returns-2 : tie.Need-returns-2
+returns-2 c = sym (no-k _ (sized-by _ _ (sym (c .before .before .before .before .before .is-book-size .ensures) ∙ not-false _ (c .before .before .before .before .if1 .left))) (outside _ _ (c .before .before .new .ensures) (c .enum-told .given .1)))
 
 of-tops-requires : tie.Need-of-tops-requires
 of-tops-requires c κs = search needs
@@ -124,7 +131,7 @@ of-middles-requires : tie.Need-of-middles-requires
 of-middles-requires c κs = search needs
 
 shared-slice-read-pass : tie.Need-shared-slice-read-pass
-shared-slice-read-pass c = search needs
+shared-slice-read-pass c = omega (arith, head (c .before .before .before) .long)
 
 pass-requires : tie.Need-pass-requires
 pass-requires c κs = search needs
@@ -135,11 +142,11 @@ enum-known-tops c = search needs
 enum-told-2 : tie.Need-enum-told-2
 enum-told-2 c = search needs
 
-returns-4 : tie.Need-returns-4
-returns-4 c = sym (no-section _ _ (head (c .before .before .before .before .before .before)) Taught _ _ _ refl refl refl _ (c .before .before .pass .ensures) (c .enum-told2 .given .1))
+returns-3 : tie.Need-returns-3
+returns-3 c = sym (no-section _ _ (head (c .before .before .before .before .before .before)) Taught _ _ _ refl refl refl _ (c .before .before .pass .ensures) (c .enum-told2 .given .1))
 
 shared-slice-read-pass-2 : tie.Need-shared-slice-read-pass-2
-shared-slice-read-pass-2 c = search needs
+shared-slice-read-pass-2 c = omega (arith, head (to-k (c .before)) .long)
 
 pass-requires-2 : tie.Need-pass-requires-2
 pass-requires-2 c κs = search needs
@@ -150,13 +157,13 @@ enum-known-lows c = search needs
 enum-told-3 : tie.Need-enum-told-3
 enum-told-3 c = search needs
 
-returns-5 : tie.Need-returns-5
-returns-5 c =
+returns-4 : tie.Need-returns-4
+returns-4 c =
     let t = c .before .before .before .before in
     sym (no-section _ _ (head (to-k t)) Tops _ _ _ (at-tops t .next) refl (t .before .before .before .before .before .before .of-tops .ensures) _ (c .before .before .pass2 .ensures) (c .enum-told3 .given .1))
 
 shared-slice-read-pass-3 : tie.Need-shared-slice-read-pass-3
-shared-slice-read-pass-3 c = search needs
+shared-slice-read-pass-3 c = omega (arith, head (to-k (to-tops (c .before))) .long)
 
 pass-requires-3 : tie.Need-pass-requires-3
 pass-requires-3 c κs = search needs
@@ -167,14 +174,14 @@ enum-known-middles c = search needs
 enum-told-4 : tie.Need-enum-told-4
 enum-told-4 c = search needs
 
-returns-6 : tie.Need-returns-6
-returns-6 c =
+returns-5 : tie.Need-returns-5
+returns-5 c =
     let l = c .before .before .before .before in
     let t = to-tops l in
     sym (no-section _ _ (head (to-k t)) Lows _ _ _ (at-lows l .next) refl (t .before .before .before .before .before .before .of-tops .ensures) _ (c .before .before .pass3 .ensures) (c .enum-told4 .given .1))
 
 shared-slice-read-pass-4 : tie.Need-shared-slice-read-pass-4
-shared-slice-read-pass-4 c = search needs
+shared-slice-read-pass-4 c = omega (arith, head (to-k (to-tops (to-lows (c .before)))) .long)
 
 pass-requires-4 : tie.Need-pass-requires-4
 pass-requires-4 c κs = search needs
@@ -185,8 +192,8 @@ enum-known-used c = search needs
 enum-told-5 : tie.Need-enum-told-5
 enum-told-5 c = search needs
 
-returns-7 : tie.Need-returns-7
-returns-7 c =
+returns-6 : tie.Need-returns-6
+returns-6 c =
     let m = c .before .before .before .before in
     let t = to-tops (to-lows m) in
     sym (no-section _ _ (head (to-k t)) Middles _ _ _ (at-middles m .next) (t .before .before .before .before .before .of-middles .ensures) (t .before .before .before .before .before .of-middles .ensures) _ (c .before .before .pass4 .ensures) (c .enum-told5 .given .1))
@@ -194,49 +201,49 @@ returns-7 c =
 head-agrees-requires : tie.Need-head-agrees-requires
 head-agrees-requires c κs = head (to-k (to-tops (to-lows (to-middles c)))) .long
 
+returns-7 : tie.Need-returns-7
+returns-7 c =
+    let e = c .before .before in
+    sym (no-head _ _ (head (to-k (to-tops (to-lows (to-middles e))))) _ _ _ _ _ (sections e) (sym (c .before .head-agrees .ensures) ∙ not-true _ (c .if2 .taken)))
+
 returns-8 : tie.Need-returns-8
 returns-8 c =
     let e = c .before .before in
-    sym (no-head _ _ (head (to-k (to-tops (to-lows (to-middles e))))) _ _ _ _ _ (sections e) (sym (c .before .head-agrees .ensures) ∙ not-true _ (c .if3 .taken)))
-
-returns-9 : tie.Need-returns-9
-returns-9 c =
-    let e = c .before .before in
-    sym (in-form-at _ _ (head (to-k (to-tops (to-lows (to-middles e))))) _ _ _ _ _ (sections e) (sym (c .before .head-agrees .ensures) ∙ not-false _ (c .if3 .left)))
+    sym (in-form-at _ _ (head (to-k (to-tops (to-lows (to-middles e))))) _ _ _ _ _ (sections e) (sym (c .before .head-agrees .ensures) ∙ not-false _ (c .if2 .left)))
 
 pub in-form-spec : {M : Type 1} → statement M
 in-form-spec =
     tie.close
     (tie.spec
+    is-book-size-requires
     returns
-    returns-2
     shared-slice-read-new
     new-requires
     enum-known-k
     enum-told
-    returns-3
+    returns-2
     of-tops-requires
     of-middles-requires
     shared-slice-read-pass
     pass-requires
     enum-known-tops
     enum-told-2
-    returns-4
+    returns-3
     shared-slice-read-pass-2
     pass-requires-2
     enum-known-lows
     enum-told-3
-    returns-5
+    returns-4
     shared-slice-read-pass-3
     pass-requires-3
     enum-known-middles
     enum-told-4
-    returns-6
+    returns-5
     shared-slice-read-pass-4
     pass-requires-4
     enum-known-used
     enum-told-5
-    returns-7
+    returns-6
     head-agrees-requires
-    returns-8
-    returns-9)
+    returns-7
+    returns-8)

@@ -1,26 +1,36 @@
 -- `book::open` meets its contract: each test that led to a return decides a case of `openOf`, and the words written are those of the opened
 -- book. Assumes nothing.
-use mathlib.Core.Path.{sym, ap, _∙_}
+use mathlib.Core.Path.{_≡_, sym, ap, _∙_}
+use mathlib.Core.Bool.{true}
 use native.Mathlib.Omega.{arith}
 use borrow.Author.Needs.{needs}
+use borrow.Author.Tests.{not-true, not-false}
+use Prim.Native.Nat.{_≤_}
 use lib.ListN.{length, length-set, length-replicate}
+use Rattle.words.specs.Base.{within}
+use Rattle.figures.specs.Limits.{head-words, most-book-words}
 use Rattle.book.proofs.Depths.{allowed, outside}
-use Rattle.book.proofs.Heads.{too-short, too-long, is-sized}
+use Rattle.book.proofs.Heads.{sized-by, size-told}
 use Rattle.book.proofs.Openings.{no-room, no-depth, opens}
 use Rattle.book.proofs.open.Statement.{statement}
 use Rattle.book.proofs.open.Tie as tie
+
+-- The slice has the size of a book.
+right : (c : tie.Else1) → within head-words most-book-words (length (c .before .before .before .args .book .now)) ≡ true
+right c = sym (c .before .is-book-size .ensures) ∙ not-false _ (c .if1 .left)
+
+-- So it has the words of a head.
+long : (c : tie.Else1) → head-words ≤ length (c .before .before .before .args .book .now)
+long c = size-told (length (c .before .before .before .args .book .now)) (right c) .0
+
+is-book-size-requires : tie.Need-is-book-size-requires
+is-book-size-requires c κs = search needs
 
 answered-requires : tie.Need-answered-requires
 answered-requires c κs = search needs
 
 returns : tie.Need-returns
-returns c = let a = c .before .before .before .args in sym (no-room (a .book .now) (a .k) _ (c .answered .ensures) (too-short _ (c .before .if1 .taken)))
-
-answered-requires-2 : tie.Need-answered-requires-2
-answered-requires-2 c κs = search needs
-
-returns-2 : tie.Need-returns-2
-returns-2 c = let a = c .before .before .before .before .args in sym (no-room (a .book .now) (a .k) _ (c .answered2 .ensures) (too-long _ (c .before .if2 .taken)))
+returns c = let a = c .before .before .before .before .args in sym (no-room (a .book .now) (a .k) _ (c .answered .ensures) (sized-by _ _ (sym (c .before .before .is-book-size .ensures) ∙ not-true _ (c .before .if1 .taken))))
 
 new-requires : tie.Need-new-requires
 new-requires c κs = search needs
@@ -31,13 +41,13 @@ enum-known-depth c = search needs
 enum-told : tie.Need-enum-told
 enum-told c = search needs
 
-answered-requires-3 : tie.Need-answered-requires-3
-answered-requires-3 c κs = search needs
+answered-requires-2 : tie.Need-answered-requires-2
+answered-requires-2 c κs = search needs
 
-returns-3 : tie.Need-returns-3
-returns-3 c =
+returns-2 : tie.Need-returns-2
+returns-2 c =
     let a = c .before .before .before .before .before .before .before .args in
-    sym (no-depth (a .book .now) (a .k) _ (c .answered3 .ensures) (is-sized _ (c .before .before .before .before .before .if1 .left) (c .before .before .before .before .if2 .left)) (outside _ _ (c .before .before .before .new .ensures) (c .before .enum-told .given .1)))
+    sym (no-depth (a .book .now) (a .k) _ (c .answered2 .ensures) (sized-by _ _ (right (c .before .before .before .before))) (outside _ _ (c .before .before .before .new .ensures) (c .before .enum-told .given .1)))
 
 clear-requires : tie.Need-clear-requires
 clear-requires c κs = search needs
@@ -46,45 +56,45 @@ value-requires : tie.Need-value-requires
 value-requires c κs = search needs
 
 slice-write-book : tie.Need-slice-write-book
-slice-write-book c = search needs
+slice-write-book c = omega (arith, long (c .before .before .before .before .before .before .before .before .before), simp length-replicate at (ap length (c .before .before .before .clear .ensures)))
 
 cast-book : tie.Need-cast-book
 cast-book c = search needs
 
 slice-write-book-2 : tie.Need-slice-write-book-2
-slice-write-book-2 c = omega (arith, length-set (c .before .before .before .clear .last .0) 0 (c .value .result), simp length-replicate at (ap length (c .before .before .before .clear .ensures)))
+slice-write-book-2 c =
+    omega (arith, long (c .before .before .before .before .before .before .before .before .before), length-set (c .before .before .before .clear .last .0) 0 (c .value .result), simp length-replicate at (ap length (c .before .before .before .clear .ensures)))
 
-answered-requires-4 : tie.Need-answered-requires-4
-answered-requires-4 c κs = search needs
+answered-requires-3 : tie.Need-answered-requires-3
+answered-requires-3 c κs = search needs
 
 same-length : tie.Need-same-length
 same-length c = search needs
 
-returns-4 : tie.Need-returns-4
-returns-4 c =
+returns-3 : tie.Need-returns-3
+returns-3 c =
     let a = c .before .before .before .before .before .before .before .before .before .before .before .before .before .args in
     let d = allowed _ _ (c .before .before .before .before .before .before .before .before .before .new .ensures) _ (c .before .before .before .before .before .before .before .depth .given .1) in
-    let l = c .before .before .before .before .before .before .before .before .before .before .before .if1 .left in
-    sym (opens (a .book .now) (a .k) _ (c .answered4 .ensures) (is-sized _ l (c .before .before .before .before .before .before .before .before .before .before .if2 .left)) (d .1) l _ _ (c .before .before .before .before .clear .ensures) (c .before .value .ensures ∙ d .0))
+    let r = c .before .before .before .before .before .before .before .before .before .before in
+    sym (opens (a .book .now) (a .k) _ (c .answered3 .ensures) (sized-by _ _ (right r)) (d .1) (long r) _ _ (c .before .before .before .before .clear .ensures) (c .before .value .ensures ∙ d .0))
 
 pub open-spec : {M : Type 1} → statement M
 open-spec =
     tie.close
     (tie.spec
+    is-book-size-requires
     answered-requires
     returns
-    answered-requires-2
-    returns-2
     new-requires
     enum-known-depth
     enum-told
-    answered-requires-3
-    returns-3
+    answered-requires-2
+    returns-2
     clear-requires
     value-requires
     slice-write-book
     cast-book
     slice-write-book-2
-    answered-requires-4
+    answered-requires-3
     same-length
-    returns-4)
+    returns-3)
