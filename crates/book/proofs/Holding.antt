@@ -1,22 +1,18 @@
 -- What a caller of `in_form` has where the words are a book in form, and what a call does where they are one and where they are not.
 -- Assumes nothing.
-use Prim.Native.Nat.{ℕ, _+_, _≤_}
+use Prim.Native.Nat.{ℕ, _≤_}
 use mathlib.Core.Path.{_≡_, refl, sym, ap, _∙_}
 use mathlib.Core.Bool.{Bool, true, false}
 use mathlib.Core.List.{List, [], _∷_, List·Memᴰ·head as here, List·Memᴰ·tail as there, List·Memᴰ·not-nil}
-use mathlib.Core.Option.{some}
 use native.Mathlib.Omega.{arith}
 use borrow.Author.Tests.{leb-true}
-use lib.ListN.{length, getD, drop}
 use Rattle.words.specs.Base.{if_then_else_, _∈_}
-use Rattle.words.specs.Compare.{_≺_, before}
 use Rattle.words.proofs.Ordered.{before-lower, lower-before}
-use Rattle.words.proofs.Tests.{no-test, and-left, and-right, and-both}
-use Rattle.figures.specs.Limits.{head-words, most-book-words, least-k, greatest-k}
-use Rattle.section.specs.Entries.{Entry, entries, span, Below, Sorted}
-use Rattle.book.specs.Book.{Book, sectionOf, shallowest, deepest, lay, inForm, entryInForm, ascendingFrom, sectionInForm}
-use Rattle.book.specs.Decoding.{lowsAt, middlesAt, endAt, bookIn, formed, decode, sized, onBook, startOf, slotOf, formOf}
-use Rattle.book.specs.Holding.{Holding, Holds}
+use Rattle.words.proofs.Tests.{and-left, and-right, and-both}
+use Rattle.section.specs.Entries.{Entry, Below, Sorted}
+use Rattle.book.specs.Book.{Book, sectionOf, shallowest, deepest, entryInForm, ascendingFrom, sectionInForm}
+use Rattle.book.specs.Decoding.{lowsAt, middlesAt, endAt, bookIn, formed, decode, sized, onBook, formOf}
+use Rattle.book.specs.Holding.{Holds}
 use Rattle.book.specs.declared.Section.{Section}
 use Rattle.book.specs.declared.Section.the-variants.{Taught, Tops, Lows, Middles}
 use Rattle.book.specs.declared.Places.{Places}

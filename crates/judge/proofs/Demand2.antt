@@ -7,16 +7,14 @@ use native.Mathlib.Omega.{arith}
 use Rattle.figures.specs.Numbers.{done, book-size, not-in-form}
 use Rattle.figures.specs.Answers.{answered}
 use Rattle.figures.specs.declared.Answer.{Answer}
-use Rattle.order.specs.Trees.{Tree, words}
-use Rattle.order.specs.Reading.{Order, order, byOrder, orderOf, causeOf}
-use Rattle.order.specs.Causes.{Cause}
+use Rattle.order.specs.Trees.{Tree}
+use Rattle.order.specs.Reading.{order, byOrder, orderOf, causeOf}
 use Rattle.order.proofs.Orders.{tree-passes}
 use Rattle.order.proofs.Causes.{cause-only, cause-is, Passed, Seen, stopped, passed, seen, refused-by}
 use Rattle.book.specs.Book.{Book}
-use Rattle.book.specs.Decoding.{placesOf, formOf}
+use Rattle.book.specs.Decoding.{formOf}
 use Rattle.book.specs.Sound.{IsBook, Why, shorter, longer, formless, book}
-use Rattle.book.specs.declared.Form.{Form}
-use Rattle.book.specs.declared.Form.the-variants.{Refused, InForm}
+use Rattle.book.specs.declared.Form.the-variants.{Refused}
 use Rattle.book.proofs.Sound.{on-any, why-is, why-only}
 use Rattle.judge.specs.Judging.{verdict, judgeOf}
 use Rattle.judge.specs.Verdicts.{IsOrder, Passes, PassesBy, Verdict, passing, no-top, no-low, no-middle, Judged, no-book, no-order, judged}

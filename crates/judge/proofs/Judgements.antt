@@ -1,6 +1,6 @@
 -- What is answered for a book in form, by the tests that the code makes in turn. Assumes nothing.
-use Prim.Native.Nat.{ℕ, zero, suc, _+_, _*_, _/_, _<_, _≤_}
-use mathlib.Core.Path.{_≡_, refl, ap, sym, _∙_}
+use Prim.Native.Nat.{ℕ, zero, suc, _+_, _*_, _/_, _≤_}
+use mathlib.Core.Path.{_≡_, refl, ap, _∙_}
 use mathlib.Core.Bool.{Bool, true, false}
 use mathlib.Core.List.{List, [], _∷_}
 use native.Mathlib.Numerals.{add-one}
@@ -18,7 +18,7 @@ use Rattle.order.specs.Answers.{checkOf}
 use Rattle.order.specs.declared.PartAt.{PartAt}
 use Rattle.order.specs.declared.PartAt.the-variants.{NoPart, LowTo, MiddleTo}
 use Rattle.order.proofs.Causes.{Passed, has-tree, refused-by}
-use Rattle.order.proofs.Lines.{Spot, line-spot, tree-next}
+use Rattle.order.proofs.Lines.{line-spot, tree-next}
 use Rattle.book.specs.Book.{Book}
 use Rattle.book.specs.Decoding.{bookIn, byBook, onBook, formOf}
 use Rattle.book.specs.Holding.{Holds}

@@ -6,7 +6,6 @@ use native.Mathlib.Numerals.{sub-one}
 use native.Mathlib.Omega.{arith}
 use Rattle.figures.specs.Numbers.{done}
 use Rattle.figures.specs.Answers.{answered}
-use Rattle.figures.specs.declared.Answer.{Answer}
 use Rattle.order.specs.Walks.{partAtOf}
 use Rattle.order.specs.declared.PartAt.{PartAt}
 use Rattle.judge.specs.Seeking.{unknownNumber, lineAnswer}

@@ -1,24 +1,24 @@
 -- The lines one after the other: what is still to be judged from a line on, and what each line adds to it. Assumes nothing.
-use Prim.Native.Nat.{ℕ, zero, suc, _+_, _-_, _*_, _/_, _<_, _≤_}
+use Prim.Native.Nat.{ℕ, suc, _+_, _*_, _/_, _<_, _≤_}
 use mathlib.Core.Path.{_≡_, refl, ap, sym, _∙_}
 use mathlib.Core.Bool.{Bool, true, false}
-use mathlib.Core.List.{List, [], _∷_}
+use mathlib.Core.List.{List, _∷_}
 use native.Mathlib.Numerals.{add-one}
 use native.Mathlib.Omega.{arith}
-use lib.ListN.{length, take, drop, drop-of-length-le}
+use lib.ListN.{length, drop, drop-of-length-le}
 use Rattle.words.specs.Base.{if_then_else_}
 use Rattle.figures.specs.Numbers.{done}
 use Rattle.section.specs.Entries.{entries, has}
 use Rattle.order.specs.Trees.{Tree, words, subtrees}
-use Rattle.order.specs.Reading.{Found, found, byOrder, orderOf, causeOf}
-use Rattle.order.specs.Parts.{isLow, middle, partOf}
-use Rattle.order.proofs.Causes.{Passed, HasTree, has-tree}
-use Rattle.order.proofs.Lines.{Spot, from-spot, tree-next}
+use Rattle.order.specs.Reading.{found, byOrder, orderOf, causeOf}
+use Rattle.order.specs.Parts.{isLow, partOf}
+use Rattle.order.proofs.Causes.{Passed, has-tree}
+use Rattle.order.proofs.Lines.{from-spot, tree-next}
 use Rattle.book.specs.Book.{Book}
 use Rattle.judge.specs.Judging.{knows, unknownLine}
 use Rattle.judge.specs.Seeking.{lineUnknown, lookedUpIn, keyOf, Seeks}
 use Rattle.judge.specs.declared.Sought.{Sought}
-use Rattle.judge.proofs.Spots.{LineAt, line-at, two-words-a-line}
+use Rattle.judge.proofs.Spots.{line-at, two-words-a-line}
 
 -- The first unknown line of an order from a line on, counted from 0; 0 where there is none.
 unfoldable pub unknownFrom : Book → List ℕ → ℕ → ℕ

@@ -1,14 +1,13 @@
 -- What the code seeks for a line is the part of its subtree, in the words of its section. Assumes nothing.
-use Prim.Native.Nat.{ℕ, _+_, _-_, _*_, _≤_}
-use mathlib.Core.Path.{_≡_, refl, ap, sym, _∙_}
+use Prim.Native.Nat.{ℕ, _-_, _*_}
+use mathlib.Core.Path.{_≡_, ap, sym, _∙_}
 use mathlib.Core.Bool.{true, false}
-use mathlib.Core.List.{List, _++_}
+use mathlib.Core.List.{List}
 use native.Mathlib.Nat.{sub-zero}
 use native.Mathlib.Omega.{arith}
-use lib.ListN.{length, getD, take, drop, length-append, length-drop}
+use lib.ListN.{length, getD, length-append}
 use lib.Seq.{take-append-seam}
 use Rattle.words.specs.Base.{if_then_else_, over}
-use Rattle.figures.specs.Limits.{most-words}
 use Rattle.order.specs.Trees.{Tree, words}
 use Rattle.order.specs.Parts.{isLow, middle, partOf}
 use Rattle.order.specs.Walks.{cutOf, partAtOf}
@@ -19,7 +18,7 @@ use Rattle.book.specs.Book.{sectionOf}
 use Rattle.book.specs.Decoding.{bookIn}
 use Rattle.book.specs.declared.Places.{Places}
 use Rattle.book.specs.declared.Section.the-variants.{Lows, Middles}
-use Rattle.book.specs.Holding.{Holding, Holds}
+use Rattle.book.specs.Holding.{Holds}
 use Rattle.judge.specs.Seeking.{Seeks}
 use Rattle.judge.proofs.Spots.{LineAt, short-order, part-told, spot-within, spot-words}
 

@@ -1,6 +1,6 @@
 -- Where the words of a part are: those of a low part in the order, those of a middle part in its cut. Assumes nothing.
 use Prim.Native.Nat.{ℕ}
-use mathlib.Core.Path.{_≡_, refl, ap}
+use mathlib.Core.Path.{_≡_, ap}
 use mathlib.Core.Bool.{Bool, true, false}
 use mathlib.Core.List.{List}
 use Rattle.judge.specs.Seeking.{spelledIn}

@@ -2,24 +2,23 @@
 use Prim.Native.Nat.{ℕ, _+_, _-_, _*_, _/_, _≤_, _<_}
 use mathlib.Core.Path.{_≡_, refl, ap, sym, subst, _∙_}
 use mathlib.Core.Bool.{Bool, true, false}
-use mathlib.Core.List.{List, _++_}
+use mathlib.Core.List.{List}
 use native.Mathlib.Omega.{arith}
-use borrow.Author.Tests.{leb-true}
 use lib.Dec.{leb}
 use lib.ListN.{length, take, drop, length-append, length-drop}
 use lib.Seq.{take-append-seam}
-use Rattle.words.specs.Base.{if_then_else_, over}
+use Rattle.words.specs.Base.{if_then_else_}
 use Rattle.figures.specs.Limits.{most-words}
 use Rattle.figures.specs.Numbers.{done}
 use Rattle.order.specs.Trees.{Tree, words, depth, cut, subtrees}
 use Rattle.order.specs.Reading.{Found, causeOf}
-use Rattle.order.specs.Parts.{isLow, middle, partOf}
-use Rattle.order.specs.Walks.{Room, walkOf, cutOf, partWalked, partAtOf}
+use Rattle.order.specs.Parts.{isLow, middle}
+use Rattle.order.specs.Walks.{Room, walkOf, partWalked, partAtOf}
 use Rattle.order.specs.Answers.{treeAt}
 use Rattle.order.specs.declared.PartAt.{PartAt}
 use Rattle.order.specs.declared.PartAt.the-variants.{NoPart, LowTo, MiddleTo}
 use Rattle.order.proofs.Orders.{size}
-use Rattle.order.proofs.Causes.{Passed, HasTree, has-tree}
+use Rattle.order.proofs.Causes.{Passed, has-tree}
 use Rattle.order.proofs.Cutting.{cut-nodes}
 use Rattle.order.proofs.Lines.{Spot, line-spot, walk-spot}
 use Rattle.order.proofs.PartsAt.{part-short}

@@ -5,7 +5,7 @@ use mathlib.Core.Bool.{true, false}
 use mathlib.Core.List.{List, [], append-nil}
 use native.Mathlib.Nat.{sub-zero}
 use native.Mathlib.Omega.{arith}
-use lib.ListN.{length, getD, take, drop, length-append}
+use lib.ListN.{length, getD, take, drop}
 use lib.Seq.{take-append-seam}
 use Rattle.words.specs.Base.{over}
 use Rattle.figures.specs.Limits.{most-words}
@@ -13,7 +13,7 @@ use Rattle.section.specs.Entries.{entries, look, has}
 use Rattle.section.specs.declared.Found.{Found}
 use Rattle.section.specs.declared.Found.the-variants.{At, Absent}
 use Rattle.section.proofs.Searches.{look-has, look-lacks}
-use Rattle.order.specs.Trees.{Tree, words, subtrees}
+use Rattle.order.specs.Trees.{Tree, words}
 use Rattle.order.specs.Reading.{byOrder, found}
 use Rattle.order.specs.Parts.{top}
 use Rattle.order.specs.Walks.{Room, walkOf, cutOf, cutLength, laidOf}
@@ -22,7 +22,7 @@ use Rattle.order.proofs.Causes.{Passed}
 use Rattle.order.proofs.Lines.{Spot, walk-spot, cut-spot}
 use Rattle.book.specs.Book.{sectionOf}
 use Rattle.book.specs.Decoding.{bookIn}
-use Rattle.book.specs.Holding.{Holding, Holds}
+use Rattle.book.specs.Holding.{Holds}
 use Rattle.book.specs.declared.Places.{Places}
 use Rattle.book.specs.declared.Section.the-variants.{Tops}
 use Rattle.judge.specs.Seeking.{topKnown}

@@ -5,9 +5,8 @@ use mathlib.Core.Path.{_≡_, refl, ap, sym, subst, _∙_}
 use mathlib.Core.Bool.{Bool, true, false}
 use mathlib.Core.List.{List, [], _∷_}
 use native.Mathlib.Decide.{decLt}
-use native.Mathlib.Numerals.{add-one}
 use native.Mathlib.Omega.{arith}
-use borrow.Author.Tests.{le-leb, lt-leb, leb-true, leb-false}
+use borrow.Author.Tests.{leb-true, leb-false}
 use lib.Dec.{leb}
 use Rattle.words.specs.Base.{if_then_else_}
 use Rattle.words.proofs.Tests.{no-test}
@@ -18,13 +17,13 @@ use Rattle.figures.specs.declared.Answer.{Answer}
 use Rattle.section.specs.Entries.{Entry, has}
 use Rattle.section.proofs.Counts.{has-entry, entry-has}
 use Rattle.order.specs.Trees.{Tree, words, depth, subtrees}
-use Rattle.order.specs.Reading.{Found, missing, found}
+use Rattle.order.specs.Reading.{found}
 use Rattle.order.specs.Parts.{top, isLow, middle}
 use Rattle.order.specs.Answers.{treeAt, lineOf}
 use Rattle.order.specs.Paper.{IsR, IsL, IsP}
 use Rattle.order.proofs.Reading.{not-found}
 use Rattle.order.proofs.Paper.{subtree-from, subtree-to, subtree-depth, cut-is-r, r-only, top-is-r}
-use Rattle.order.proofs.LineParts.{OnLine, line-in, in-line}
+use Rattle.order.proofs.LineParts.{line-in, in-line}
 use Rattle.book.specs.Book.{Book}
 use Rattle.judge.specs.Judging.{knows, firstUnknown, verdict}
 use Rattle.judge.specs.Verdicts.{In, Passes, Known, Reached, Verdict, passing, no-top, no-low, no-middle}

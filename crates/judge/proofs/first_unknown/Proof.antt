@@ -4,7 +4,7 @@ use mathlib.Core.Path.{_≡_, refl, sym, _∙_}
 use mathlib.Core.List.{List}
 use native.Mathlib.Omega.{arith}
 use borrow.Author.Needs.{needs}
-use lib.ListN.{length, getD, take, drop}
+use lib.ListN.{length, getD, drop}
 use Rattle.figures.specs.Limits.{most-words}
 use Rattle.section.specs.Entries.{entries, span, has, Sorted}
 use Rattle.section.proofs.Words.{span-at}

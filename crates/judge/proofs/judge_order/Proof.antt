@@ -1,13 +1,11 @@
 -- `judge::judge_order` meets its contract, by the tests that it makes in turn. Assumes nothing.
-use Prim.Native.Nat.{ℕ}
 use mathlib.Core.Path.{_≡_, ap, sym, _∙_}
-use mathlib.Core.List.{List}
 use native.Mathlib.Omega.{arith}
 use borrow.Author.Needs.{needs}
 use borrow.Author.Tests.{not-true, not-false}
 use Rattle.figures.specs.Numbers.{done}
 use Rattle.order.specs.Reading.{causeOf}
-use Rattle.order.proofs.Causes.{HasTree, has-tree}
+use Rattle.order.proofs.Causes.{has-tree}
 use Rattle.book.specs.Decoding.{bookIn}
 use Rattle.judge.specs.Seeking.{lineAnswer}
 use Rattle.judge.proofs.Judgements.{cause-told, line-within, judge-refused, judge-top, judge-lines}

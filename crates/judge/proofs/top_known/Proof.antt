@@ -1,9 +1,9 @@
 -- `judge::top_known` meets its contract: the words sought in R are those of the order's top. Assumes nothing.
-use Prim.Native.Nat.{ℕ, _-_, _≤_}
+use Prim.Native.Nat.{_-_}
 use mathlib.Core.Path.{_≡_, refl}
 use native.Mathlib.Omega.{arith}
 use borrow.Author.Needs.{needs}
-use lib.ListN.{length, take, drop}
+use lib.ListN.{take, drop}
 use Rattle.order.specs.Trees.{words}
 use Rattle.order.specs.Parts.{top}
 use Rattle.order.proofs.Causes.{HasTree, has-tree}

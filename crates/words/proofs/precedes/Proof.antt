@@ -1,40 +1,30 @@
 -- `words::precedes` meets its contract, by the answer of `compare`. Assumes nothing.
-use mathlib.Core.Path.{_≡_, sym, ap, _∙_}
+use mathlib.Core.Path.{sym, ap, _∙_}
 use Rattle.words.specs.Compare.{isLower, before}
 use borrow.Author.Needs.{needs}
 use Rattle.words.proofs.precedes.Statement.{statement}
 use Rattle.words.proofs.precedes.Tie as tie
-use Rattle.words.proofs.precedes.Reads as reads
-use Rattle.words.proofs.precedes.Lts as lts
-use Rattle.words.proofs.compare.Reads as compare-reads
 
--- src/lib.rt:45:11
 compare-requires : tie.Need-compare-requires
 compare-requires c κs = search needs
 
--- src/lib.rt:46:28
 enum-told : tie.Need-enum-told
 enum-told c = search needs
 
--- src/lib.rt:47:28
 enum-told-2 : tie.Need-enum-told-2
 enum-told-2 c = search needs
 
--- src/lib.rt:48:29
 enum-told-3 : tie.Need-enum-told-3
 enum-told-3 c = search needs
 
--- src/lib.rt:42:1
 returns : tie.Need-returns
 unfolding before
 returns c = sym (ap isLower (sym (c .before .before .compare .ensures) ∙ c .enum-told .given .1))
 
--- src/lib.rt:42:1
 returns-2 : tie.Need-returns-2
 unfolding before
 returns-2 c = sym (ap isLower (sym (c .before .before .compare .ensures) ∙ c .enum-told2 .given .1))
 
--- src/lib.rt:42:1
 returns-3 : tie.Need-returns-3
 unfolding before
 returns-3 c = sym (ap isLower (sym (c .before .before .compare .ensures) ∙ c .enum-told3 .given .1))
