@@ -62,8 +62,7 @@ cast-book : tie.Need-cast-book
 cast-book c = search needs
 
 slice-write-book-2 : tie.Need-slice-write-book-2
-slice-write-book-2 c =
-    omega (arith, long (c .before .before .before .before .before .before .before .before .before), length-set (c .before .before .before .clear .last .0) 0 (c .value .result), simp length-replicate at (ap length (c .before .before .before .clear .ensures)))
+slice-write-book-2 c = simp length-set (omega (arith, long (c .before .before .before .before .before .before .before .before .before), simp length-replicate at (ap length (c .before .before .before .clear .ensures))))
 
 answered-requires-3 : tie.Need-answered-requires-3
 answered-requires-3 c κs = search needs
