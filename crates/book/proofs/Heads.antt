@@ -14,14 +14,14 @@ use Rattle.figures.specs.Numbers.{book-size, not-in-form}
 use Rattle.figures.specs.declared.depths.Depth.{Depth}
 use Rattle.section.specs.Entries.{entries, span, total}
 use Rattle.book.specs.Book.{Book, sectionOf, shallowest, deepest}
-use Rattle.book.specs.Decoding.{topsAt, lowsAt, middlesAt, endAt, bookIn, formed, decode, byBook, sized, onBook, placesOf, startOf, slotOf, formOf}
+use Rattle.book.specs.Decoding.{topsAt, lowsAt, middlesAt, endAt, bookIn, formed, decode, byBook, sized, onBook, placesOf, startOf, slotOf, bookFormOf}
 use Rattle.book.specs.Passes.{stretch, stretchOf, headOf}
 use Rattle.book.specs.declared.Section.{Section}
 use Rattle.book.specs.declared.Section.the-variants.{Taught, Tops, Lows, Middles}
 use Rattle.book.specs.declared.Stretch.{Stretch}
 use Rattle.book.specs.declared.Stretch.the-variants.{InOrder, Broken}
 use Rattle.book.specs.declared.Places.{Places}
-use Rattle.book.specs.declared.Form.the-variants.{Refused, InForm}
+use Rattle.book.specs.declared.BookForm.the-variants.{Refused, InForm}
 use Rattle.book.proofs.Passing.{each-all, one-fails, placesIn, runOf, passes, section-in}
 use Rattle.book.proofs.Meaning.{formed-passes, formed-passed, is-places}
 
@@ -81,31 +81,31 @@ module _ {A : Type 0} (r : ℕ → A) (ws : List ℕ) (f : Book → A) where
 -- What a look at the form gives, by the size and by whether the words are a book in form.
 module _ (ws : List ℕ) where
   -- A slice of no size for a book is refused by 4.
-  pub form-unsized : sized ws ≡ false → formOf ws ≡ Refused book-size
-  unfolding formOf
+  pub form-unsized : sized ws ≡ false → bookFormOf ws ≡ Refused book-size
+  unfolding bookFormOf
   form-unsized z = on-unsized Refused ws (λ b. InForm (placesOf b)) z
 
   -- Words that are no book in form are refused by 5.
-  pub form-unformed : sized ws ≡ true → formed ws ≡ false → formOf ws ≡ Refused not-in-form
-  unfolding formOf
+  pub form-unformed : sized ws ≡ true → formed ws ≡ false → bookFormOf ws ≡ Refused not-in-form
+  unfolding bookFormOf
   form-unformed z f = on-unformed Refused ws (λ b. InForm (placesOf b)) z f
 
   -- Of any others the places are given.
-  pub form-formed : sized ws ≡ true → formed ws ≡ true → formOf ws ≡ InForm (placesOf (bookIn ws))
-  unfolding formOf
+  pub form-formed : sized ws ≡ true → formed ws ≡ true → bookFormOf ws ≡ InForm (placesOf (bookIn ws))
+  unfolding bookFormOf
   form-formed z f = on-formed Refused ws (λ b. InForm (placesOf b)) z f
 
 -- ---- what is found of a section
 
 -- Where a section ends.
-abbrev pub endOf : Section → List ℕ → ℕ
-endOf Taught ws = topsAt ws
-endOf Tops ws = lowsAt ws
-endOf Lows ws = middlesAt ws
-endOf Middles ws = endAt ws
+abbrev pub section-end : Section → List ℕ → ℕ
+section-end Taught ws = topsAt ws
+section-end Tops ws = lowsAt ws
+section-end Lows ws = middlesAt ws
+section-end Middles ws = endAt ws
 
 -- It ends past its entries.
-pub end-of : (s : Section) (ws : List ℕ) → startOf s (placesIn ws) + span (getD ws (slotOf s) 0) (drop (startOf s (placesIn ws)) ws) ≡ endOf s ws
+pub end-of : (s : Section) (ws : List ℕ) → startOf s (placesIn ws) + span (getD ws (slotOf s) 0) (drop (startOf s (placesIn ws)) ws) ≡ section-end s ws
 unfolding topsAt lowsAt middlesAt endAt
 end-of Taught ws = refl
 end-of Tops ws = refl
@@ -115,7 +115,7 @@ end-of Middles ws = refl
 -- A section in order, the word past it and the sum of its counts.
 pub record Ran (ws : List ℕ) (s : Section) (end sum : ℕ) : Type 0 where
   pub runs : runOf ws s ≡ true
-  pub next : end ≡ endOf s ws
+  pub next : end ≡ section-end s ws
   pub sums : sum ≡ total (sectionOf s (bookIn ws))
 
 module _ (ws : List ℕ) (s : Section) where
@@ -147,11 +147,11 @@ pub record Head (ws : List ℕ) (d : Depth) : Type 0 where
   pub few : getD ws 2 0 ≤ greatest-count
 
 -- Words that do not pass are refused by 5.
-not-passed : (ws : List ℕ) → sized ws ≡ true → passes ws ≡ false → formOf ws ≡ Refused not-in-form
+not-passed : (ws : List ℕ) → sized ws ≡ true → passes ws ≡ false → bookFormOf ws ≡ Refused not-in-form
 not-passed ws z e = form-unformed ws z (formed-passes ws ∙ e)
 
 -- Words with no k are refused by 5.
-pub no-k : (ws : List ℕ) → sized ws ≡ true → within least-k greatest-k (getD ws 0 0) ≡ false → formOf ws ≡ Refused not-in-form
+pub no-k : (ws : List ℕ) → sized ws ≡ true → within least-k greatest-k (getD ws 0 0) ≡ false → bookFormOf ws ≡ Refused not-in-form
 unfolding passes
 no-k ws z e = not-passed ws z (fails-right _ _ (fails-left _ _ e))
 
@@ -170,7 +170,7 @@ module _ (ws : List ℕ) (d : Depth) (h : Head ws d) (s : Section) (from least g
   section-found end sum e = rw e at pass-tells
 
   -- Words with a section that is broken are refused by 5.
-  pub no-section : w ≡ Broken → formOf ws ≡ Refused not-in-form
+  pub no-section : w ≡ Broken → bookFormOf ws ≡ Refused not-in-form
   unfolding passes
   no-section e =
       let f : runOf ws s ≡ false = rw e at pass-tells in
@@ -193,7 +193,7 @@ module _ (ws : List ℕ) (d : Depth) (h : Head ws d) (live tops lows middles use
   asked = rw (f .of-taught .sums, f .of-middles .next)
 
   -- Words whose head does not agree are refused by 5.
-  pub no-head : headOf ws live used ≡ false → formOf ws ≡ Refused not-in-form
+  pub no-head : headOf ws live used ≡ false → bookFormOf ws ≡ Refused not-in-form
   unfolding passes
   no-head e =
       not-passed ws (is-sized ws (h .long) (h .short)) (fails-right _ _ (fails-right _ _ (fails-right _ _ (fails-right _ _ (sym asked ∙ e)))))
@@ -222,7 +222,7 @@ module _ (ws : List ℕ) (d : Depth) (h : Head ws d) (live tops lows middles use
       same p q r s t = cc
 
   -- They are a book in form with these places.
-  pub in-form-at : headOf ws live used ≡ true → formOf ws ≡ InForm (record { k = d; tops = tops; lows = lows; middles = middles; used = used })
+  pub in-form-at : headOf ws live used ≡ true → bookFormOf ws ≡ InForm (record { k = d; tops = tops; lows = lows; middles = middles; used = used })
   in-form-at e =
       let t : formed ws ≡ true = formed-passes ws ∙ all-pass e in
       form-formed ws (is-sized ws (h .long) (h .short)) t ∙ ap InForm (is-places ws (formed-passed ws t) ∙ places)

@@ -11,15 +11,15 @@ use Rattle.words.proofs.Ordered.{before-lower, lower-before}
 use Rattle.words.proofs.Tests.{and-left, and-right, and-both}
 use Rattle.section.specs.Entries.{Entry, Below, Sorted}
 use Rattle.book.specs.Book.{Book, sectionOf, shallowest, deepest, entryInForm, ascendingFrom, sectionInForm}
-use Rattle.book.specs.Decoding.{lowsAt, middlesAt, endAt, bookIn, formed, decode, sized, onBook, formOf}
+use Rattle.book.specs.Decoding.{lowsAt, middlesAt, endAt, bookIn, formed, decode, sized, onBook, bookFormOf}
 use Rattle.book.specs.Holding.{Holds}
 use Rattle.book.specs.declared.Section.{Section}
 use Rattle.book.specs.declared.Section.the-variants.{Taught, Tops, Lows, Middles}
 use Rattle.book.specs.declared.Places.{Places}
-use Rattle.book.specs.declared.Form.the-variants.{Refused, InForm}
+use Rattle.book.specs.declared.BookForm.the-variants.{Refused, InForm}
 use Rattle.book.proofs.Passing.{placesIn, section-in}
 use Rattle.book.proofs.Meaning.{form-proper, formed-passed, is-places, is-used, is-laid, is-formed, used-fits}
-use Rattle.book.proofs.Heads.{on-unsized, on-unformed, on-formed, form-unsized, form-unformed, form-formed, endOf, end-of}
+use Rattle.book.proofs.Heads.{on-unsized, on-unformed, on-formed, form-unsized, form-unformed, form-formed, section-end, end-of}
 
 -- ---- ascending entries
 
@@ -60,7 +60,7 @@ section-sorted s b e = ascending-sorted [] (shallowest s (b .k)) (deepest s (b .
 -- ---- where the words are a book in form
 
 -- No section ends past the words used.
-ends-by : (s : Section) (ws : List ℕ) → endOf s ws ≤ endAt ws
+ends-by : (s : Section) (ws : List ℕ) → section-end s ws ≤ endAt ws
 unfolding endAt middlesAt lowsAt
 ends-by Taught ws = omega arith
 ends-by Tops ws = omega arith
@@ -99,7 +99,7 @@ not-refused e = absurd (let z : _≡_ {A = ℕ} 0 1 = cc in omega arith)
 
 module _ (ws : List ℕ) where
   -- Words that are told to be in form have the size and are.
-  told-both : (p : Places) → formOf ws ≡ InForm p → (sized ws ≡ true) × (formed ws ≡ true)
+  told-both : (p : Places) → bookFormOf ws ≡ InForm p → (sized ws ≡ true) × (formed ws ≡ true)
   told-both p e = go (sized ws) refl (formed ws) refl
     where
       go : (a : Bool) → sized ws ≡ a → (b : Bool) → formed ws ≡ b → (sized ws ≡ true) × (formed ws ≡ true)
@@ -108,19 +108,19 @@ module _ (ws : List ℕ) where
       go false z b f = not-refused (sym (form-unsized ws z) ∙ e)
 
   -- What a caller of `in_form` has where the words are a book in form.
-  pub holds : (p : Places) → formOf ws ≡ InForm p → Holds ws p
+  pub holds : (p : Places) → bookFormOf ws ≡ InForm p → Holds ws p
   holds p e =
       let t = told-both p e in
       let q : placesIn ws ≡ p = sym (is-places ws (formed-passed ws (t .1))) ∙ told-places (sym (form-formed ws (t .0) (t .1)) ∙ e) in
       rw (← q) (holding ws (t .0) (t .1))
 
   -- Where the words are a book in form a call goes by the book.
-  pub on-book : (p : Places) → formOf ws ≡ InForm p → {A : Type 0} (r : ℕ → A) (f : Book → A) → onBook r ws f ≡ f (bookIn ws)
+  pub on-book : (p : Places) → bookFormOf ws ≡ InForm p → {A : Type 0} (r : ℕ → A) (f : Book → A) → onBook r ws f ≡ f (bookIn ws)
   on-book p e r f = let t = told-both p e in on-formed r ws f (t .0) (t .1)
 
   -- Where they are refused it refuses by the same number.
-  pub refused-by : (n : ℕ) → formOf ws ≡ Refused n → {A : Type 0} (r : ℕ → A) (f : Book → A) → onBook r ws f ≡ r n
-  refused-by n e r f = go (sized ws) refl (formed ws) refl
+  pub refused-book : (n : ℕ) → bookFormOf ws ≡ Refused n → {A : Type 0} (r : ℕ → A) (f : Book → A) → onBook r ws f ≡ r n
+  refused-book n e r f = go (sized ws) refl (formed ws) refl
     where
       number : {m : ℕ} → Refused m ≡ Refused n → m ≡ n
       number q = cc

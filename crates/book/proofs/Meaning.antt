@@ -107,7 +107,7 @@ section-even s b e = ascending-even (shallowest s (b .k)) (deepest s (b .k)) [] 
 -- ---- words that pass are the words of their book
 
 -- What words that pass have.
-pub record Passed (ws : List ℕ) : Type 0 where
+pub record PassedWords (ws : List ℕ) : Type 0 where
   pub long : head-words ≤ length ws
   pub depth : within least-k greatest-k (getD ws 0 0) ≡ true
   pub few : getD ws 2 0 ≤ greatest-count
@@ -117,7 +117,7 @@ pub record Passed (ws : List ℕ) : Type 0 where
   pub clear : zeros (drop (endAt ws) ws) ≡ true
 
 -- Words that pass have all of it.
-passed : (ws : List ℕ) → passes ws ≡ true → Passed ws
+passed : (ws : List ℕ) → passes ws ≡ true → PassedWords ws
 unfolding passes headOf
 passed ws e0 =
     let e1 = and-right (leb head-words (length ws)) _ e0 in
@@ -159,7 +159,7 @@ stands ws from n h =
       long = entries-span n (drop from ws) h;
     }
 
-module _ (ws : List ℕ) (p : Passed ws) where
+module _ (ws : List ℕ) (p : PassedWords ws) where
   -- All the words of a section's entries are there.
   section-whole : (s : Section) → span (getD ws (slotOf s) 0) (drop (startOf s (placesIn ws)) ws) ≤ length (drop (startOf s (placesIn ws)) ws)
   section-whole s = run-entries _ _ _ _ _ (p .runs s) .0
@@ -372,7 +372,7 @@ formed-passes ws = either _ _ there back
     back e = let p = passed ws e in and-both (is-formed ws p) (ap (sameWords (lay (length ws) (bookIn ws))) (sym (is-laid ws p)) ∙ same-words _)
 
 -- Words that are a book in form have what words that pass have.
-pub formed-passed : (ws : List ℕ) → formed ws ≡ true → Passed ws
+pub formed-passed : (ws : List ℕ) → formed ws ≡ true → PassedWords ws
 formed-passed ws e = passed ws (sym (formed-passes ws) ∙ e)
 
 -- ---- what it means to decode

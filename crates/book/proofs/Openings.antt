@@ -8,7 +8,7 @@ use borrow.Author.Tests.{le-leb}
 use lib.ListN.{length, replicate, set}
 use Rattle.words.specs.Base.{if_then_else_, within}
 use Rattle.words.proofs.Tests.{and-both}
-use Rattle.figures.specs.Limits.{head-words, least-k, greatest-k}
+use Rattle.figures.specs.Limits.{head-words, most-book-words, least-k, greatest-k}
 use Rattle.figures.specs.Numbers.{done, k-outside, book-size}
 use Rattle.figures.specs.Answers.{answered}
 use Rattle.figures.specs.declared.Answer.{Answer}
@@ -19,7 +19,10 @@ use Rattle.book.specs.Taught.{bookOf}
 use Rattle.book.specs.Opening.{outcome, openOf}
 use Rattle.book.specs.declared.Section.{Section}
 use Rattle.book.specs.declared.Section.the-variants.{Taught, Tops, Lows, Middles}
-use Rattle.book.proofs.Meaning.{proper-form}
+use Rattle.book.specs.Sound.{IsBook}
+use Rattle.book.proofs.Meaning.{proper-form, lay-long}
+use Rattle.book.proofs.Heads.{is-sized}
+use Rattle.book.proofs.Sound.{form-sound}
 
 -- ---- the opened book
 
@@ -55,9 +58,9 @@ opened-formed k l g =
 
 module _ (ws : List ℕ) (k : ℕ) (a : Answer) where
   -- A slice of no size for a book is refused by 4.
-  pub no-room : a ≡ answered book-size → sized ws ≡ false → openOf ws k ≡ outcome a ws
+  pub open-unsized : a ≡ answered book-size → sized ws ≡ false → openOf ws k ≡ outcome a ws
   unfolding openOf if_then_else_
-  no-room e z = rw (z, e)
+  open-unsized e z = rw (z, e)
 
   -- In any other a k outside is refused by 3.
   pub no-depth : a ≡ answered k-outside → sized ws ≡ true → within least-k greatest-k k ≡ false → openOf ws k ≡ outcome a ws
@@ -69,3 +72,28 @@ module _ (ws : List ℕ) (k : ℕ) (a : Answer) where
       → (l : List ℕ) (v : ℕ) → l ≡ replicate (length ws) 0 → v ≡ k → openOf ws k ≡ outcome a (set (set l 0 v) 1 head-words)
   unfolding openOf if_then_else_
   opens e z w h l v f g = rw (z, w, e, f, g, empty-laid (length ws) k h)
+
+-- ---- what opening does
+
+-- An opened book uses the words of its head.
+pub opened-used : (k : ℕ) → used (bookOf k []) ≡ head-words
+unfolding used body bookOf sectionWords
+opened-used k = refl
+
+-- A slice of a size for a book and an allowed k: opening is done, and the slice is then the book of no orders.
+module _ (ws : List ℕ) (k : ℕ) (l : head-words ≤ length ws) (s : length ws ≤ most-book-words) (a : least-k ≤ k) (z : k ≤ greatest-k) where
+  -- It is answered by 0, and the whole slice is written.
+  pub opened : openOf ws k ≡ outcome (answered done) (lay (length ws) (bookOf k []))
+  unfolding openOf if_then_else_
+  opened = rw (is-sized ws l s, and-both (le-leb least-k k a) (le-leb k greatest-k z))
+
+  -- The words are then those of the empty book.
+  pub opened-book : IsBook (openOf ws k .words) (bookOf k [])
+  opened-book =
+      let n : length (lay (length ws) (bookOf k [])) ≡ length ws = lay-long (length ws) (bookOf k []) (omega (arith, opened-used k)) in
+      rw opened (record {
+        long = omega arith;
+        short = omega arith;
+        sound = form-sound (bookOf k []) (opened-formed k a z);
+        laid = ap (λ (m : ℕ). lay m (bookOf k [])) n;
+      })

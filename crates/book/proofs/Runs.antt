@@ -19,7 +19,7 @@ use Rattle.section.proofs.Words.{past-at, span-at, entries-at}
 use Rattle.book.specs.Book.{entryInForm}
 use Rattle.book.specs.Passes.{wholeAt, run, stretch, zeros, headOf}
 use Rattle.book.specs.declared.Whole.{Whole}
-use Rattle.book.specs.declared.Whole.the-variants.{Entry, NoEntry}
+use Rattle.book.specs.declared.Whole.the-variants.{Ends, NoEntry}
 use Rattle.book.specs.declared.Stretch.the-variants.{InOrder, Broken}
 
 -- ---- the entry at a word
@@ -35,7 +35,7 @@ module _ (ws : List ℕ) (at : ℕ) where
   not-whole h = rw (ends-at, lt-leb (at + 2 + 2 * getD ws at 0) (length ws) h)
 
   -- Where they are, it is told by its end and its count.
-  pub whole : at + 2 + 2 * getD ws at 0 ≤ length ws → wholeAt ws at ≡ Entry (at + 2 + 2 * getD ws at 0) (getD ws (at + 1) 0)
+  pub whole : at + 2 + 2 * getD ws at 0 ≤ length ws → wholeAt ws at ≡ Ends (at + 2 + 2 * getD ws at 0) (getD ws (at + 1) 0)
   unfolding wholeAt if_then_else_
   whole h = rw (ends-at, le-leb (at + 2 + 2 * getD ws at 0) (length ws) h)
 
@@ -48,7 +48,7 @@ pub record Told (ws : List ℕ) (at end count : ℕ) : Type 0 where
 module _ (ws : List ℕ) (at : ℕ) where
   -- What `wholeAt` tells.
   abbrev Tells : Whole → Type 0
-  Tells (Entry end count) = Told ws at end count
+  Tells (Ends end count) = Told ws at end count
   Tells NoEntry = length ws < at + 2 + 2 * getD ws at 0
 
   -- It tells what stands there.
@@ -56,13 +56,13 @@ module _ (ws : List ℕ) (at : ℕ) where
   unfolding wholeAt if_then_else_
   tells = rw (ends-at ws at) (go (leb (at + 2 + 2 * getD ws at 0) (length ws)) refl)
     where
-      go : (b : Bool) → leb (at + 2 + 2 * getD ws at 0) (length ws) ≡ b → Tells (if b then Entry (at + 2 + 2 * getD ws at 0) (getD ws (at + 1) 0) else NoEntry)
+      go : (b : Bool) → leb (at + 2 + 2 * getD ws at 0) (length ws) ≡ b → Tells (if b then Ends (at + 2 + 2 * getD ws at 0) (getD ws (at + 1) 0) else NoEntry)
       go true e = record { ends = refl; counts = refl; fits = leb-true _ _ e }
       go false e = leb-false _ _ e
 
   module _ (w : Whole) (is : w ≡ wholeAt ws at) where
     -- An entry that is told is there.
-    pub told : (end count : ℕ) → w ≡ Entry end count → Told ws at end count
+    pub told : (end count : ℕ) → w ≡ Ends end count → Told ws at end count
     told end count e = rw (sym is ∙ e) at tells
 
     -- Where none is told the words end.

@@ -1,7 +1,7 @@
--- The definitions of specs/Sound.antt say the same as the tests of `inForm`, `decode` and `formOf`; and what a book's words say, one by one.
+-- The definitions of specs/Sound.antt say the same as the tests of `inForm`, `decode` and `bookFormOf`; and what a book's words say, one by one.
 -- Assumes nothing.
-use Prim.Native.Nat.{ℕ, _+_, _-_, _≤_, _<_}
-use mathlib.Core.Path.{_≡_, refl, sym, ap, _∙_}
+use Prim.Native.Nat.{ℕ, _+_, _-_, _/_, _≤_, _<_}
+use mathlib.Core.Path.{_≡_, refl, sym, ap, ap₂, _∙_}
 use mathlib.Core.Bool.{Bool, true, false}
 use mathlib.Core.List.{List, [], _∷_, _++_, List·Memᴰ·head as here, List·Memᴰ·tail as there}
 use mathlib.Core.Option.{none, some}
@@ -14,13 +14,17 @@ use Rattle.words.specs.Base.{if_then_else_, within, _∈_}
 use Rattle.words.specs.Compare.{_≺_}
 use Rattle.words.proofs.Tests.{and-left, and-right, and-both}
 use Rattle.figures.specs.Limits.{head-words, most-book-words, least-k, greatest-k, least-count, greatest-count}
+use Rattle.order.specs.Trees.{Tree, words, subtrees}
+use Rattle.order.proofs.Orders.{size}
 use Rattle.order.proofs.Fitting.{fits-tree, tree-fits, fits-some}
-use Rattle.section.specs.Entries.{Entry, total, Below, Sorted}
+use Rattle.section.specs.Entries.{Entry, entryWords, total, Below, Sorted}
 use Rattle.book.specs.Book.{Book, sectionOf, shallowest, deepest, used, live, encode, lay, entryInForm, ascendingFrom, sectionInForm, inForm}
-use Rattle.book.specs.Decoding.{bookIn, formed, decode, byBook, onBook, placesOf, formOf}
-use Rattle.book.specs.Sound.{SoundEntry, SoundSection, SoundBook, IsBook, Why, shorter, longer, formless, book}
-use Rattle.book.specs.declared.Form.{Form}
-use Rattle.book.specs.declared.Form.the-variants.{Refused, InForm}
+use Rattle.book.specs.Decoding.{bookIn, formed, decode, byBook, onBook, placesOf, bookFormOf}
+use Rattle.book.specs.Sound.{SoundEntry, SoundSection, SoundBook, IsBook, WhyForm, shorter, longer, formless, book}
+use Rattle.book.specs.declared.Section.{Section}
+use Rattle.book.specs.declared.Section.the-variants.{Taught, Tops, Lows, Middles}
+use Rattle.book.specs.declared.BookForm.{BookForm}
+use Rattle.book.specs.declared.BookForm.the-variants.{Refused, InForm}
 use Rattle.book.proofs.Meaning.{form-proper, proper-form, decoded, laid-decoded, one-book, no-book}
 use Rattle.book.proofs.Heads.{too-short, too-long, is-sized, form-unsized, form-unformed}
 use Rattle.book.proofs.Holding.{ascending-sorted, ascending-entry, sorted-ascending}
@@ -87,17 +91,29 @@ module _ (least greatest : ℕ) where
 
 -- ---- books
 
+-- Each section of a sound book is sound, of the depths that it may have.
+sound-section : (b : Book) → SoundBook b → (s : Section) → SoundSection (shallowest s (b .k)) (deepest s (b .k)) (sectionOf s b)
+unfolding sectionOf
+sound-section b x Taught = x .taught
+sound-section b x Tops = x .tops
+sound-section b x Lows = x .lows
+sound-section b x Middles = x .middles
+
 module _ (b : Book) where
   -- A book in form is sound.
   pub form-sound : inForm b ≡ true → SoundBook b
-  unfolding sectionInForm
+  unfolding sectionInForm sectionOf
   form-sound e =
       let p = form-proper b e in
+      let sound : (s : Section) → SoundSection (shallowest s (b .k)) (deepest s (b .k)) (sectionOf s b) = λ s. ascending-sound (shallowest s (b .k)) (deepest s (b .k)) (sectionOf s b) (p .section s) in
       record {
         least = leb-true _ _ (and-left _ _ (p .depth));
         greatest = leb-true _ _ (and-right _ _ (p .depth));
         few = p .few;
-        section = λ s. ascending-sound (shallowest s (b .k)) (deepest s (b .k)) (sectionOf s b) (p .section s);
+        taught = sound Taught;
+        tops = sound Tops;
+        lows = sound Lows;
+        middles = sound Middles;
       }
 
   -- A sound book is in form.
@@ -107,7 +123,7 @@ module _ (b : Book) where
       proper-form b (record {
         depth = and-both (le-leb least-k (b .k) (s .least)) (le-leb (b .k) greatest-k (s .greatest));
         few = s .few;
-        section = λ t. sound-ascending (shallowest t (b .k)) (deepest t (b .k)) (sectionOf t b) (s .section t);
+        section = λ t. sound-ascending (shallowest t (b .k)) (deepest t (b .k)) (sectionOf t b) (sound-section b s t);
       })
 
 -- ---- the book of words
@@ -144,8 +160,8 @@ formed-some ws e = rw e
 
 module _ (ws : List ℕ) where
   -- A book's words give its places.
-  form-of : (b : Book) → IsBook ws b → formOf ws ≡ InForm (placesOf b)
-  unfolding formOf
+  form-of : (b : Book) → IsBook ws b → bookFormOf ws ≡ InForm (placesOf b)
+  unfolding bookFormOf
   form-of b i = on-any ws b i Refused (λ c. InForm (placesOf c))
 
   -- Words that are not in form are those of no sound book.
@@ -165,20 +181,20 @@ module _ (ws : List ℕ) where
       go false e = e
 
   -- What it gives has its reason.
-  pub why-is : Why ws (formOf ws)
+  pub why-is : WhyForm ws (bookFormOf ws)
   why-is = by-size (decLt (length ws) head-words) (decLt most-book-words (length ws))
     where
-      by-form : head-words ≤ length ws → length ws ≤ most-book-words → (t : Bool) → formed ws ≡ t → Why ws (formOf ws)
+      by-form : head-words ≤ length ws → length ws ≤ most-book-words → (t : Bool) → formed ws ≡ t → WhyForm ws (bookFormOf ws)
       by-form l s true e = book (bookIn ws) (form-of (bookIn ws) (formed-book l s e)) (formed-book l s e)
       by-form l s false e = formless (form-unformed ws (is-sized ws l s) e) l s (unformed-no-book e)
 
-      by-size : Dec (length ws < head-words) → Dec (most-book-words < length ws) → Why ws (formOf ws)
+      by-size : Dec (length ws < head-words) → Dec (most-book-words < length ws) → WhyForm ws (bookFormOf ws)
       by-size (yes h) d = shorter (form-unsized ws (too-short ws h)) h
       by-size (no h) (yes g) = longer (form-unsized ws (too-long ws g)) g
       by-size (no h) (no g) = by-form (omega arith) (omega arith) (formed ws) refl
 
   -- What has a reason is what it gives.
-  pub why-only : (f : Form) → Why ws f → formOf ws ≡ f
+  pub why-only : (f : BookForm) → WhyForm ws f → bookFormOf ws ≡ f
   why-only f (shorter e h) = form-unsized ws (too-short ws h) ∙ sym e
   why-only f (longer e h) = form-unsized ws (too-long ws h) ∙ sym e
   why-only f (formless e l s n) = form-unformed ws (is-sized ws l s) (no-book-unformed l s n) ∙ sym e
@@ -213,3 +229,9 @@ laid-tail n b i l h =
 -- "Words past those used are zero."
 pub tail-says : (ws : List ℕ) (b : Book) → IsBook ws b → (i : ℕ) → used b ≤ i → i < length ws → getD ws i 0 ≡ 0
 tail-says ws b is i l h = ap (λ (x : List ℕ). getD x i 0) (sym (is .laid)) ∙ laid-tail (length ws) b i l h
+
+-- "An entry is: number of nodes, count (1 to 65,535), the tree's words."
+pub entry-says : (e : Entry) (t : Tree) → e .key ≡ words t → entryWords e ≡ length (subtrees t) ∷ e .count ∷ words t
+entry-says e t s =
+    let n : length (e .key) / 2 ≡ length (subtrees t) = omega (arith, ap length s, size t) in
+    ap₂ (λ (m : ℕ) (w : List ℕ). m ∷ e .count ∷ w) n s

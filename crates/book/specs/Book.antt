@@ -80,7 +80,7 @@ ascendingFrom last least greatest (e ∷ es) =
 unfoldable pub sectionInForm : Section → Book → Bool
 sectionInForm s b = ascendingFrom [] (shallowest s (b .k)) (deepest s (b .k)) (sectionOf s b)
 
--- "In form": k is 2 to 6, live teachings are at most 65,535, and so are the four sections.
+-- "In form": k is 2 to 6, live teachings are at most 65,535, and the four sections are in form.
 unfoldable pub inForm : Book → Bool
 inForm b =
     within least-k greatest-k (b .k) and leb (live b) greatest-count

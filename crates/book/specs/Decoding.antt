@@ -7,14 +7,14 @@ use mathlib.Core.Option.{Option, none, some}
 use lib.ListN.{length, getD, drop}
 use Rattle.words.specs.Base.{_and_, if_then_else_, within, sameWords}
 use Rattle.figures.specs.Limits.{head-words, k-word, taught-word, tops-word, lows-word, middles-word, most-book-words}
-use Rattle.figures.specs.Numbers.{book-size, not-in-form}
+use Rattle.figures.specs.Numbers.{done, book-size, not-in-form}
 use Rattle.section.specs.Entries.{sectionWords, entries, span}
 use Rattle.book.specs.Book.{Book, lay, inForm, used}
 use Rattle.book.specs.declared.Section.{Section}
 use Rattle.book.specs.declared.Section.the-variants.{Taught, Tops, Lows, Middles}
 use Rattle.book.specs.declared.Places.{Places}
-use Rattle.book.specs.declared.Form.{Form}
-use Rattle.book.specs.declared.Form.the-variants.{Refused, InForm}
+use Rattle.book.specs.declared.BookForm.{BookForm}
+use Rattle.book.specs.declared.BookForm.the-variants.{Refused, InForm}
 
 -- The word past the entries that start at `from`, as many as word `slot` of the head says.
 abbrev pub pastEntries : ℕ → ℕ → List ℕ → ℕ
@@ -91,5 +91,10 @@ slotOf Lows = lows-word
 slotOf Middles = middles-word
 
 -- What a look at a book's form gives: the number of its refusal, or where its sections start.
-unfoldable pub formOf : List ℕ → Form
-formOf ws = onBook Refused ws (λ b. InForm (placesOf b))
+unfoldable pub bookFormOf : List ℕ → BookForm
+bookFormOf ws = onBook Refused ws (λ b. InForm (placesOf b))
+
+-- 01's number for each case of it.
+abbrev pub formNumber : BookForm → ℕ
+formNumber (Refused n) = n
+formNumber (InForm p) = done

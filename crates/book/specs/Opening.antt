@@ -21,15 +21,15 @@ abbrev pub outcome : Answer → List ℕ → Outcome
 outcome a ws = record { answer = a; words = ws }
 
 -- A refusal by a number: it "leaves all lent words and bytes as they came".
-abbrev pub refuse : List ℕ → ℕ → Outcome
-refuse ws n = outcome (answered n) ws
+abbrev pub leave : List ℕ → ℕ → Outcome
+leave ws n = outcome (answered n) ws
 
 -- "Success writes the book": the whole slice.
-abbrev pub write : List ℕ → Book → Outcome
-write ws b = outcome (answered done) (lay (length ws) b)
+abbrev pub writeBook : List ℕ → Book → Outcome
+writeBook ws b = outcome (answered done) (lay (length ws) b)
 
 -- "Open: 4, 3." An opened book is the book of no orders.
 unfoldable pub openOf : List ℕ → ℕ → Outcome
 openOf ws k =
-    if sized ws then (if within least-k greatest-k k then write ws (bookOf k []) else refuse ws k-outside)
-    else refuse ws book-size
+    if sized ws then (if within least-k greatest-k k then writeBook ws (bookOf k []) else leave ws k-outside)
+    else leave ws book-size

@@ -10,7 +10,7 @@ use Rattle.figures.specs.Limits.{used-word, live-word}
 use Rattle.section.specs.Entries.{firstEntry, entries, width, span, total}
 use Rattle.book.specs.Book.{entryInForm}
 use Rattle.book.specs.declared.Whole.{Whole}
-use Rattle.book.specs.declared.Whole.the-variants.{Entry, NoEntry}
+use Rattle.book.specs.declared.Whole.the-variants.{Ends, NoEntry}
 use Rattle.book.specs.declared.Stretch.{Stretch}
 use Rattle.book.specs.declared.Stretch.the-variants.{InOrder, Broken}
 
@@ -18,7 +18,7 @@ use Rattle.book.specs.declared.Stretch.the-variants.{InOrder, Broken}
 unfoldable pub wholeAt : List ℕ → ℕ → Whole
 wholeAt ws at =
     if leb (at + width (drop at ws)) (length ws)
-    then Entry (at + width (drop at ws)) (getD ws (at + 1) 0)
+    then Ends (at + width (drop at ws)) (getD ws (at + 1) 0)
     else NoEntry
 
 -- n whole entries in form at the front of the words, ascending from the words `last` on.

@@ -10,7 +10,7 @@ use Rattle.order.specs.Reading.{byFound, treeOf}
 use Rattle.order.specs.Parts.{top, lowParts, middleParts}
 use Rattle.book.specs.Book.{Book}
 
--- An order and how many of its teachings are live.
+-- An order and how many of its teachings are live, at least 1.
 pub record Teaching : Type 0 where
   pub order : Tree
   pub times : ℕ
@@ -52,7 +52,7 @@ sameSection [] (f ∷ fs) = false
 sameSection (e ∷ es) [] = false
 sameSection (e ∷ es) (f ∷ fs) = sameWords (e .key) (f .key) and eqb (e .count) (f .count) and sameSection es fs
 
--- "A book in form whose R, L, P are those of its T agrees with itself."
+-- Of a book in form: it is one "whose R, L, P are those of its T", trees and counts, so that it "agrees with itself".
 unfoldable pub agreeing : Book → Bool
 agreeing b =
     let c : Book = bookOf (b .k) (teachingsIn (b .T)) in

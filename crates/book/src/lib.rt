@@ -5,7 +5,7 @@ ghost use Prim.Native.Nat.{_≤_};
 ghost use lib.ListN.{length, drop};
 ghost use Rattle.words.specs.Base.{within};
 ghost use Rattle.figures.specs.Limits.{head-words, most-book-words};
-ghost use Rattle.book.specs.Decoding.{formOf};
+ghost use Rattle.book.specs.Decoding.{bookFormOf};
 ghost use Rattle.book.specs.Passes.{wholeAt, stretchOf, zeros, headOf};
 ghost use Rattle.book.specs.Opening.{outcome, openOf};
 use figures::Answer;
@@ -33,7 +33,7 @@ pub struct Places {
 }
 
 // What a look at a book's form gives.
-pub enum Form {
+pub enum BookForm {
     Refused(u16),
     InForm(Places),
 }
@@ -41,7 +41,7 @@ pub enum Form {
 // The entry at a word, if all its words are there: the word past it, and its count.
 pub enum Whole {
     NoEntry,
-    Entry { end: usize, count: usize },
+    Ends { end: usize, count: usize },
 }
 
 // What a pass over a section finds: in order, with the word past it and the sum of its counts, or not.
@@ -77,7 +77,7 @@ fn whole_at(book: &[u16], at: usize) -> Whole
         return Whole::NoEntry;
     }
     let end = start + 2 * nodes;
-    Whole::Entry { end, count }
+    Whole::Ends { end, count }
 }
 
 // One pass over the n entries from `from`: each is whole, counts at least 1, is an order of a depth from `least` to `greatest`, and stands
@@ -91,11 +91,11 @@ fn pass(book: &[u16], from: usize, n: u16, least: usize, greatest: usize) -> Str
     let mut last: usize = 0;
     let mut last_end: usize = 0;
     while 0 < left {
-        let Whole::Entry { end, count } = whole_at(book, at) else {
+        let Whole::Ends { end, count } = whole_at(book, at) else {
             return Stretch::Broken;
         };
         let start = at + 2;
-        if count < 1 {
+        if count < limits::LEAST_COUNT {
             return Stretch::Broken;
         }
         if !order::fits(&book[start..end], least, greatest) {
@@ -144,14 +144,14 @@ fn head_agrees(book: &[u16], live: usize, used: usize) -> bool
 }
 
 // Whether the words are a book in form, in one pass over them, and where its sections start: 4, 5, or the places.
-pub fn in_form(book: &[u16]) -> Form
-    ensures { λ r. ⌜ r ≡ formOf (now (book .entry)) ⌝ }
+pub fn in_form(book: &[u16]) -> BookForm
+    ensures { λ r. ⌜ r ≡ bookFormOf (now (book .entry)) ⌝ }
 {
     if !is_book_size(book.len()) {
-        return Form::Refused(numbers::BOOK_SIZE);
+        return BookForm::Refused(numbers::BOOK_SIZE);
     }
     let Asked::Allowed(k) = Depth::new(book[limits::K_WORD]) else {
-        return Form::Refused(numbers::NOT_IN_FORM);
+        return BookForm::Refused(numbers::NOT_IN_FORM);
     };
     let low = k.of_tops();
     let middle = k.of_middles();
@@ -162,22 +162,22 @@ pub fn in_form(book: &[u16]) -> Form
         0,
         limits::GREATEST_DEPTH,
     ) else {
-        return Form::Refused(numbers::NOT_IN_FORM);
+        return BookForm::Refused(numbers::NOT_IN_FORM);
     };
     let Stretch::InOrder(lows, _) = pass(book, tops, book[limits::TOPS_WORD], 0, low) else {
-        return Form::Refused(numbers::NOT_IN_FORM);
+        return BookForm::Refused(numbers::NOT_IN_FORM);
     };
     let Stretch::InOrder(middles, _) = pass(book, lows, book[limits::LOWS_WORD], 0, low) else {
-        return Form::Refused(numbers::NOT_IN_FORM);
+        return BookForm::Refused(numbers::NOT_IN_FORM);
     };
     let Stretch::InOrder(used, _) = pass(book, middles, book[limits::MIDDLES_WORD], middle, middle)
     else {
-        return Form::Refused(numbers::NOT_IN_FORM);
+        return BookForm::Refused(numbers::NOT_IN_FORM);
     };
     if !head_agrees(book, live, used) {
-        return Form::Refused(numbers::NOT_IN_FORM);
+        return BookForm::Refused(numbers::NOT_IN_FORM);
     }
-    Form::InForm(Places {
+    BookForm::InForm(Places {
         k,
         tops,
         lows,

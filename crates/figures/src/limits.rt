@@ -36,3 +36,6 @@ pub const MIDDLES_WORD: usize = 6;
 
 // "A lent slice of 7 to 16,384 words"
 pub const MOST_BOOK_WORDS: usize = 16384;
+
+// "count (1 to 65,535)"
+pub const LEAST_COUNT: usize = 1;

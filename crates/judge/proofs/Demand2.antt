@@ -1,23 +1,24 @@
 -- Demand 2: "An order passes exactly when its top, its low parts and its middle parts are all in the book, as García's paper (document 000)
 -- defines them"; and judging answers exactly by the rows of 01's table, for any words. Assumes nothing.
-use Prim.Native.Nat.{ℕ}
+use Prim.Native.Nat.{ℕ, _≤_}
 use mathlib.Core.Path.{_≡_, refl, ap, sym, subst, _∙_}
 use mathlib.Core.List.{List}
 use native.Mathlib.Omega.{arith}
-use Rattle.figures.specs.Numbers.{done, book-size, not-in-form}
+use Rattle.figures.specs.Numbers.{done, too-large, book-size, not-in-form, top-unknown, low-unknown, middle-unknown}
 use Rattle.figures.specs.Answers.{answered}
 use Rattle.figures.specs.declared.Answer.{Answer}
 use Rattle.order.specs.Trees.{Tree}
 use Rattle.order.specs.Reading.{order, byOrder, orderOf, causeOf}
+use Rattle.order.specs.Causes.{Cause, empty, odd, long, no-tree, deep, none}
 use Rattle.order.proofs.Orders.{tree-passes}
 use Rattle.order.proofs.Causes.{cause-only, cause-is, Passed, Seen, stopped, passed, seen, refused-by}
 use Rattle.book.specs.Book.{Book}
-use Rattle.book.specs.Decoding.{formOf}
-use Rattle.book.specs.Sound.{IsBook, Why, shorter, longer, formless, book}
-use Rattle.book.specs.declared.Form.the-variants.{Refused}
+use Rattle.book.specs.Decoding.{bookFormOf}
+use Rattle.book.specs.Sound.{IsBook, WhyForm, shorter, longer, formless, book}
+use Rattle.book.specs.declared.BookForm.the-variants.{Refused}
 use Rattle.book.proofs.Sound.{on-any, why-is, why-only}
 use Rattle.judge.specs.Judging.{verdict, judgeOf}
-use Rattle.judge.specs.Verdicts.{IsOrder, Passes, PassesBy, Verdict, passing, no-top, no-low, no-middle, Judged, no-book, no-order, judged}
+use Rattle.judge.specs.Verdicts.{IsOrder, Passes, Reached, PassesBy, TopUnknown, LowUnknown, MiddleUnknown, Verdict, passing, no-top, no-low, no-middle, Judged, no-book, no-order, judged}
 use Rattle.judge.proofs.Judgements.{judge-unheld}
 use Rattle.judge.proofs.Verdicts.{verdict-is, verdict-one}
 
@@ -58,7 +59,7 @@ module _ (ws os : List ℕ) where
       ordered b i (passed t h p) =
           judged b t i (passed-order os t p) (subst (Verdict b t) (sym (by-verdict b t i (p .is))) (verdict-is b (i .sound .least) t))
 
-      go : Why ws (formOf ws) → Judged ws os (judgeOf ws os)
+      go : WhyForm ws (bookFormOf ws) → Judged ws os (judgeOf ws os)
       go (shorter r l) = no-book book-size (judge-unheld ws os book-size r) (shorter refl l)
       go (longer r l) = no-book book-size (judge-unheld ws os book-size r) (longer refl l)
       go (formless r l m n) = no-book not-in-form (judge-unheld ws os not-in-form r) (formless refl l m n)
@@ -76,7 +77,7 @@ module _ (ws os : List ℕ) where
   -- ---- passing
 
   -- A refusal by the book is not 0.
-  refusal-not-0 : (n : ℕ) → Why ws (Refused n) → n ≡ done → ⊥
+  refusal-not-0 : (n : ℕ) → WhyForm ws (Refused n) → n ≡ done → ⊥
   refusal-not-0 n (shorter r l) e = let z : n ≡ book-size = cc in omega arith
   refusal-not-0 n (longer r l) e = let z : n ≡ book-size = cc in omega arith
   refusal-not-0 n (formless r l m x) e = let z : n ≡ not-in-form = cc in omega arith
@@ -101,3 +102,80 @@ module _ (ws os : List ℕ) where
   -- and what passes is answered by 0 with line 0.
   pub passes-answered : PassesBy ws os → judgeOf ws os ≡ answered done
   passes-answered p = judged-only (answered done) (judged (p .book) (p .tree) (p .isBook) (p .isOrder) (passing refl (p .passes)))
+
+  -- ---- the verdicts 20, 21 and 22
+
+  -- A refusal by the book is 4 or 5.
+  refusal-small : (n : ℕ) → WhyForm ws (Refused n) → n ≤ not-in-form
+  refusal-small n (shorter r l) = let z : n ≡ book-size = cc in omega arith
+  refusal-small n (longer r l) = let z : n ≡ book-size = cc in omega arith
+  refusal-small n (formless r l m x) = let z : n ≡ not-in-form = cc in omega arith
+  refusal-small n (book b r i) = absurd (let z : _≡_ {A = ℕ} 0 1 = cc in omega arith)
+
+  -- A cause of an order is 0, 1 or 2.
+  cause-small : (n : ℕ) → Cause os n → n ≤ too-large
+  cause-small n (empty e h) = omega arith
+  cause-small n (odd e h) = omega arith
+  cause-small n (long e v h) = omega arith
+  cause-small n (no-tree e v l h) = omega arith
+  cause-small n (deep e l t g w h) = omega arith
+  cause-small n (none e l t g w h) = omega arith
+
+  -- The number that an answer has.
+  numbered : {a c : Answer} → a ≡ c → a .number ≡ c .number
+  numbered e = ap (λ (x : Answer). x .number) e
+
+  -- An answer of 20 or more is a verdict.
+  verdict-row : top-unknown ≤ judgeOf ws os .number → (b : Book) × (t : Tree) × IsBook ws b × IsOrder os t × Verdict b t (judgeOf ws os)
+  verdict-row h = go judged-is
+    where
+      go : Judged ws os (judgeOf ws os) → (b : Book) × (t : Tree) × IsBook ws b × IsOrder os t × Verdict b t (judgeOf ws os)
+      go (no-book n f w) = absurd (omega (arith, numbered f, refusal-small n w))
+      go (no-order b n f i c x) = absurd (omega (arith, numbered f, cause-small n c))
+      go (judged b t i o v) = (b, t, i, o, v)
+
+  -- What is answered by 20 has an unknown top,
+  pub answered-top : judgeOf ws os .number ≡ top-unknown → TopUnknown ws os (judgeOf ws os .line)
+  answered-top e = let x = verdict-row (omega arith) in go (x .0) (x .1) (x .2) (x .3) (x .4)
+    where
+      go : (b : Book) (t : Tree) → IsBook ws b → IsOrder os t → Verdict b t (judgeOf ws os) → TopUnknown ws os (judgeOf ws os .line)
+      go b t i o (passing f p) = absurd (omega (arith, numbered f))
+      go b t i o (no-top f n) = record { book = b; tree = t; isBook = i; isOrder = o; first = ap (λ (x : Answer). x .line) f; unknown = n }
+      go b t i o (no-low l s f r d n) = absurd (omega (arith, numbered f))
+      go b t i o (no-middle l s f r d n) = absurd (omega (arith, numbered f))
+
+  -- and an order with an unknown top is answered by 20 with line 1.
+  pub top-answered : (line : ℕ) → TopUnknown ws os line → judgeOf ws os ≡ record { number = top-unknown; line = line }
+  top-answered line x = judged-only _ (judged (x .book) (x .tree) (x .isBook) (x .isOrder) (no-top (ap (λ (l : ℕ). record { number = top-unknown; line = l }) (x .first)) (x .unknown)))
+
+  -- What is answered by 21 has its first unknown part at the line, a low one,
+  pub answered-low : judgeOf ws os .number ≡ low-unknown → LowUnknown ws os (judgeOf ws os .line)
+  answered-low e = let x = verdict-row (omega arith) in go (x .0) (x .1) (x .2) (x .3) (x .4)
+    where
+      go : (b : Book) (t : Tree) → IsBook ws b → IsOrder os t → Verdict b t (judgeOf ws os) → LowUnknown ws os (judgeOf ws os .line)
+      go b t i o (passing f p) = absurd (omega (arith, numbered f))
+      go b t i o (no-top f n) = absurd (omega (arith, numbered f))
+      go b t i o (no-low l s f r d n) =
+          let z : l ≡ judgeOf ws os .line = sym (ap (λ (x : Answer). x .line) f) in
+          record { book = b; tree = t; isBook = i; isOrder = o; subtree = s; reached = subst (λ (m : ℕ). Reached b t m s) z r; low = d; unknown = n }
+      go b t i o (no-middle l s f r d n) = absurd (omega (arith, numbered f))
+
+  -- and such an order is answered by 21 with that line.
+  pub low-answered : (line : ℕ) → LowUnknown ws os line → judgeOf ws os ≡ record { number = low-unknown; line = line }
+  low-answered line x = judged-only _ (judged (x .book) (x .tree) (x .isBook) (x .isOrder) (no-low line (x .subtree) refl (x .reached) (x .low) (x .unknown)))
+
+  -- What is answered by 22 has its first unknown part at the line, a middle one,
+  pub answered-middle : judgeOf ws os .number ≡ middle-unknown → MiddleUnknown ws os (judgeOf ws os .line)
+  answered-middle e = let x = verdict-row (omega arith) in go (x .0) (x .1) (x .2) (x .3) (x .4)
+    where
+      go : (b : Book) (t : Tree) → IsBook ws b → IsOrder os t → Verdict b t (judgeOf ws os) → MiddleUnknown ws os (judgeOf ws os .line)
+      go b t i o (passing f p) = absurd (omega (arith, numbered f))
+      go b t i o (no-top f n) = absurd (omega (arith, numbered f))
+      go b t i o (no-low l s f r d n) = absurd (omega (arith, numbered f))
+      go b t i o (no-middle l s f r d n) =
+          let z : l ≡ judgeOf ws os .line = sym (ap (λ (x : Answer). x .line) f) in
+          record { book = b; tree = t; isBook = i; isOrder = o; subtree = s; reached = subst (λ (m : ℕ). Reached b t m s) z r; deep = d; unknown = n }
+
+  -- and such an order is answered by 22 with that line.
+  pub middle-answered : (line : ℕ) → MiddleUnknown ws os line → judgeOf ws os ≡ record { number = middle-unknown; line = line }
+  middle-answered line x = judged-only _ (judged (x .book) (x .tree) (x .isBook) (x .isOrder) (no-middle line (x .subtree) refl (x .reached) (x .deep) (x .unknown)))

@@ -20,14 +20,14 @@ use Rattle.order.specs.declared.PartAt.the-variants.{NoPart, LowTo, MiddleTo}
 use Rattle.order.proofs.Causes.{Passed, has-tree, refused-by}
 use Rattle.order.proofs.Lines.{line-spot, tree-next}
 use Rattle.book.specs.Book.{Book}
-use Rattle.book.specs.Decoding.{bookIn, byBook, onBook, formOf}
+use Rattle.book.specs.Decoding.{bookIn, byBook, onBook, bookFormOf}
 use Rattle.book.specs.Holding.{Holds}
 use Rattle.book.specs.declared.Places.{Places}
-use Rattle.book.specs.declared.Form.the-variants.{Refused}
+use Rattle.book.specs.declared.BookForm.the-variants.{Refused}
 use Rattle.book.proofs.Heads.{is-sized}
-use Rattle.book.proofs.Holding.{refused-by as refused-at}
-use Rattle.judge.specs.Judging.{knows, unknownLine, firstUnknown, verdict, judgeOf}
-use Rattle.judge.specs.Seeking.{topKnown, lineUnknown, unknownNumber, lineAnswer}
+use Rattle.book.proofs.Holding.{refused-book}
+use Rattle.judge.specs.Judging.{knows, firstUnknown, verdict, judgeOf}
+use Rattle.judge.specs.Seeking.{unknownLine, topKnown, lineUnknown, unknownNumber, lineAnswer}
 use Rattle.judge.proofs.Spots.{two-words-a-line, short-order, PartIs, part-told}
 
 -- ---- the first unknown line and its number
@@ -121,6 +121,6 @@ module _ (ws os : List ℕ) (p : Places) (H : Holds ws p) where
 -- ---- any words
 
 -- A slice that is no book in form is answered by 4 or 5.
-pub judge-unheld : (ws os : List ℕ) (n : ℕ) → formOf ws ≡ Refused n → judgeOf ws os ≡ answered n
+pub judge-unheld : (ws os : List ℕ) (n : ℕ) → bookFormOf ws ≡ Refused n → judgeOf ws os ≡ answered n
 unfolding judgeOf
-judge-unheld ws os n e = refused-at ws n e answered (λ b. byOrder (orderOf os) answered (verdict b))
+judge-unheld ws os n e = refused-book ws n e answered (λ b. byOrder (orderOf os) answered (verdict b))

@@ -15,8 +15,8 @@ use Rattle.order.specs.Parts.{isLow, partOf}
 use Rattle.order.proofs.Causes.{Passed, has-tree}
 use Rattle.order.proofs.Lines.{from-spot, tree-next}
 use Rattle.book.specs.Book.{Book}
-use Rattle.judge.specs.Judging.{knows, unknownLine}
-use Rattle.judge.specs.Seeking.{lineUnknown, lookedUpIn, keyOf, Seeks}
+use Rattle.judge.specs.Judging.{knows}
+use Rattle.judge.specs.Seeking.{unknownLine, lineUnknown, lookedUpIn, keyOf, Seeks}
 use Rattle.judge.specs.declared.Sought.{Sought}
 use Rattle.judge.proofs.Spots.{line-at, two-words-a-line}
 

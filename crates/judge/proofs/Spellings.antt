@@ -3,12 +3,12 @@ use Prim.Native.Nat.{ℕ}
 use mathlib.Core.Path.{_≡_, ap}
 use mathlib.Core.Bool.{Bool, true, false}
 use mathlib.Core.List.{List}
-use Rattle.judge.specs.Seeking.{spelledIn}
+use Rattle.judge.specs.Seeking.{speltIn}
 
 -- A low part is in the order's words.
-pub in-order : (low : Bool) (os cut : List ℕ) → low ≡ true → spelledIn low os cut ≡ os
-in-order low os cut e = ap (λ (b : Bool). spelledIn b os cut) e
+pub in-order : (low : Bool) (os cut : List ℕ) → low ≡ true → speltIn low os cut ≡ os
+in-order low os cut e = ap (λ (b : Bool). speltIn b os cut) e
 
 -- Any other is in those of its cut.
-pub in-cut : (low : Bool) (os cut : List ℕ) → low ≡ false → spelledIn low os cut ≡ cut
-in-cut low os cut e = ap (λ (b : Bool). spelledIn b os cut) e
+pub in-cut : (low : Bool) (os cut : List ℕ) → low ≡ false → speltIn low os cut ≡ cut
+in-cut low os cut e = ap (λ (b : Bool). speltIn b os cut) e

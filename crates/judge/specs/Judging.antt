@@ -17,11 +17,6 @@ use Rattle.book.specs.Decoding.{onBook}
 unfoldable pub knows : Book → Tree → Bool
 knows b s = if isLow (b .k) s then has (words s) (b .L) else has (words (middle (b .k) s)) (b .P)
 
--- "the least line whose subtree's part is unknown", of the subtrees from a line on; 0 where every part is known.
-unfoldable pub unknownLine : Book → ℕ → List Tree → ℕ
-unknownLine b line [] = 0
-unknownLine b line (s ∷ ss) = if knows b s then unknownLine b (suc line) ss else line
-
 -- The answer for the first unknown part of the subtrees from a line on: "21 or 22 by its depth"; 0 where every part is known.
 unfoldable pub firstUnknown : Book → ℕ → List Tree → Answer
 firstUnknown b line [] = answered done

@@ -16,8 +16,8 @@ use Rattle.order.specs.Causes.{Cause}
 use Rattle.order.specs.Answers.{lineOf}
 use Rattle.order.specs.Paper.{IsR, IsL, IsP}
 use Rattle.book.specs.Book.{Book}
-use Rattle.book.specs.Sound.{IsBook, Why}
-use Rattle.book.specs.declared.Form.the-variants.{Refused}
+use Rattle.book.specs.Sound.{IsBook, WhyForm}
+use Rattle.book.specs.declared.BookForm.the-variants.{Refused}
 
 -- The words are those of an order within limits.
 pub record IsOrder (os : List ℕ) (t : Tree) : Type 0 where
@@ -49,7 +49,7 @@ pub record Reached (b : Book) (t : Tree) (line : ℕ) (s : Tree) : Type 0 where
   pub on : lineOf line (subtrees t) ≡ found s
   pub earlier : (j : ℕ) (u : Tree) → j < line → lineOf j (subtrees t) ≡ found u → Known b u
 
--- Why a book answers an order by a.
+-- WhyForm a book answers an order by a.
 pub data Verdict (b : Book) (t : Tree) (a : Answer) : Type 0 where
   -- 0: "passes"
   passing : a ≡ answered done → Passes b t → Verdict b t a
@@ -60,10 +60,10 @@ pub data Verdict (b : Book) (t : Tree) (a : Answer) : Type 0 where
   -- 22: "middle part unknown", at that line
   no-middle : (line : ℕ) (s : Tree) → a ≡ record { number = middle-unknown; line = line } → Reached b t line s → b .k - 1 ≤ depth s → ((u : Tree) → IsR (b .k) s u → In (b .P) u → ⊥) → Verdict b t a
 
--- Why judging answers a: "Judge: 4, 5, 1, 2, verdict."
+-- WhyForm judging answers a: "Judge: 4, 5, 1, 2, verdict."
 pub data Judged (ws os : List ℕ) (a : Answer) : Type 0 where
   -- 4 and 5, by the book alone
-  no-book : (n : ℕ) → a ≡ answered n → Why ws (Refused n) → Judged ws os a
+  no-book : (n : ℕ) → a ≡ answered n → WhyForm ws (Refused n) → Judged ws os a
   -- 1 and 2, by the order
   no-order : (b : Book) (n : ℕ) → a ≡ answered n → IsBook ws b → Cause os n → (n ≡ done → ⊥) → Judged ws os a
   -- the verdict
@@ -76,3 +76,34 @@ pub record PassesBy (ws os : List ℕ) : Type 0 where
   pub isBook : IsBook ws book
   pub isOrder : IsOrder os tree
   pub passes : Passes book tree
+
+-- What 20 with a line says: the line is 1, and the order's top is not in R.
+pub record TopUnknown (ws os : List ℕ) (line : ℕ) : Type 0 where
+  pub book : Book
+  pub tree : Tree
+  pub isBook : IsBook ws book
+  pub isOrder : IsOrder os tree
+  pub first : line ≡ 1
+  pub unknown : (u : Tree) → IsR (book .k - 1) tree u → In (book .R) u → ⊥
+
+-- What 21 with a line says: it is the first line whose part is unknown, and its subtree is low and not in L.
+pub record LowUnknown (ws os : List ℕ) (line : ℕ) : Type 0 where
+  pub book : Book
+  pub tree : Tree
+  pub isBook : IsBook ws book
+  pub isOrder : IsOrder os tree
+  pub subtree : Tree
+  pub reached : Reached book tree line subtree
+  pub low : depth subtree ≤ book .k - 2
+  pub unknown : In (book .L) subtree → ⊥
+
+-- What 22 with a line says: it is the first line whose part is unknown, and its subtree is deeper and its r of index k not in P.
+pub record MiddleUnknown (ws os : List ℕ) (line : ℕ) : Type 0 where
+  pub book : Book
+  pub tree : Tree
+  pub isBook : IsBook ws book
+  pub isOrder : IsOrder os tree
+  pub subtree : Tree
+  pub reached : Reached book tree line subtree
+  pub deep : book .k - 1 ≤ depth subtree
+  pub unknown : (u : Tree) → IsR (book .k) subtree u → In (book .P) u → ⊥

@@ -10,8 +10,8 @@ ghost use Rattle.order.specs.Reading.{causeOf};
 ghost use Rattle.book.specs.Decoding.{bookIn};
 ghost use Rattle.book.specs.Holding.{Holds};
 ghost use Rattle.judge.specs.Judging.{judgeOf};
-ghost use Rattle.judge.specs.Seeking.{topKnown, lineUnknown, spelledIn, keyOf, Seeks, lineAnswer};
-use book::Form;
+ghost use Rattle.judge.specs.Seeking.{topKnown, lineUnknown, speltIn, keyOf, Seeks, lineAnswer};
+use book::BookForm;
 use book::Places;
 use figures::Answer;
 use figures::Depth;
@@ -91,7 +91,7 @@ fn seek(book: &[u16], places: Places, order: &[u16], line: usize, cut: &mut [u16
 
 // How an entry's tree stands to the part that is sought: a low part is compared where it lies in the order.
 fn against(tree: &[u16], part: Sought, order: &[u16], cut: &[u16]) -> Compared
-    requires { ⌜ (part .from ≤ part .to) × (part .to ≤ length (spelledIn (part .low) (now order) (now cut))) ⌝ }
+    requires { ⌜ (part .from ≤ part .to) × (part .to ≤ length (speltIn (part .low) (now order) (now cut))) ⌝ }
     ensures { λ r. ⌜ r ≡ compareOf (now (tree .entry)) (keyOf part (now (order .entry)) (now (cut .entry))) ⌝ }
 {
     let from = part.from;
@@ -144,7 +144,7 @@ fn line_answer(order: &[u16], k: Depth, line: usize) -> Answer
         return answered(numbers::DONE);
     }
     let number = match order::part_at(order, (line - 1) * 2, k) {
-        // Never met: every line of an order has a part.
+        // Not met by a line of an order, which has a part.
         PartAt::NoPart => numbers::LOW_UNKNOWN,
         PartAt::LowTo { end: _ } => numbers::LOW_UNKNOWN,
         PartAt::MiddleTo { end: _, count: _ } => numbers::MIDDLE_UNKNOWN,
@@ -176,7 +176,7 @@ pub fn judge(book: &[u16], order: &[u16]) -> Answer
     ensures { λ r. ⌜ r ≡ judgeOf (now (book .entry)) (now (order .entry)) ⌝ }
 {
     match book::in_form(book) {
-        Form::Refused(number) => answered(number),
-        Form::InForm(places) => judge_order(book, places, order),
+        BookForm::Refused(number) => answered(number),
+        BookForm::InForm(places) => judge_order(book, places, order),
     }
 }

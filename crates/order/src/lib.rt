@@ -1,5 +1,5 @@
 // Orders: trees as 16-bit words in a lent slice. Whether words are an order, the subtree of a line, its cut, and the part that it
-// stands for at k. Assumes nothing.
+// stands for at k. Assumes nothing beyond the `requires` of an inner function.
 ghost use mathlib.Core.Path.{_≡_};
 ghost use Prim.Native.Nat.{suc, _+_, _-_, _^_, _<_, max};
 ghost use lib.ListN.{length};

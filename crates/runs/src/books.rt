@@ -6,7 +6,7 @@
 use crate::line;
 use crate::same;
 use crate::say;
-use book::Form;
+use book::BookForm;
 use book::Places;
 use figures::Answer;
 
@@ -73,13 +73,13 @@ fn places(places: Places) {
 }
 
 // Says what a look at a book's form gave.
-fn look(form: Form) {
+fn look(form: BookForm) {
     match form {
-        Form::Refused(number) => {
+        BookForm::Refused(number) => {
             say::text(b"refused ");
             say::word(number);
         }
-        Form::InForm(found) => places(found),
+        BookForm::InForm(found) => places(found),
     }
 }
 

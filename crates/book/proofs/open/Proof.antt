@@ -11,7 +11,7 @@ use Rattle.words.specs.Base.{within}
 use Rattle.figures.specs.Limits.{head-words, most-book-words}
 use Rattle.book.proofs.Depths.{allowed, outside}
 use Rattle.book.proofs.Heads.{sized-by, size-told}
-use Rattle.book.proofs.Openings.{no-room, no-depth, opens}
+use Rattle.book.proofs.Openings.{open-unsized, no-depth, opens}
 use Rattle.book.proofs.open.Statement.{statement}
 use Rattle.book.proofs.open.Tie as tie
 
@@ -30,7 +30,7 @@ answered-requires : tie.Need-answered-requires
 answered-requires c κs = search needs
 
 returns : tie.Need-returns
-returns c = let a = c .before .before .before .before .args in sym (no-room (a .book .now) (a .k) _ (c .answered .ensures) (sized-by _ _ (sym (c .before .before .is-book-size .ensures) ∙ not-true _ (c .before .if1 .taken))))
+returns c = let a = c .before .before .before .before .args in sym (open-unsized (a .book .now) (a .k) _ (c .answered .ensures) (sized-by _ _ (sym (c .before .before .is-book-size .ensures) ∙ not-true _ (c .before .if1 .taken))))
 
 new-requires : tie.Need-new-requires
 new-requires c κs = search needs
