@@ -128,7 +128,7 @@ fn zeros_from(book: &[u16], at: usize) -> bool
 }
 
 // Whether the head says how many teachings are live and how many words are used, and the words past these are zero.
-fn head_agrees(book: &[u16], live: usize, used: usize) -> bool
+fn head_right(book: &[u16], live: usize, used: usize) -> bool
     requires { ⌜ head-words ≤ length (now book) ⌝ }
     ensures { λ r. ⌜ r ≡ headOf (now (book .entry)) live used ⌝ }
 {
@@ -174,7 +174,7 @@ pub fn in_form(book: &[u16]) -> BookForm
     else {
         return BookForm::Refused(numbers::NOT_IN_FORM);
     };
-    if !head_agrees(book, live, used) {
+    if !head_right(book, live, used) {
         return BookForm::Refused(numbers::NOT_IN_FORM);
     }
     BookForm::InForm(Places {

@@ -63,7 +63,9 @@ module _ (b : Book) (two : least-k ≤ b .k) where
 
   -- What is known of a subtree's part, by its depth.
   data Told (s : Tree) (known : Bool) : Type 0 where
+    -- A low one, by L.
     told-low : depth s ≤ b .k - 2 → has (words s) (b .L) ≡ known → isLow (b .k) s ≡ true → Told s known
+    -- A deeper one, by P.
     told-middle : b .k - 1 ≤ depth s → has (words (middle (b .k) s)) (b .P) ≡ known → isLow (b .k) s ≡ false → Told s known
 
   -- `knows` goes by the depth of the uncut subtree.
@@ -90,7 +92,9 @@ module _ (b : Book) (two : least-k ≤ b .k) where
 
   -- What the first unknown part of some subtrees is, the first of them on line i + 1.
   data First (i : ℕ) (ss : List Tree) (a : Answer) : Type 0 where
+    -- None is unknown.
     none : a ≡ answered done → ((j : ℕ) (s : Tree) → treeAt ss j ≡ found s → knows b s ≡ true) → First i ss a
+    -- That of the subtree at place j.
     some : (j : ℕ) (s : Tree) → a ≡ record { number = if isLow (b .k) s then low-unknown else middle-unknown; line = suc (i + j) } → treeAt ss j ≡ found s → knows b s ≡ false
         → ((m : ℕ) (u : Tree) → m < j → treeAt ss m ≡ found u → knows b u ≡ true) → First i ss a
 

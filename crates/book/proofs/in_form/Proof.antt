@@ -198,18 +198,18 @@ returns-6 c =
     let t = to-tops (to-lows m) in
     sym (no-section _ _ (head (to-k t)) Middles _ _ _ (at-middles m .next) (t .before .before .before .before .before .of-middles .ensures) (t .before .before .before .before .before .of-middles .ensures) _ (c .before .before .pass4 .ensures) (c .enum-told5 .given .1))
 
-head-agrees-requires : tie.Need-head-agrees-requires
-head-agrees-requires c κs = head (to-k (to-tops (to-lows (to-middles c)))) .long
+head-right-requires : tie.Need-head-right-requires
+head-right-requires c κs = head (to-k (to-tops (to-lows (to-middles c)))) .long
 
 returns-7 : tie.Need-returns-7
 returns-7 c =
     let e = c .before .before in
-    sym (no-head _ _ (head (to-k (to-tops (to-lows (to-middles e))))) _ _ _ _ _ (sections e) (sym (c .before .head-agrees .ensures) ∙ not-true _ (c .if2 .taken)))
+    sym (no-head _ _ (head (to-k (to-tops (to-lows (to-middles e))))) _ _ _ _ _ (sections e) (sym (c .before .head-right .ensures) ∙ not-true _ (c .if2 .taken)))
 
 returns-8 : tie.Need-returns-8
 returns-8 c =
     let e = c .before .before in
-    sym (in-form-at _ _ (head (to-k (to-tops (to-lows (to-middles e))))) _ _ _ _ _ (sections e) (sym (c .before .head-agrees .ensures) ∙ not-false _ (c .if2 .left)))
+    sym (in-form-at _ _ (head (to-k (to-tops (to-lows (to-middles e))))) _ _ _ _ _ (sections e) (sym (c .before .head-right .ensures) ∙ not-false _ (c .if2 .left)))
 
 pub in-form-spec : {M : Type 1} → statement M
 in-form-spec =
@@ -244,6 +244,6 @@ in-form-spec =
     enum-known-used
     enum-told-5
     returns-6
-    head-agrees-requires
+    head-right-requires
     returns-7
     returns-8)

@@ -1,10 +1,10 @@
--- `book::head_agrees` meets its contract: each test that led to a return decides one part of `headOf`. Assumes nothing.
+-- `book::head_right` meets its contract: each test that led to a return decides one part of `headOf`. Assumes nothing.
 use mathlib.Core.Path.{sym, _∙_}
 use native.Mathlib.Omega.{arith}
 use borrow.Author.Needs.{needs}
 use Rattle.book.proofs.Runs.{head-live, head-used, head-zeros}
-use Rattle.book.proofs.head_agrees.Statement.{statement}
-use Rattle.book.proofs.head_agrees.Tie as tie
+use Rattle.book.proofs.head_right.Statement.{statement}
+use Rattle.book.proofs.head_right.Tie as tie
 
 shared-slice-read-says-live : tie.Need-shared-slice-read-says-live
 shared-slice-read-says-live c = search needs
@@ -30,8 +30,8 @@ zeros-from-requires c κs = search needs
 returns-3 : tie.Need-returns-3
 returns-3 c = c .zeros-from .ensures ∙ sym (head-zeros _ _ _ (c .before .before .if1 .left) (c .before .if2 .left))
 
-pub head-agrees-spec : {M : Type 1} → statement M
-head-agrees-spec =
+pub head-right-spec : {M : Type 1} → statement M
+head-right-spec =
     tie.close
     (tie.spec
     shared-slice-read-says-live
