@@ -7,4 +7,5 @@ pub mod Heads
 pub mod Holding
 pub mod Openings
 pub mod Sound
+pub mod Taught
 pub mod Rows

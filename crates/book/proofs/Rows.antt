@@ -130,3 +130,8 @@ sums : (inForm (bookOf 2 (times 65534 single ∷ times 1 (node 2000 bare) ∷ []
     × (inForm (bookOf 2 (times 65534 single ∷ times 2 (node 2000 bare) ∷ [])) ≡ false)
 unfolding computes
 sums = (refl, refl)
+
+-- A part that occurs twice in an order counts once: 1(2,2) at k = 2, taught 3 times.
+once : bookOf 2 (times 3 (node 1 (cons (node 2 bare) (cons (node 2 bare) bare))) ∷ []) .L ≡ counted (2 ∷ 0 ∷ []) 3 ∷ []
+unfolding computes
+once = refl

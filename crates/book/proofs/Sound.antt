@@ -52,7 +52,7 @@ module _ (least greatest : ℕ) (e : Entry) where
 -- ---- sections
 
 -- In a sorted section each key is lower than the next.
-sorted-next : (xs ys : List Entry) (e f : Entry) → Sorted (xs ++ (e ∷ f ∷ ys)) → e .key ≺ f .key
+pub sorted-next : (xs ys : List Entry) (e f : Entry) → Sorted (xs ++ (e ∷ f ∷ ys)) → e .key ≺ f .key
 unfolding Sorted Below
 sorted-next [] ys e f s = s .1
 sorted-next (x ∷ xs) ys e f s = sorted-next xs ys e f (s .2)

@@ -1,13 +1,13 @@
 -- The book of the orders taught, and a book that agrees with itself (01, "The book"). Assumes nothing: these are definitions.
-use Prim.Native.Nat.{ℕ}
+use Prim.Native.Nat.{ℕ, _+_}
 use mathlib.Core.Bool.{Bool, true, false}
 use mathlib.Core.List.{List, [], _∷_}
 use lib.Dec.{eqb}
-use Rattle.words.specs.Base.{_and_, sameWords}
+use Rattle.words.specs.Base.{_and_, if_then_else_, sameWords}
 use Rattle.section.specs.Entries.{Entry, add}
 use Rattle.order.specs.Trees.{Tree, words}
 use Rattle.order.specs.Reading.{byFound, treeOf}
-use Rattle.order.specs.Parts.{top, lowParts, middleParts}
+use Rattle.order.specs.Parts.{top, sameTree, lowParts, middleParts}
 use Rattle.book.specs.Book.{Book}
 
 -- An order and how many of its teachings are live, at least 1.
@@ -38,6 +38,16 @@ taught n t b = record {
 unfoldable pub bookOf : ℕ → List Teaching → Book
 bookOf k [] = emptyBook k
 bookOf k (o ∷ os) = taught (o .times) (o .order) (bookOf k os)
+
+-- "the number of live teachings whose order has that part": those of the orders that pass the test
+unfoldable pub teachings : (Tree → Bool) → List Teaching → ℕ
+teachings test [] = 0
+teachings test (o ∷ os) = (if test (o .order) then o .times else 0) + teachings test os
+
+-- Some tree of the list is the same as u.
+unfoldable pub anyTree : Tree → List Tree → Bool
+anyTree u [] = false
+anyTree u (t ∷ ts) = if sameTree t u then true else anyTree u ts
 
 -- The teachings that a section T counts.
 unfoldable pub teachingsIn : List Entry → List Teaching

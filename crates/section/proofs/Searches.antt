@@ -1,17 +1,18 @@
--- What a search finds: whether some entry has the key, by the search's answer and by each of its turns. Assumes nothing.
+-- What a search finds: whether some entry has the key, by the search's answer and by each of its turns, and the place that it gives.
+-- Assumes nothing.
 use Prim.Native.Nat.{ℕ, _+_, _-_, _*_, _<_, _≤_}
-use mathlib.Core.Path.{_≡_, refl, _∙_}
+use mathlib.Core.Path.{_≡_, refl, ap, _∙_}
 use mathlib.Core.Bool.{true, false}
-use mathlib.Core.List.{List, [], _∷_}
+use mathlib.Core.List.{List, [], _∷_, _++_, List·Memᴰ·head as here, List·Memᴰ·tail as there, List·Memᴰ·not-nil}
 use native.Mathlib.Omega.{arith}
-use lib.ListN.{length, getD, take, drop}
-use Rattle.words.specs.Base.{if_then_else_}
-use Rattle.words.specs.Compare.{compareOf}
+use lib.ListN.{length, getD, take, drop, length-append}
+use Rattle.words.specs.Base.{if_then_else_, _∈_}
+use Rattle.words.specs.Compare.{compareOf, _≺_}
 use Rattle.words.specs.declared.Compared.{Compared}
 use Rattle.words.specs.declared.Compared.the-variants.{Lower, Equal, Higher}
 use Rattle.words.proofs.Ordered.{compare-equal, compare-flip}
 use Rattle.words.proofs.Tests.{same-words}
-use Rattle.section.specs.Entries.{Entry, entries, has, look, Below, Sorted}
+use Rattle.section.specs.Entries.{Entry, sectionWords, entries, has, byCompared, look, Below, Sorted}
 use Rattle.section.specs.declared.Found.the-variants.{At, Absent}
 use Rattle.section.proofs.Words.{entries-at}
 use Rattle.section.proofs.Counts.{lower-differs, below-lacks}
@@ -56,6 +57,87 @@ look-lacks key at p (e ∷ es) s h = go (compareOf (e .key) key) refl (look-lack
     go Lower c later = has-lower e es key c ∙ later (rw c at h)
     go Equal c later = let q : At at ≡ Absent p = rw c at h in absurd (let z : _≡_ {A = ℕ} 0 1 = cc in omega arith)
     go Higher c later = has-higher e es key s c
+
+-- ---- the place that a search gives
+
+-- The key's entry stands at p, between the entries before it and those after it, if the first entry stands at word `at`.
+pub record Here (key : List ℕ) (at p : ℕ) (es : List Entry) : Type 0 where
+  pub front : List Entry
+  pub this : Entry
+  pub back : List Entry
+  pub is : es ≡ front ++ (this ∷ back)
+  pub same : this .key ≡ key
+  pub place : p ≡ at + length (sectionWords front)
+
+-- The key's entry would stand at p, between the entries with lower keys and the others, if the first entry stands at word `at`.
+pub record Gap (key : List ℕ) (at p : ℕ) (es : List Entry) : Type 0 where
+  pub front : List Entry
+  pub back : List Entry
+  pub is : es ≡ front ++ back
+  pub place : p ≡ at + length (sectionWords front)
+  pub below : (e : Entry) → e ∈ front → e .key ≺ key
+  pub above : Below key back
+
+-- A key found has its entry at the place.
+pub look-here : (key : List ℕ) (at p : ℕ) (es : List Entry) → look key at es ≡ At p → Here key at p es
+unfolding look sectionWords
+look-here key at p [] h = absurd (let z : _≡_ {A = ℕ} 0 1 = cc in omega arith)
+look-here key at p (e ∷ es) h = go (compareOf (e .key) key) refl h (look-here key (at + (2 + length (e .key))) p es)
+  where
+    go : (o : Compared) → compareOf (e .key) key ≡ o → byCompared o (look key (at + (2 + length (e .key))) es) (At at) (Absent at) ≡ At p
+        → (look key (at + (2 + length (e .key))) es ≡ At p → Here key (at + (2 + length (e .key))) p es) → Here key at p (e ∷ es)
+    go Lower c q later =
+        let i = later q in
+        record {
+          front = e ∷ i .front;
+          this = i .this;
+          back = i .back;
+          is = ap (λ (l : List Entry). e ∷ l) (i .is);
+          same = i .same;
+          place = simp length-append (omega (arith, i .place));
+        }
+    go Equal c q later = record {
+      front = [];
+      this = e;
+      back = es;
+      is = refl;
+      same = compare-equal (e .key) key c;
+      place = let z : at ≡ p = cc in omega arith;
+    }
+    go Higher c q later = absurd (let z : _≡_ {A = ℕ} 0 1 = cc in omega arith)
+
+-- A key not found would have its entry at the place.
+pub look-gap : (key : List ℕ) (at p : ℕ) (es : List Entry) → look key at es ≡ Absent p → Gap key at p es
+unfolding look sectionWords Below
+look-gap key at p [] h =
+    record { front = []; back = []; is = refl; place = let z : at ≡ p = cc in omega arith; below = λ e m. absurd (List·Memᴰ·not-nil m); above = tt }
+look-gap key at p (e ∷ es) h = go (compareOf (e .key) key) refl h (look-gap key (at + (2 + length (e .key))) p es)
+  where
+    first : (r : List Entry) → compareOf (e .key) key ≡ Lower → ((f : Entry) → f ∈ r → f .key ≺ key) → (f : Entry) → f ∈ e ∷ r → f .key ≺ key
+    first r c later f (here q) = rw q c
+    first r c later f (there m) = later f m
+
+    go : (o : Compared) → compareOf (e .key) key ≡ o → byCompared o (look key (at + (2 + length (e .key))) es) (At at) (Absent at) ≡ Absent p
+        → (look key (at + (2 + length (e .key))) es ≡ Absent p → Gap key (at + (2 + length (e .key))) p es) → Gap key at p (e ∷ es)
+    go Lower c q later =
+        let i = later q in
+        record {
+          front = e ∷ i .front;
+          back = i .back;
+          is = ap (λ (l : List Entry). e ∷ l) (i .is);
+          place = simp length-append (omega (arith, i .place));
+          below = first (i .front) c (i .below);
+          above = i .above;
+        }
+    go Equal c q later = absurd (let z : _≡_ {A = ℕ} 0 1 = cc in omega arith)
+    go Higher c q later = record {
+      front = [];
+      back = e ∷ es;
+      is = refl;
+      place = let z : at ≡ p = cc in omega arith;
+      below = λ f m. absurd (List·Memᴰ·not-nil m);
+      above = compare-flip (e .key) key ∙ rw c;
+    }
 
 -- ---- the turns of a search over words
 
