@@ -19,7 +19,7 @@ use Rattle.book.specs.declared.Places.{Places}
 use Rattle.book.specs.declared.BookForm.the-variants.{Refused, InForm}
 use Rattle.book.proofs.Passing.{placesIn, section-in}
 use Rattle.book.proofs.Meaning.{form-proper, formed-passed, is-places, is-used, is-laid, is-formed, used-fits}
-use Rattle.book.proofs.Heads.{on-unsized, on-unformed, on-formed, form-unsized, form-unformed, form-formed, section-end, end-of}
+use Rattle.book.proofs.Heads.{on-unsized, on-unformed, form-unsized, form-unformed, form-formed, section-end, end-of}
 
 -- ---- ascending entries
 
@@ -114,11 +114,7 @@ module _ (ws : List ℕ) where
       let q : placesIn ws ≡ p = sym (is-places ws (formed-passed ws (t .1))) ∙ told-places (sym (form-formed ws (t .0) (t .1)) ∙ e) in
       rw (← q) (holding ws (t .0) (t .1))
 
-  -- Where the words are a book in form a call goes by the book.
-  pub on-book : (p : Places) → bookFormOf ws ≡ InForm p → {A : Type 0} (r : ℕ → A) (f : Book → A) → onBook r ws f ≡ f (bookIn ws)
-  on-book p e r f = let t = told-both p e in on-formed r ws f (t .0) (t .1)
-
-  -- Where they are refused it refuses by the same number.
+  -- Where the words are refused a call refuses by the same number.
   pub refused-book : (n : ℕ) → bookFormOf ws ≡ Refused n → {A : Type 0} (r : ℕ → A) (f : Book → A) → onBook r ws f ≡ r n
   refused-book n e r f = go (sized ws) refl (formed ws) refl
     where

@@ -219,7 +219,7 @@ module _ (k : ℕ) (os : List Teaching) where
               let f = taught-fits k os fits s e m in
               record {
                 some = sorted-some _ sorted e m;
-                few = omega (arith, entry-count (words (f .tree)) sorted m (f .spelt), count-live s (f .tree));
+                few = omega (arith, entry-count (words (f .tree)) sorted m (f .isOrder .spelt), count-live s (f .tree));
                 tree = f;
               };
           ascends = λ xs ys e g q. sorted-next xs ys e g (rw q at sorted);

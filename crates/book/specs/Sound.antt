@@ -43,7 +43,7 @@ pub record IsBook (ws : List ℕ) (b : Book) : Type 0 where
   pub sound : SoundBook b
   pub laid : lay (length ws) b ≡ ws
 
--- WhyForm a look at words gives f: the rows for 4 and 5 of 01's table, and where the sections of a book start.
+-- Why a look at words gives f: the rows for 4 and 5 of 01's table, and where the sections of a book start.
 pub data WhyForm (ws : List ℕ) (f : BookForm) : Type 0 where
   -- 4: "book slice shorter than 7"
   shorter : f ≡ Refused book-size → length ws < head-words → WhyForm ws f

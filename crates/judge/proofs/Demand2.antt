@@ -8,56 +8,29 @@ use Rattle.figures.specs.Numbers.{done, too-large, book-size, not-in-form, top-
 use Rattle.figures.specs.Answers.{answered}
 use Rattle.figures.specs.declared.Answer.{Answer}
 use Rattle.order.specs.Trees.{Tree}
-use Rattle.order.specs.Reading.{order, byOrder, orderOf, causeOf}
+use Rattle.order.specs.Reading.{causeOf}
 use Rattle.order.specs.Causes.{Cause, empty, odd, long, no-tree, deep, none}
-use Rattle.order.proofs.Orders.{tree-passes}
-use Rattle.order.proofs.Causes.{cause-only, cause-is, Passed, Seen, stopped, passed, seen, refused-by}
+use Rattle.order.proofs.Fitting.{passed-order, order-read}
+use Rattle.order.proofs.Causes.{cause-only, cause-is, Seen, stopped, passed, seen}
 use Rattle.book.specs.Book.{Book}
 use Rattle.book.specs.Decoding.{bookFormOf}
 use Rattle.book.specs.Sound.{IsBook, WhyForm, shorter, longer, formless, book}
 use Rattle.book.specs.declared.BookForm.the-variants.{Refused}
-use Rattle.book.proofs.Sound.{on-any, why-is, why-only}
+use Rattle.book.proofs.Sound.{why-is, why-only}
 use Rattle.judge.specs.Judging.{verdict, judgeOf}
-use Rattle.judge.specs.Verdicts.{IsOrder, Passes, Reached, PassesBy, TopUnknown, LowUnknown, MiddleUnknown, Verdict, passing, no-top, no-low, no-middle, Judged, no-book, no-order, judged}
-use Rattle.judge.proofs.Judgements.{judge-unheld}
+use Rattle.judge.specs.Verdicts.{Passes, Reached, Lent, PassesBy, TopUnknown, LowUnknown, MiddleUnknown, Verdict, passing, no-top, no-low, no-middle, Judged, no-book, no-order, judged}
+use Rattle.judge.proofs.Judgements.{by-cause, by-verdict, judge-unheld}
 use Rattle.judge.proofs.Verdicts.{verdict-is, verdict-one}
 
--- ---- the order
-
--- Words that are read as an order are one within limits.
-passed-order : (os : List ℕ) (t : Tree) → Passed os t → IsOrder os t
-passed-order os t p = record { spelt = p .spelt; good = p .good; nodes = p .nodes; deep = p .deep }
-
--- And the other way round.
-order-read : (os : List ℕ) (t : Tree) → IsOrder os t → orderOf os ≡ order t
-order-read os t o = ap orderOf (o .spelt) ∙ tree-passes t (o .good) (o .nodes) (o .deep)
-
--- ---- the book
-
 module _ (ws os : List ℕ) where
-  -- A book judges the order.
-  by-book : (b : Book) → IsBook ws b → judgeOf ws os ≡ byOrder (orderOf os) answered (verdict b)
-  unfolding judgeOf
-  by-book b i = on-any ws b i answered (λ c. byOrder (orderOf os) answered (verdict c))
-
-  -- An order with a cause of 1 or 2 is answered by it.
-  by-cause : (b : Book) → IsBook ws b → (causeOf os ≡ done → ⊥) → judgeOf ws os ≡ answered (causeOf os)
-  unfolding byOrder
-  by-cause b i n = by-book b i ∙ rw (refused-by os n)
-
-  -- Any other is answered by the verdict.
-  by-verdict : (b : Book) (t : Tree) → IsBook ws b → orderOf os ≡ order t → judgeOf ws os ≡ verdict b t
-  unfolding byOrder
-  by-verdict b t i e = by-book b i ∙ rw e
-
   -- Judging answers by a row of 01's table.
   pub judged-is : Judged ws os (judgeOf ws os)
   judged-is = go (why-is ws)
     where
       ordered : (b : Book) → IsBook ws b → Seen os → Judged ws os (judgeOf ws os)
-      ordered b i (stopped h r) = no-order b (causeOf os) (by-cause b i h) i (cause-is os) h
+      ordered b i (stopped h r) = no-order b (causeOf os) (by-cause ws os b i h) i (cause-is os) h
       ordered b i (passed t h p) =
-          judged b t i (passed-order os t p) (subst (Verdict b t) (sym (by-verdict b t i (p .is))) (verdict-is b (i .sound .least) t))
+          judged b t i (passed-order os t p) (subst (Verdict b t) (sym (by-verdict ws os b i t (p .is))) (verdict-is b (i .sound .least) t))
 
       go : WhyForm ws (bookFormOf ws) → Judged ws os (judgeOf ws os)
       go (shorter r l) = no-book book-size (judge-unheld ws os book-size r) (shorter refl l)
@@ -70,9 +43,9 @@ module _ (ws os : List ℕ) where
   judged-only a (no-book n e w) = judge-unheld ws os n (why-only ws (Refused n) w) ∙ sym e
   judged-only a (no-order b n e i c x) =
       let q : causeOf os ≡ n = cause-only os n c in
-      by-cause b i (λ z. x (sym q ∙ z)) ∙ ap answered q ∙ sym e
+      by-cause ws os b i (λ z. x (sym q ∙ z)) ∙ ap answered q ∙ sym e
   judged-only a (judged b t i o v) =
-      by-verdict b t i (order-read os t o) ∙ verdict-one b (i .sound .least) t (verdict b t) a (verdict-is b (i .sound .least) t) v
+      by-verdict ws os b i t (order-read os t o) ∙ verdict-one b (i .sound .least) t (verdict b t) a (verdict-is b (i .sound .least) t) v
 
   -- ---- passing
 
@@ -90,6 +63,10 @@ module _ (ws os : List ℕ) where
   verdict-0 b t a (no-low l s e r d n) f = absurd (omega (arith, ap (λ (x : Answer). x .number) e))
   verdict-0 b t a (no-middle l s e r d n) f = absurd (omega (arith, ap (λ (x : Answer). x .number) e))
 
+  -- The row of a verdict.
+  row : {a : Answer} (l : Lent ws os) → Verdict (l .book) (l .tree) a → Judged ws os a
+  row l v = judged (l .book) (l .tree) (l .isBook) (l .isOrder) v
+
   -- "An order passes exactly when": what is answered by 0 passes,
   pub answered-passes : judgeOf ws os .number ≡ done → PassesBy ws os
   answered-passes e = go (judged-is)
@@ -97,11 +74,11 @@ module _ (ws os : List ℕ) where
       go : Judged ws os (judgeOf ws os) → PassesBy ws os
       go (no-book n f w) = absurd (refusal-not-0 n w (sym (ap (λ (x : Answer). x .number) f) ∙ e))
       go (no-order b n f i c x) = absurd (x (sym (ap (λ (x : Answer). x .number) f) ∙ e))
-      go (judged b t i o v) = record { book = b; tree = t; isBook = i; isOrder = o; passes = verdict-0 b t _ v e }
+      go (judged b t i o v) = record { lent = record { book = b; tree = t; isBook = i; isOrder = o }; passes = verdict-0 b t _ v e }
 
   -- and what passes is answered by 0 with line 0.
   pub passes-answered : PassesBy ws os → judgeOf ws os ≡ answered done
-  passes-answered p = judged-only (answered done) (judged (p .book) (p .tree) (p .isBook) (p .isOrder) (passing refl (p .passes)))
+  passes-answered p = judged-only (answered done) (row (p .lent) (passing refl (p .passes)))
 
   -- ---- the verdicts 20, 21 and 22
 
@@ -126,56 +103,56 @@ module _ (ws os : List ℕ) where
   numbered e = ap (λ (x : Answer). x .number) e
 
   -- An answer of 20 or more is a verdict.
-  verdict-row : top-unknown ≤ judgeOf ws os .number → (b : Book) × (t : Tree) × IsBook ws b × IsOrder os t × Verdict b t (judgeOf ws os)
+  verdict-row : top-unknown ≤ judgeOf ws os .number → (l : Lent ws os) × Verdict (l .book) (l .tree) (judgeOf ws os)
   verdict-row h = go judged-is
     where
-      go : Judged ws os (judgeOf ws os) → (b : Book) × (t : Tree) × IsBook ws b × IsOrder os t × Verdict b t (judgeOf ws os)
+      go : Judged ws os (judgeOf ws os) → (l : Lent ws os) × Verdict (l .book) (l .tree) (judgeOf ws os)
       go (no-book n f w) = absurd (omega (arith, numbered f, refusal-small n w))
       go (no-order b n f i c x) = absurd (omega (arith, numbered f, cause-small n c))
-      go (judged b t i o v) = (b, t, i, o, v)
+      go (judged b t i o v) = (record { book = b; tree = t; isBook = i; isOrder = o }, v)
 
   -- What is answered by 20 has an unknown top,
   pub answered-top : judgeOf ws os .number ≡ top-unknown → TopUnknown ws os (judgeOf ws os .line)
-  answered-top e = let x = verdict-row (omega arith) in go (x .0) (x .1) (x .2) (x .3) (x .4)
+  answered-top e = let x = verdict-row (omega arith) in go (x .0) (x .1)
     where
-      go : (b : Book) (t : Tree) → IsBook ws b → IsOrder os t → Verdict b t (judgeOf ws os) → TopUnknown ws os (judgeOf ws os .line)
-      go b t i o (passing f p) = absurd (omega (arith, numbered f))
-      go b t i o (no-top f n) = record { book = b; tree = t; isBook = i; isOrder = o; first = ap (λ (x : Answer). x .line) f; unknown = n }
-      go b t i o (no-low l s f r d n) = absurd (omega (arith, numbered f))
-      go b t i o (no-middle l s f r d n) = absurd (omega (arith, numbered f))
+      go : (x : Lent ws os) → Verdict (x .book) (x .tree) (judgeOf ws os) → TopUnknown ws os (judgeOf ws os .line)
+      go x (passing f p) = absurd (omega (arith, numbered f))
+      go x (no-top f n) = record { lent = x; first = ap (λ (c : Answer). c .line) f; unknown = n }
+      go x (no-low l s f r d n) = absurd (omega (arith, numbered f))
+      go x (no-middle l s f r d n) = absurd (omega (arith, numbered f))
 
   -- and an order with an unknown top is answered by 20 with line 1.
   pub top-answered : (line : ℕ) → TopUnknown ws os line → judgeOf ws os ≡ record { number = top-unknown; line = line }
-  top-answered line x = judged-only _ (judged (x .book) (x .tree) (x .isBook) (x .isOrder) (no-top (ap (λ (l : ℕ). record { number = top-unknown; line = l }) (x .first)) (x .unknown)))
+  top-answered line x = judged-only _ (row (x .lent) (no-top (ap (λ (l : ℕ). record { number = top-unknown; line = l }) (x .first)) (x .unknown)))
 
   -- What is answered by 21 has its first unknown part at the line, a low one,
   pub answered-low : judgeOf ws os .number ≡ low-unknown → LowUnknown ws os (judgeOf ws os .line)
-  answered-low e = let x = verdict-row (omega arith) in go (x .0) (x .1) (x .2) (x .3) (x .4)
+  answered-low e = let x = verdict-row (omega arith) in go (x .0) (x .1)
     where
-      go : (b : Book) (t : Tree) → IsBook ws b → IsOrder os t → Verdict b t (judgeOf ws os) → LowUnknown ws os (judgeOf ws os .line)
-      go b t i o (passing f p) = absurd (omega (arith, numbered f))
-      go b t i o (no-top f n) = absurd (omega (arith, numbered f))
-      go b t i o (no-low l s f r d n) =
-          let z : l ≡ judgeOf ws os .line = sym (ap (λ (x : Answer). x .line) f) in
-          record { book = b; tree = t; isBook = i; isOrder = o; subtree = s; reached = subst (λ (m : ℕ). Reached b t m s) z r; low = d; unknown = n }
-      go b t i o (no-middle l s f r d n) = absurd (omega (arith, numbered f))
+      go : (x : Lent ws os) → Verdict (x .book) (x .tree) (judgeOf ws os) → LowUnknown ws os (judgeOf ws os .line)
+      go x (passing f p) = absurd (omega (arith, numbered f))
+      go x (no-top f n) = absurd (omega (arith, numbered f))
+      go x (no-low l s f r d n) =
+          let z : l ≡ judgeOf ws os .line = sym (ap (λ (c : Answer). c .line) f) in
+          record { lent = x; subtree = s; reached = subst (λ (m : ℕ). Reached (x .book) (x .tree) m s) z r; low = d; unknown = n }
+      go x (no-middle l s f r d n) = absurd (omega (arith, numbered f))
 
   -- and such an order is answered by 21 with that line.
   pub low-answered : (line : ℕ) → LowUnknown ws os line → judgeOf ws os ≡ record { number = low-unknown; line = line }
-  low-answered line x = judged-only _ (judged (x .book) (x .tree) (x .isBook) (x .isOrder) (no-low line (x .subtree) refl (x .reached) (x .low) (x .unknown)))
+  low-answered line x = judged-only _ (row (x .lent) (no-low line (x .subtree) refl (x .reached) (x .low) (x .unknown)))
 
   -- What is answered by 22 has its first unknown part at the line, a middle one,
   pub answered-middle : judgeOf ws os .number ≡ middle-unknown → MiddleUnknown ws os (judgeOf ws os .line)
-  answered-middle e = let x = verdict-row (omega arith) in go (x .0) (x .1) (x .2) (x .3) (x .4)
+  answered-middle e = let x = verdict-row (omega arith) in go (x .0) (x .1)
     where
-      go : (b : Book) (t : Tree) → IsBook ws b → IsOrder os t → Verdict b t (judgeOf ws os) → MiddleUnknown ws os (judgeOf ws os .line)
-      go b t i o (passing f p) = absurd (omega (arith, numbered f))
-      go b t i o (no-top f n) = absurd (omega (arith, numbered f))
-      go b t i o (no-low l s f r d n) = absurd (omega (arith, numbered f))
-      go b t i o (no-middle l s f r d n) =
-          let z : l ≡ judgeOf ws os .line = sym (ap (λ (x : Answer). x .line) f) in
-          record { book = b; tree = t; isBook = i; isOrder = o; subtree = s; reached = subst (λ (m : ℕ). Reached b t m s) z r; deep = d; unknown = n }
+      go : (x : Lent ws os) → Verdict (x .book) (x .tree) (judgeOf ws os) → MiddleUnknown ws os (judgeOf ws os .line)
+      go x (passing f p) = absurd (omega (arith, numbered f))
+      go x (no-top f n) = absurd (omega (arith, numbered f))
+      go x (no-low l s f r d n) = absurd (omega (arith, numbered f))
+      go x (no-middle l s f r d n) =
+          let z : l ≡ judgeOf ws os .line = sym (ap (λ (c : Answer). c .line) f) in
+          record { lent = x; subtree = s; reached = subst (λ (m : ℕ). Reached (x .book) (x .tree) m s) z r; deep = d; unknown = n }
 
   -- and such an order is answered by 22 with that line.
   pub middle-answered : (line : ℕ) → MiddleUnknown ws os line → judgeOf ws os ≡ record { number = middle-unknown; line = line }
-  middle-answered line x = judged-only _ (judged (x .book) (x .tree) (x .isBook) (x .isOrder) (no-middle line (x .subtree) refl (x .reached) (x .deep) (x .unknown)))
+  middle-answered line x = judged-only _ (row (x .lent) (no-middle line (x .subtree) refl (x .reached) (x .deep) (x .unknown)))

@@ -11,7 +11,7 @@ use Rattle.figures.specs.Numbers.{done, top-unknown, low-unknown, middle-unknow
 use Rattle.figures.specs.Answers.{answered}
 use Rattle.figures.specs.declared.Answer.{Answer}
 use Rattle.order.specs.Trees.{Tree, subtrees}
-use Rattle.order.specs.Reading.{byOrder, orderOf, causeOf}
+use Rattle.order.specs.Reading.{order, byOrder, orderOf, causeOf}
 use Rattle.order.specs.Parts.{isLow}
 use Rattle.order.specs.Walks.{partAtOf}
 use Rattle.order.specs.Answers.{checkOf}
@@ -20,11 +20,12 @@ use Rattle.order.specs.declared.PartAt.the-variants.{NoPart, LowTo, MiddleTo}
 use Rattle.order.proofs.Causes.{Passed, has-tree, refused-by}
 use Rattle.order.proofs.Lines.{line-spot, tree-next}
 use Rattle.book.specs.Book.{Book}
-use Rattle.book.specs.Decoding.{bookIn, byBook, onBook, bookFormOf}
+use Rattle.book.specs.Decoding.{bookIn, bookFormOf}
 use Rattle.book.specs.Holding.{Holds}
+use Rattle.book.specs.Sound.{IsBook}
 use Rattle.book.specs.declared.Places.{Places}
 use Rattle.book.specs.declared.BookForm.the-variants.{Refused}
-use Rattle.book.proofs.Heads.{is-sized}
+use Rattle.book.proofs.Sound.{decode-book, on-any}
 use Rattle.book.proofs.Holding.{refused-book}
 use Rattle.judge.specs.Judging.{knows, firstUnknown, verdict, judgeOf}
 use Rattle.judge.specs.Seeking.{unknownLine, topKnown, lineUnknown, unknownNumber, lineAnswer}
@@ -89,22 +90,37 @@ pub cause-told : (os : List ℕ) (a : Answer) → a ≡ checkOf os → a .number
 unfolding checkOf
 cause-told os a e = ap (λ (x : Answer). x .number) e
 
-module _ (ws os : List ℕ) (p : Places) (H : Holds ws p) where
+module _ (ws os : List ℕ) (b : Book) (i : IsBook ws b) where
   -- The book judges.
-  judge-held : judgeOf ws os ≡ byOrder (orderOf os) answered (verdict (bookIn ws))
-  unfolding judgeOf onBook byBook if_then_else_
-  judge-held = rw (is-sized ws (H .long) (H .short), H .decoded)
+  by-book : judgeOf ws os ≡ byOrder (orderOf os) answered (verdict b)
+  unfolding judgeOf
+  by-book = on-any ws b i answered (λ c. byOrder (orderOf os) answered (verdict c))
+
+  -- An order with a cause of 1 or 2 is answered by it.
+  pub by-cause : (causeOf os ≡ done → ⊥) → judgeOf ws os ≡ answered (causeOf os)
+  unfolding byOrder
+  by-cause n = by-book ∙ rw (refused-by os n)
+
+  -- Any other is answered by the verdict.
+  pub by-verdict : (t : Tree) → orderOf os ≡ order t → judgeOf ws os ≡ verdict b t
+  unfolding byOrder
+  by-verdict t e = by-book ∙ rw e
+
+module _ (ws os : List ℕ) (p : Places) (H : Holds ws p) where
+  -- The words are the book's.
+  held-book : IsBook ws (bookIn ws)
+  held-book = decode-book ws (bookIn ws) (H .long) (H .short) (H .decoded)
 
   -- An order with a cause of 1 or 2 is answered by it.
   pub judge-refused : (causeOf os ≡ done → ⊥) → judgeOf ws os ≡ checkOf os
-  unfolding byOrder checkOf
-  judge-refused n = judge-held ∙ rw (refused-by os n)
+  unfolding checkOf
+  judge-refused n = by-cause ws os (bookIn ws) held-book n
 
   module _ (e : causeOf os ≡ done) where
     -- The order's tree is judged.
     judge-tree : (t : Tree) → Passed os t → judgeOf ws os ≡ (if topKnown (bookIn ws) os then firstUnknown (bookIn ws) 1 (subtrees t) else record { number = top-unknown; line = 1 })
     unfolding byOrder verdict topKnown
-    judge-tree t q = judge-held ∙ rw (q .is)
+    judge-tree t q = by-verdict ws os (bookIn ws) held-book t (q .is) ∙ rw (q .is)
 
     -- "20 with line 1 if the top is unknown"
     pub judge-top : topKnown (bookIn ws) os ≡ false → judgeOf ws os ≡ record { number = top-unknown; line = 1 }

@@ -23,12 +23,12 @@ use Rattle.judge.specs.Seeking.{Seeks}
 use Rattle.judge.proofs.Spots.{LineAt, short-order, part-told, spot-within, spot-words}
 
 -- The part of a low subtree is the subtree.
-pub low-tree : (k : ℕ) (s : Tree) → isLow k s ≡ true → partOf k s .tree ≡ s
+low-tree : (k : ℕ) (s : Tree) → isLow k s ≡ true → partOf k s .tree ≡ s
 unfolding partOf if_then_else_
 low-tree k s e = rw e
 
 -- The part of any other subtree is its cut.
-pub middle-tree : (k : ℕ) (s : Tree) → isLow k s ≡ false → partOf k s .tree ≡ middle k s
+middle-tree : (k : ℕ) (s : Tree) → isLow k s ≡ false → partOf k s .tree ≡ middle k s
 unfolding partOf if_then_else_
 middle-tree k s e = rw e
 

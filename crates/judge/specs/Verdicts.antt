@@ -3,28 +3,20 @@
 use Prim.Native.Nat.{ℕ, _-_, _≤_, _<_}
 use mathlib.Core.Path.{_≡_}
 use mathlib.Core.List.{List}
-use lib.ListN.{length}
 use Rattle.words.specs.Base.{_∈_}
-use Rattle.figures.specs.Limits.{most-nodes, greatest-depth}
 use Rattle.figures.specs.Numbers.{done, top-unknown, low-unknown, middle-unknown}
 use Rattle.figures.specs.Answers.{answered}
 use Rattle.figures.specs.declared.Answer.{Answer}
 use Rattle.section.specs.Entries.{Entry}
-use Rattle.order.specs.Trees.{Tree, words, depth, Good, subtrees}
+use Rattle.order.specs.Trees.{Tree, words, depth, subtrees}
 use Rattle.order.specs.Reading.{found}
 use Rattle.order.specs.Causes.{Cause}
+use Rattle.order.specs.Fits.{IsOrder}
 use Rattle.order.specs.Answers.{lineOf}
 use Rattle.order.specs.Paper.{IsR, IsL, IsP}
 use Rattle.book.specs.Book.{Book}
 use Rattle.book.specs.Sound.{IsBook, WhyForm}
 use Rattle.book.specs.declared.BookForm.the-variants.{Refused}
-
--- The words are those of an order within limits.
-pub record IsOrder (os : List ℕ) (t : Tree) : Type 0 where
-  pub spelt : os ≡ words t
-  pub good : Good t
-  pub nodes : length (subtrees t) ≤ most-nodes
-  pub deep : depth t ≤ greatest-depth
 
 -- A tree is in a section: some entry has its words.
 pub record In (es : List Entry) (t : Tree) : Type 0 where
@@ -49,7 +41,7 @@ pub record Reached (b : Book) (t : Tree) (line : ℕ) (s : Tree) : Type 0 where
   pub on : lineOf line (subtrees t) ≡ found s
   pub earlier : (j : ℕ) (u : Tree) → j < line → lineOf j (subtrees t) ≡ found u → Known b u
 
--- WhyForm a book answers an order by a.
+-- Why a book answers an order by a.
 pub data Verdict (b : Book) (t : Tree) (a : Answer) : Type 0 where
   -- 0: "passes"
   passing : a ≡ answered done → Passes b t → Verdict b t a
@@ -60,7 +52,7 @@ pub data Verdict (b : Book) (t : Tree) (a : Answer) : Type 0 where
   -- 22: "middle part unknown", at that line
   no-middle : (line : ℕ) (s : Tree) → a ≡ record { number = middle-unknown; line = line } → Reached b t line s → b .k - 1 ≤ depth s → ((u : Tree) → IsR (b .k) s u → In (b .P) u → ⊥) → Verdict b t a
 
--- WhyForm judging answers a: "Judge: 4, 5, 1, 2, verdict."
+-- Why judging answers a: "Judge: 4, 5, 1, 2, verdict."
 pub data Judged (ws os : List ℕ) (a : Answer) : Type 0 where
   -- 4 and 5, by the book alone
   no-book : (n : ℕ) → a ≡ answered n → WhyForm ws (Refused n) → Judged ws os a
@@ -69,41 +61,36 @@ pub data Judged (ws os : List ℕ) (a : Answer) : Type 0 where
   -- the verdict
   judged : (b : Book) (t : Tree) → IsBook ws b → IsOrder os t → Verdict b t a → Judged ws os a
 
--- The slice is a book in form, the words are an order within limits, and the order passes by the book.
-pub record PassesBy (ws os : List ℕ) : Type 0 where
+-- What was lent is a book in form and an order within limits.
+pub record Lent (ws os : List ℕ) : Type 0 where
   pub book : Book
   pub tree : Tree
   pub isBook : IsBook ws book
   pub isOrder : IsOrder os tree
-  pub passes : Passes book tree
+
+-- What 0 says: the order passes by the book.
+pub record PassesBy (ws os : List ℕ) : Type 0 where
+  pub lent : Lent ws os
+  pub passes : Passes (lent .book) (lent .tree)
 
 -- What 20 with a line says: the line is 1, and the order's top is not in R.
 pub record TopUnknown (ws os : List ℕ) (line : ℕ) : Type 0 where
-  pub book : Book
-  pub tree : Tree
-  pub isBook : IsBook ws book
-  pub isOrder : IsOrder os tree
+  pub lent : Lent ws os
   pub first : line ≡ 1
-  pub unknown : (u : Tree) → IsR (book .k - 1) tree u → In (book .R) u → ⊥
+  pub unknown : (u : Tree) → IsR (lent .book .k - 1) (lent .tree) u → In (lent .book .R) u → ⊥
 
 -- What 21 with a line says: it is the first line whose part is unknown, and its subtree is low and not in L.
 pub record LowUnknown (ws os : List ℕ) (line : ℕ) : Type 0 where
-  pub book : Book
-  pub tree : Tree
-  pub isBook : IsBook ws book
-  pub isOrder : IsOrder os tree
+  pub lent : Lent ws os
   pub subtree : Tree
-  pub reached : Reached book tree line subtree
-  pub low : depth subtree ≤ book .k - 2
-  pub unknown : In (book .L) subtree → ⊥
+  pub reached : Reached (lent .book) (lent .tree) line subtree
+  pub low : depth subtree ≤ lent .book .k - 2
+  pub unknown : In (lent .book .L) subtree → ⊥
 
 -- What 22 with a line says: it is the first line whose part is unknown, and its subtree is deeper and its r of index k not in P.
 pub record MiddleUnknown (ws os : List ℕ) (line : ℕ) : Type 0 where
-  pub book : Book
-  pub tree : Tree
-  pub isBook : IsBook ws book
-  pub isOrder : IsOrder os tree
+  pub lent : Lent ws os
   pub subtree : Tree
-  pub reached : Reached book tree line subtree
-  pub deep : book .k - 1 ≤ depth subtree
-  pub unknown : (u : Tree) → IsR (book .k) subtree u → In (book .P) u → ⊥
+  pub reached : Reached (lent .book) (lent .tree) line subtree
+  pub deep : lent .book .k - 1 ≤ depth subtree
+  pub unknown : (u : Tree) → IsR (lent .book .k) subtree u → In (lent .book .P) u → ⊥

@@ -16,7 +16,7 @@ use Rattle.figures.specs.Limits.{most-nodes, most-words, greatest-depth}
 use Rattle.order.specs.Trees.{Tree, node, words, depth, cut, subtrees}
 use Rattle.order.specs.Reading.{missing, found, treeOf, order, byOrder, orderOf}
 use Rattle.order.specs.Parts.{top, isLow, lows, middle, isMiddle, middles, lowParts, middleParts}
-use Rattle.order.specs.Fits.{fitsOf, Fits}
+use Rattle.order.specs.Fits.{fitsOf, IsOrder, Fits}
 use Rattle.order.proofs.Reading.{not-found}
 use Rattle.order.proofs.Unique.{words-unique}
 use Rattle.order.proofs.Once.{kept-in, once-from}
@@ -86,13 +86,17 @@ module _ (least greatest h : ℕ) (s : List ℕ) (short : length s ≤ most-word
   unfolding _and_
   fits-high d l = fits-found d ∙ rw (le-leb least h l)
 
--- ---- what it means to fit
+-- ---- what it means to be an order, and to fit
+
+-- Words that are read as an order are one within limits.
+pub passed-order : (ws : List ℕ) (t : Tree) → Passed ws t → IsOrder ws t
+passed-order ws t p = record { spelt = p .spelt; good = p .good; nodes = p .nodes; deep = p .deep }
+
+-- And the other way round.
+pub order-read : (ws : List ℕ) (t : Tree) → IsOrder ws t → orderOf ws ≡ order t
+order-read ws t o = ap orderOf (o .spelt) ∙ tree-passes t (o .good) (o .nodes) (o .deep)
 
 module _ (least greatest : ℕ) (ws : List ℕ) where
-  -- Words that fit are the order of their tree.
-  tree-order : (f : Fits least greatest ws) → orderOf ws ≡ order (f .tree)
-  tree-order f = ap orderOf (f .spelt) ∙ tree-passes (f .tree) (f .good) (f .nodes) (f .deep)
-
   -- Words that fit are those of a tree within the limits, of such a depth.
   pub fits-tree : fitsOf least greatest ws ≡ true → Fits least greatest ws
   unfolding fitsOf byOrder
@@ -104,21 +108,18 @@ module _ (least greatest : ℕ) (ws : List ℕ) where
           let b : within least greatest (depth t) ≡ true = sym (fits-order least greatest ws t (p .is)) ∙ e in
           record {
             tree = t;
-            spelt = p .spelt;
-            good = p .good;
-            nodes = p .nodes;
-            deep = p .deep;
+            isOrder = passed-order ws t p;
             above = leb-true _ _ (and-left _ _ b);
             below = leb-true _ _ (and-right _ _ b);
           }
 
   -- And back: the words of such a tree fit.
   pub tree-fits : Fits least greatest ws → fitsOf least greatest ws ≡ true
-  tree-fits f = fits-order least greatest ws (f .tree) (tree-order f) ∙ and-both (le-leb _ _ (f .above)) (le-leb _ _ (f .below))
+  tree-fits f = fits-order least greatest ws (f .tree) (order-read ws (f .tree) (f .isOrder)) ∙ and-both (le-leb _ _ (f .above)) (le-leb _ _ (f .below))
 
   -- The number of words that fit is even.
   pub fits-even : fitsOf least greatest ws ≡ true → 2 * (length ws / 2) ≡ length ws
-  fits-even e = let f = fits-tree e in omega (arith, size (f .tree), ap length (f .spelt))
+  fits-even e = let f = fits-tree e in omega (arith, size (f .tree), ap length (f .isOrder .spelt))
 
 -- The empty key stands below the words of a tree.
 empty-below : (t : Tree) → compareOf [] (words t) ≡ Lower
@@ -127,14 +128,14 @@ empty-below (node c f) = refl
 
 -- The empty key stands below every order.
 pub fits-some : (least greatest : ℕ) (ws : List ℕ) → fitsOf least greatest ws ≡ true → compareOf [] ws ≡ Lower
-fits-some least greatest ws e = let f = fits-tree least greatest ws e in ap (compareOf []) (f .spelt) ∙ empty-below (f .tree)
+fits-some least greatest ws e = let f = fits-tree least greatest ws e in ap (compareOf []) (f .isOrder .spelt) ∙ empty-below (f .tree)
 
 -- ---- the parts of an order fit
 
 -- A tree whose words fit is an order.
 fits-passed : (t : Tree) (least greatest : ℕ) → Fits least greatest (words t) → Passed (words t) t
 fits-passed t least greatest f =
-    order-passed (words t) t (tree-order least greatest (words t) f ∙ ap order (words-unique (f .tree) t (sym (f .spelt))))
+    order-passed (words t) t (order-read (words t) (f .tree) (f .isOrder) ∙ ap order (words-unique (f .tree) t (sym (f .isOrder .spelt))))
 
 -- The top of an order fits.
 pub top-fits : (k : ℕ) (t : Tree) (least greatest : ℕ) → Fits least greatest (words t) → Fits 0 (k - 2) (words (top k t))
@@ -143,10 +144,12 @@ top-fits k t least greatest f =
     let p = fits-passed t least greatest f in
     record {
       tree = cut t (k - 2);
-      spelt = refl;
-      good = cut-good t (k - 2) (p .good);
-      nodes = omega (arith, cut-nodes t (k - 2), p .nodes);
-      deep = omega (arith, depth-cut t (k - 2), p .deep);
+      isOrder = record {
+        spelt = refl;
+        good = cut-good t (k - 2) (p .good);
+        nodes = omega (arith, cut-nodes t (k - 2), p .nodes);
+        deep = omega (arith, depth-cut t (k - 2), p .deep);
+      };
       above = omega arith;
       below = cut-depth t (k - 2);
     }
@@ -159,10 +162,12 @@ low-fits k t s least greatest f m =
     let r = kept-in (isLow k) (subtrees t) (once-from _ m) in
     record {
       tree = s;
-      spelt = refl;
-      good = subtree-good t (r .0) (p .good);
-      nodes = omega (arith, subtree-nodes t (r .0), p .nodes);
-      deep = omega (arith, subtree-depth (subtree-from t (r .0)), p .deep);
+      isOrder = record {
+        spelt = refl;
+        good = subtree-good t (r .0) (p .good);
+        nodes = omega (arith, subtree-nodes t (r .0), p .nodes);
+        deep = omega (arith, subtree-depth (subtree-from t (r .0)), p .deep);
+      };
       above = omega arith;
       below = leb-true (depth s) (k - 2) (r .1);
     }
@@ -179,10 +184,12 @@ middle-fits k t u least greatest f m =
     let deep : depth (cut s (k - 1)) ≡ k - 1 = cut-deep s (k - 1) (leb-true (k - 1) (depth s) (r .1)) in
     record {
       tree = cut s (k - 1);
-      spelt = ap words (sym is);
-      good = cut-good s (k - 1) (subtree-good t (r .0) (p .good));
-      nodes = omega (arith, cut-nodes s (k - 1), subtree-nodes t (r .0), p .nodes);
-      deep = omega (arith, depth-cut s (k - 1), subtree-depth (subtree-from t (r .0)), p .deep);
+      isOrder = record {
+        spelt = ap words (sym is);
+        good = cut-good s (k - 1) (subtree-good t (r .0) (p .good));
+        nodes = omega (arith, cut-nodes s (k - 1), subtree-nodes t (r .0), p .nodes);
+        deep = omega (arith, depth-cut s (k - 1), subtree-depth (subtree-from t (r .0)), p .deep);
+      };
       above = omega arith;
       below = omega arith;
     }

@@ -13,12 +13,16 @@ use Rattle.order.specs.Reading.{byOrder, orderOf}
 unfoldable pub fitsOf : ℕ → ℕ → List ℕ → Bool
 fitsOf least greatest ws = byOrder (orderOf ws) (λ n. false) (λ t. within least greatest (depth t))
 
+-- The words are those of an order within limits, by trees alone.
+pub record IsOrder (ws : List ℕ) (t : Tree) : Type 0 where
+  pub spelt : ws ≡ words t
+  pub good : Good t
+  pub nodes : length (subtrees t) ≤ most-nodes
+  pub deep : depth t ≤ greatest-depth
+
 -- What it means to fit, by trees alone; shown to be `fitsOf` in proofs/Fitting.antt.
 pub record Fits (least greatest : ℕ) (ws : List ℕ) : Type 0 where
   pub tree : Tree
-  pub spelt : ws ≡ words tree
-  pub good : Good tree
-  pub nodes : length (subtrees tree) ≤ most-nodes
-  pub deep : depth tree ≤ greatest-depth
+  pub isOrder : IsOrder ws tree
   pub above : least ≤ depth tree
   pub below : depth tree ≤ greatest

@@ -15,7 +15,7 @@ use Rattle.book.proofs.pass.Tie as tie
 -- The key passed last lies in the book, the sum is small enough, and what is to be found is found of the entries left.
 abbrev Inv-loop : tie.InvT-loop
 Inv-loop book from n least greatest at₀ left₀ sum₀ last₀ last-end₀ at left sum last last-end =
-    (last ≤ last-end) × (last-end ≤ length book) × (left ≤ n) × (sum ≤ 65535 * (n - left))
+    (last ≤ last-end) × (last-end ≤ length book) × (left ≤ n) × (sum ≤ greatest-count * (n - left))
     × (stretchOf book from n least greatest ≡ stretch least greatest (take (last-end - last) (drop last book)) at sum left (drop at book))
 
 -- The entries left.

@@ -4,6 +4,7 @@ use mathlib.Core.Path.{_≡_, refl}
 use native.Mathlib.Omega.{arith}
 use borrow.Author.Needs.{needs}
 use lib.ListN.{take, drop}
+use Rattle.figures.specs.Limits.{most-words}
 use Rattle.order.specs.Trees.{words}
 use Rattle.order.specs.Parts.{top}
 use Rattle.order.proofs.Causes.{HasTree, has-tree}
@@ -29,7 +30,7 @@ slice-aggregate-put : tie.Need-slice-aggregate-put
 slice-aggregate-put c = search needs
 
 put-requires : tie.Need-put-requires
-put-requires c κs = let t = tree (c .before .before .before .before) in top-room _ (t .tree) (t .passes) (c .before .of-tops .result) 128 (omega arith)
+put-requires c κs = let t = tree (c .before .before .before .before) in top-room _ (t .tree) (t .passes) (c .before .of-tops .result) most-words (omega arith)
 
 shared-slice-read-many : tie.Need-shared-slice-read-many
 shared-slice-read-many c = omega (arith, (c .before .before .before .before .before .before .before) .pre .0 .long)
