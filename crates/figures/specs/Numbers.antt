@@ -25,6 +25,22 @@ book-size = 4
 abbrev pub not-in-form : ℕ
 not-in-form = 5
 
+-- the result needs more words than the book's slice has
+abbrev pub no-room : ℕ
+no-room = 6
+
+-- live teachings or a touched count would pass 65,535
+abbrev pub too-many : ℕ
+too-many = 7
+
+-- the order has no entry in T
+abbrev pub not-taught : ℕ
+not-taught = 8
+
+-- withdrawn: a part of the order is missing from the book
+abbrev pub not-agreeing : ℕ
+not-agreeing = 9
+
 -- the text is no form
 abbrev pub no-form : ℕ
 no-form = 10

@@ -39,3 +39,6 @@ pub const MOST_BOOK_WORDS: usize = 16384;
 
 // "count (1 to 65,535)"
 pub const LEAST_COUNT: usize = 1;
+
+// "to 65,535", and "live teachings, at most 65,535"
+pub const GREATEST_COUNT: u16 = 65535;

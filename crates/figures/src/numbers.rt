@@ -18,6 +18,18 @@ pub const BOOK_SIZE: u16 = 4;
 // the book is not in form
 pub const NOT_IN_FORM: u16 = 5;
 
+// the result needs more words than the book's slice has
+pub const NO_ROOM: u16 = 6;
+
+// live teachings or a touched count would pass 65,535
+pub const TOO_MANY: u16 = 7;
+
+// the order has no entry in T
+pub const NOT_TAUGHT: u16 = 8;
+
+// withdrawn: a part of the order is missing from the book
+pub const NOT_AGREEING: u16 = 9;
+
 // the text is no form
 pub const NO_FORM: u16 = 10;
 

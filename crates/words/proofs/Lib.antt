@@ -3,3 +3,4 @@ pub mod Tests
 pub mod Ordered
 pub mod Places
 pub mod Fronts
+pub mod Shifts

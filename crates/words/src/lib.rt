@@ -1,8 +1,9 @@
-// Lent slices of 16-bit words: compared, copied and cleared. It knows nothing of entries or trees, and assumes nothing beyond
+// Lent slices of 16-bit words: compared, copied, shifted and cleared. It knows nothing of entries or trees, and assumes nothing beyond
 // each function's `requires`.
 ghost use mathlib.Core.Path.{_≡_};
-ghost use Prim.Native.Nat.{_≤_};
-ghost use lib.ListN.{length, replicate};
+ghost use mathlib.Core.List.{_++_};
+ghost use Prim.Native.Nat.{_+_, _-_, _≤_};
+ghost use lib.ListN.{length, take, drop, replicate};
 ghost use Rattle.words.specs.Base.{over};
 ghost use Rattle.words.specs.Compare.{compareOf, before};
 
@@ -70,4 +71,30 @@ pub fn clear(out: &mut [u16])
         out[i] = 0;
         i += 1;
     }
+}
+
+// Moves the first `used` words up by `by`; the first `by` words stay as they were.
+pub fn open_gap(part: &mut [u16], used: usize, by: usize)
+    requires { ⌜ by + used ≤ length (now part) ⌝ }
+    ensures { λ _. ⌜ now (part .exit) ≡ take by (now (part .entry)) ++ (take used (now (part .entry)) ++ drop (by + used) (now (part .entry))) ⌝ }
+{
+    let mut left = used;
+    while 0 < left {
+        left -= 1;
+        part[by + left] = part[left];
+    }
+}
+
+// Moves the words from `by` up to `used` down to the front, and clears the words that are freed.
+pub fn close_gap(part: &mut [u16], used: usize, by: usize)
+    requires { ⌜ (by ≤ used) × (used ≤ length (now part)) ⌝ }
+    ensures { λ _. ⌜ now (part .exit) ≡ take (used - by) (drop by (now (part .entry))) ++ (replicate by 0 ++ drop used (now (part .entry))) ⌝ }
+{
+    let keep = used - by;
+    let mut i = 0;
+    while i < keep {
+        part[i] = part[by + i];
+        i += 1;
+    }
+    clear(&mut part[keep..used]);
 }
