@@ -18,7 +18,7 @@ use Rattle.section.proofs.Counts.{below-trans, counts-own, counts-other
 -- ---- edits keep the order
 
 -- What stands below the first entry and is lower than a key stands below the first entry once n more of the key are in.
-below-add : (y : List ℕ) (n : ℕ) (x : List ℕ) (es : List Entry) → y ≺ x → Below y es → Below y (add n x es)
+pub below-add : (y : List ℕ) (n : ℕ) (x : List ℕ) (es : List Entry) → y ≺ x → Below y es → Below y (add n x es)
 unfolding Below add
 below-add y n x [] l h = l
 below-add y n x (e ∷ es) l h = go (compareOf (e .key) x) refl
@@ -40,7 +40,7 @@ sorted-add n x (e ∷ es) p s = go (compareOf (e .key) x) refl (sorted-add n x e
     go Higher c ih = rw c (p, compare-flip (e .key) x ∙ rw c, s)
 
 -- What stands below the first entry of a sorted section stands below the first once a key is lowered.
-below-lower : (y x : List ℕ) (es : List Entry) → Sorted es → Below y es → Below y (lower x es)
+pub below-lower : (y x : List ℕ) (es : List Entry) → Sorted es → Below y es → Below y (lower x es)
 unfolding Sorted Below lower
 below-lower y x [] s h = tt
 below-lower y x (e ∷ es) s h = go (compareOf (e .key) x) refl (leb (e .count) 1) refl

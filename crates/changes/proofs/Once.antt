@@ -1,0 +1,102 @@
+-- An entry that is entered once: what the section is then, and the words of a part once the entry stands where a search has its place.
+-- Assumes nothing.
+use Prim.Native.Nat.{ℕ, _+_, _-_, _≤_}
+use mathlib.Core.Path.{_≡_, refl, sym, ap, _∙_}
+use mathlib.Core.Bool.{Bool, true, false}
+use mathlib.Core.List.{List, [], _∷_, _++_, append-assoc, List·Memᴰ·head as here, List·Memᴰ·tail as there}
+use native.Mathlib.Nat.{zero-add}
+use native.Mathlib.Omega.{arith}
+use lib.ListN.{length, take, drop}
+use lib.Seq.{take-all}
+use Rattle.words.specs.Base.{if_then_else_, _∈_}
+use Rattle.words.specs.Compare.{_≺_}
+use Rattle.section.specs.Entries.{Entry, counted, entryWords, sectionWords, width, firstEntry, entries, has, countsFor, countOf, look, Below, Sorted, add}
+use Rattle.changes.specs.Editing.{addOnce, Laid, Edited}
+use Rattle.section.specs.declared.Found.the-variants.{At, Absent}
+use Rattle.section.proofs.Counts.{count-add}
+use Rattle.section.proofs.Searches.{look-has, look-lacks, look-gap}
+use Rattle.section.proofs.Sorting.{sorted-add}
+use Rattle.changes.proofs.Adding.{add-below}
+use Rattle.changes.proofs.Relaying.{Reached, behind, first-words, reached-few, reached-none, reached-over, reached-enter, reached-edited}
+
+-- ---- entries
+
+module _ (e : Entry) (es : List Entry) where
+  -- An entry whose key has one is not entered.
+  pub once-has : has (e .key) es ≡ true → addOnce e es ≡ es
+  unfolding addOnce if_then_else_
+  once-has h = rw h
+
+  -- An entry whose key has none is entered.
+  pub once-lacks : has (e .key) es ≡ false → addOnce e es ≡ add (e .count) (e .key) es
+  unfolding addOnce if_then_else_
+  once-lacks h = rw h
+
+  -- With an entry once more a section is still sorted.
+  pub sorted-add-once : 1 ≤ e .count → Sorted es → Sorted (addOnce e es)
+  sorted-add-once p s = go (has (e .key) es) refl
+    where
+      go : (b : Bool) → has (e .key) es ≡ b → Sorted (addOnce e es)
+      go true h = rw (once-has h) s
+      go false h = rw (once-lacks h) (sorted-add (e .count) (e .key) es p s)
+
+  -- An entry once more counts what it counts where its key had none, and otherwise nothing.
+  pub count-add-once : (z : List ℕ) → countOf z (addOnce e es) ≡ (if has (e .key) es then 0 else countsFor z e) + countOf z es
+  unfolding if_then_else_
+  count-add-once z = go (has (e .key) es) refl
+    where
+      go : (b : Bool) → has (e .key) es ≡ b → countOf z (addOnce e es) ≡ (if has (e .key) es then 0 else countsFor z e) + countOf z es
+      go true h = rw (once-has h, h, zero-add)
+      go false h = rw (once-lacks h, h) (count-add (e .count) (e .key) z es)
+
+-- n more of a key that has no entry are entered between the entries with lower keys and the others.
+pub add-gap : (n : ℕ) (key : List ℕ) (front back : List Entry) → ((e : Entry) → e ∈ front → e .key ≺ key) → Below key back
+    → add n key (front ++ back) ≡ front ++ (counted key n ∷ back)
+unfolding add
+add-gap n key [] back low high = add-below n key back high
+add-gap n key (f ∷ front) back low high = rw (low f (here refl), add-gap n key front back (λ e m. low e (there m)) high)
+
+-- ---- words
+
+-- Words that one entry fills are its words.
+pub entry-words : (ws : List ℕ) → width ws ≡ length ws → ws ≡ entryWords (firstEntry ws)
+entry-words ws h = sym (take-all (width ws) ws (omega arith)) ∙ first-words ws (omega arith)
+
+module _ (ws : List ℕ) (n used : ℕ) (laid : Laid ws n used) where
+  -- There are no more entries than words.
+  pub laid-few : n ≤ length ws
+  laid-few = reached-few _ _ _ _ _ _ _ _ (reached-none ws n used laid)
+
+  -- The place between two runs of the entries.
+  reached-between : (front back : List Entry) (at : ℕ) → entries n ws ≡ front ++ back → at ≡ 0 + length (sectionWords front)
+      → Reached front back (behind n used ws) ws at (length back) used n
+  reached-between front back at is place = rw place (reached-over [] front back (behind n used ws) ws 0 n used n (rw is at (reached-none ws n used laid)))
+
+  module _ (key : List ℕ) (at : ℕ) (gap : look key 0 (entries n ws) ≡ Absent at) where
+    -- The place of a key not found.
+    reached-gap : let g = look-gap key 0 at (entries n ws) gap in Reached (g .front) (g .back) (behind n used ws) ws at (length (g .back)) used n
+    reached-gap = let g = look-gap key 0 at (entries n ws) gap in reached-between (g .front) (g .back) at (g .is) (g .place)
+
+    -- It lies within the words that are used.
+    pub gap-within : at ≤ used
+    gap-within = omega (arith, reached-gap .uses)
+
+  module _ (e : Entry) where
+    -- Where the key is found nothing changes.
+    pub once-found : (at : ℕ) → look (e .key) 0 (entries n ws) ≡ At at → Edited ws n used (addOnce e (entries n ws)) ws (record { used = used; many = n })
+    once-found at found =
+        reached-edited ws n used laid [] (entries n ws) _ ws 0 n used n (reached-none ws n used laid) (once-has e (entries n ws) (look-has (e .key) 0 at (entries n ws) found)) refl
+
+    -- Where it is not found its words are entered at the place.
+    pub once-entered : (at : ℕ) (entry book : List ℕ) → look (e .key) 0 (entries n ws) ≡ Absent at → Sorted (entries n ws) → entry ≡ entryWords e → used + length entry ≤ length ws
+        → book ≡ take at ws ++ (entry ++ (take (used - at) (drop at ws) ++ drop (used - at + length entry) (drop at ws))) → length book ≡ length ws
+        → Edited ws n used (addOnce e (entries n ws)) book (record { used = used + length entry; many = n + 1 })
+    once-entered at entry book gap s is fits now long =
+        let g = look-gap (e .key) 0 at (entries n ws) gap in
+        let r = reached-gap (e .key) at gap in
+        let all : addOnce e (entries n ws) ≡ (g .front ++ (e ∷ [])) ++ g .back =
+        once-lacks e (entries n ws) (look-lacks (e .key) 0 at (entries n ws) s gap) ∙ ap (add (e .count) (e .key)) (g .is)
+        ∙ add-gap (e .count) (e .key) (g .front) (g .back) (g .below) (g .above) ∙ sym (append-assoc (g .front) (e ∷ []) (g .back)) in
+        reached-edited ws n used laid (g .front ++ (e ∷ [])) (g .back) _ book _ _ _ _
+        (reached-enter (g .front) (g .back) (behind n used ws) ws at (length (g .back)) used n r e entry book (length entry) is refl fits now)
+        all long

@@ -1,0 +1,228 @@
+-- `changes::lower_all` meets its contract: what the pass has come to, with the entries left lowered by the other's left, is what all come to.
+-- Assumes nothing.
+use Prim.Native.Nat.{ℕ, _+_, _*_, _-_, _≤_, _<_}
+use mathlib.Core.Path.{_≡_, refl, sym, _∙_}
+use mathlib.Core.List.{List}
+use native.Mathlib.Omega.{arith}
+use lib.ListN.{length, getD, take, drop}
+use Rattle.words.specs.declared.Compared.{Compared}
+use Rattle.words.specs.declared.Compared.the-variants.{Lower, Equal, Higher}
+use Rattle.section.specs.Entries.{entries, span}
+use Rattle.changes.specs.Editing.{firstAgainst}
+use Rattle.section.proofs.Words.{span-at}
+use Rattle.changes.proofs.Turns.{Turn, turn-start, turn-end, turn-within, turn-first, turn-lends, turn-most, turn-lower, turn-equal, turn-higher, against-some}
+use borrow.Author.Needs.{needs}
+use Rattle.changes.proofs.lower_all.Statement.{statement}
+use Rattle.changes.proofs.lower_all.Tie as tie
+
+-- The pass has come to `at` in the book and to `from` in the other.
+abbrev Inv-loop : tie.InvT-loop
+Inv-loop book₀ many used other more at₀ left₀ from₀ rest₀ kept₀ count₀ book at left from rest kept count = Turn book₀ many used other more book at left from rest kept count
+
+-- Each turn leaves an entry of one or of both fewer.
+abbrev μ-loop : tie.MeasureT-loop
+μ-loop book₀ many used other more at₀ left₀ from₀ rest₀ kept₀ count₀ book at left from rest kept count = left + rest
+
+-- The words of the other.
+abbrev other : tie.At-loop Inv-loop μ-loop → List ℕ
+other k = k .before .before .before .args .other .now
+
+-- The other's first entry of those left lies within it.
+room : (c : tie.In-loop Inv-loop μ-loop) → let k = c .before in k .loop .from + 2 + 2 * getD (other k) (k .loop .from) 0 ≤ length (other k)
+room c =
+    let k = c .before in
+    omega (arith, k .loop .inv .inside, span-at (other k) (k .loop .from) (k .loop .rest) (k .loop .from + 2 + 2 * getD (other k) (k .loop .from) 0) (c .loop-test .taken) refl)
+
+-- The entries left lie within the book.
+within : (k : tie.At-loop Inv-loop μ-loop) → (k .loop .at + span (k .loop .left) (drop (k .loop .at) (k .loop .book)) ≤ k .loop .kept) × (k .loop .kept ≤ length (k .loop .book))
+within k = turn-within _ _ _ _ _ _ _ _ _ _ _ _ (k .loop .inv)
+
+-- The first entry left stands so to the other's first key.
+abbrev Answered : tie.After-first-against Inv-loop μ-loop → Compared → Type 0
+Answered a o =
+    let p = a .before .before .before in
+    let k = p .before .before in
+    firstAgainst (take (p .past .result - (k .loop .from + 2)) (drop (k .loop .from + 2) (other k))) (entries (k .loop .left) (drop (k .loop .at) (k .loop .book))) ≡ o
+
+-- It is lower.
+is-lower : (c : tie.After-enum-told Inv-loop μ-loop) → Answered (c .before .before) Lower
+is-lower c = sym (c .before .before .first-against .ensures) ∙ c .enum-told .given .1
+
+-- It is equal.
+is-equal : (c : tie.After-enum-told2 Inv-loop μ-loop) → Answered (c .before .before) Equal
+is-equal c = sym (c .before .before .first-against .ensures) ∙ c .enum-told2 .given .1
+
+-- It is higher.
+is-higher : (c : tie.After-enum-told3 Inv-loop μ-loop) → Answered (c .before .before) Higher
+is-higher c = sym (c .before .before .first-against .ensures) ∙ c .enum-told3 .given .1
+
+-- One is left if it is lower.
+some-lower : (c : tie.After-enum-told Inv-loop μ-loop) → 0 < c .before .before .before .before .before .before .before .loop .left
+some-lower c = against-some _ _ _ Lower (is-lower c) (λ h. let z : _≡_ {A = ℕ} 0 1 = cc in omega arith)
+
+-- One is left if it is equal.
+some-equal : (c : tie.After-enum-told2 Inv-loop μ-loop) → 0 < c .before .before .before .before .before .before .before .loop .left
+some-equal c = against-some _ _ _ Equal (is-equal c) (λ h. let z : _≡_ {A = ℕ} 0 1 = cc in omega arith)
+
+-- The first entry left lies within what is kept, and is among those counted.
+first : (k : tie.At-loop Inv-loop μ-loop) → 0 < k .loop .left → (k .loop .at + 2 + 2 * getD (k .loop .book) (k .loop .at) 0 ≤ k .loop .kept) × (0 < k .loop .count)
+first k h = turn-first _ _ _ _ _ _ _ _ _ _ _ _ (k .loop .inv) h
+
+-- One less of it passes, frees and takes out no more than it.
+most : (c : tie.After-lessen Inv-loop μ-loop) → let k = c .before .before .before .before .before .before .before .before .before in let r = c .lessen .result in
+    (k .loop .at + r .step ≤ k .loop .kept) × (r .freed ≤ k .loop .kept) × (r .out ≤ k .loop .count)
+most c =
+    let k = c .before .before .before .before .before .before .before .before .before in
+    turn-most _ _ _ _ _ _ _ _ _ _ _ _ (k .loop .inv) (some-equal (c .before .before)) (c .lessen .result) (c .lessen .ensures .1)
+
+loop-holds : tie.Need-loop-holds Inv-loop μ-loop
+loop-holds c = let x = c .before .before in turn-start _ _ _ _ _ (x .pre .0 .0) (x .pre .0 .1) (x .pre .1 .0) (x .pre .1 .1)
+
+add-start : tie.Need-add-start Inv-loop μ-loop
+add-start c = omega (arith, room c)
+
+past-requires : tie.Need-past-requires Inv-loop μ-loop
+past-requires c κs = omega (arith, room c)
+
+mul-first-against : tie.Need-mul-first-against Inv-loop μ-loop
+mul-first-against c = search needs
+
+sub-first-against : tie.Need-sub-first-against Inv-loop μ-loop
+sub-first-against c = search needs
+
+part-first-against-start : tie.Need-part-first-against-start Inv-loop μ-loop
+part-first-against-start c = search needs
+
+part-first-against-end : tie.Need-part-first-against-end Inv-loop μ-loop
+part-first-against-end c = omega (arith, room (c .before .before))
+
+first-against-requires : tie.Need-first-against-requires Inv-loop μ-loop
+first-against-requires c κs = omega (arith, within (c .before .before .before .before))
+
+enum-told : tie.Need-enum-told Inv-loop μ-loop
+enum-told c = search needs
+
+past-requires-2 : tie.Need-past-requires-2 Inv-loop μ-loop
+past-requires-2 c κs =
+    let k = c .before .before .before .before .before .before .before .before in
+    omega (arith, within k, first k (some-lower (c .before)))
+
+sub-left : tie.Need-sub-left Inv-loop μ-loop
+sub-left c = some-lower (c .before .before)
+
+loop-less : tie.Need-loop-less Inv-loop μ-loop
+loop-less c = omega (arith, some-lower (c .before .before))
+
+loop-again : tie.Need-loop-again Inv-loop μ-loop
+loop-again c =
+    let p = c .before .before .before .before .before .before .before in
+    let k = p .before .before in
+    turn-lower _ _ _ _ _ _ _ _ _ _ _ _ (k .loop .inv) (p .past .result) (p .before .loop-test .taken) (p .past .ensures) (is-lower (c .before .before)) (c .past2 .result) (c .past2 .ensures)
+
+enum-told-2 : tie.Need-enum-told-2 Inv-loop μ-loop
+enum-told-2 c = search needs
+
+mul-lessen : tie.Need-mul-lessen Inv-loop μ-loop
+mul-lessen c = omega (arith, within (c .before .before .before .before .before .before .before))
+
+sub-lessen : tie.Need-sub-lessen Inv-loop μ-loop
+sub-lessen c = omega (arith, within (c .before .before .before .before .before .before .before))
+
+part-lessen-start : tie.Need-part-lessen-start Inv-loop μ-loop
+part-lessen-start c = omega (arith, within (c .before .before .before .before .before .before .before))
+
+part-lessen-end : tie.Need-part-lessen-end Inv-loop μ-loop
+part-lessen-end c = omega (arith, within (c .before .before .before .before .before .before .before))
+
+sub-lessen-2 : tie.Need-sub-lessen-2 Inv-loop μ-loop
+sub-lessen-2 c = omega (arith, within (c .before .before .before .before .before .before .before .before))
+
+lessen-requires : tie.Need-lessen-requires Inv-loop μ-loop
+lessen-requires c κs = turn-lends _ _ _ _ _ _ _ _ _ _ _ _ (c .before .before .before .before .before .before .before .before .loop .inv) (some-equal (c .before))
+
+add-at : tie.Need-add-at Inv-loop μ-loop
+add-at c = omega (arith, most (c .before .before .before), within (c .before .before .before .before .before .before .before .before .before .before .before .before))
+
+sub-kept : tie.Need-sub-kept Inv-loop μ-loop
+sub-kept c = omega (arith, most (c .before .before .before .before))
+
+sub-count : tie.Need-sub-count Inv-loop μ-loop
+sub-count c = omega (arith, most (c .before .before .before .before .before))
+
+sub-left-2 : tie.Need-sub-left-2 Inv-loop μ-loop
+sub-left-2 c = some-equal (c .before .before .before .before .before .before .before)
+
+sub-rest : tie.Need-sub-rest Inv-loop μ-loop
+sub-rest c = c .before .before .before .before .before .before .before .before .before .before .before .before .before .loop-test .taken
+
+loop-less-2 : tie.Need-loop-less-2 Inv-loop μ-loop
+loop-less-2 c = omega (arith, some-equal (c .before .before .before .before .before .before .before), c .before .before .before .before .before .before .before .before .before .before .before .before .before .loop-test .taken)
+
+loop-again-2 : tie.Need-loop-again-2 Inv-loop μ-loop
+loop-again-2 c =
+    let g = c .before .before .before .before in
+    let l = g .before in
+    let p = l .before .before .before .before .before .before .before in
+    let k = p .before .before in
+    turn-equal _ _ _ _ _ _ _ _ _ _ _ _ (k .loop .inv) (p .past .result) (p .before .loop-test .taken) (p .past .ensures) (is-equal (l .before .before)) (l .lessen .last .0) _ (l .lessen .result) refl (l .lessen .ensures .0) (l .lessen .ensures .1) (g .book .given .1)
+
+enum-told-3 : tie.Need-enum-told-3 Inv-loop μ-loop
+enum-told-3 c = search needs
+
+sub-rest-2 : tie.Need-sub-rest-2 Inv-loop μ-loop
+sub-rest-2 c = c .before .before .before .before .before .before .loop-test .taken
+
+loop-less-3 : tie.Need-loop-less-3 Inv-loop μ-loop
+loop-less-3 c = omega (arith, c .before .before .before .before .before .before .loop-test .taken)
+
+loop-again-3 : tie.Need-loop-again-3 Inv-loop μ-loop
+loop-again-3 c =
+    let p = c .before .before .before .before .before in
+    let k = p .before .before in
+    turn-higher _ _ _ _ _ _ _ _ _ _ _ _ (k .loop .inv) (p .past .result) (p .before .loop-test .taken) (p .past .ensures) (is-higher c)
+
+same-length : tie.Need-same-length Inv-loop μ-loop
+same-length c = c .before .loop .inv .long
+
+returns : tie.Need-returns Inv-loop μ-loop
+returns c = turn-end _ _ _ _ _ _ _ _ _ _ _ _ (c .before .loop .inv) (c .before .before .before .before .pre .0 .0) (c .loop-test .left)
+
+pub lower-all-spec : {M : Type 1} → statement M
+lower-all-spec =
+    tie.close
+    (tie.spec
+    Inv-loop
+    μ-loop
+    loop-holds
+    add-start
+    past-requires
+    mul-first-against
+    sub-first-against
+    part-first-against-start
+    part-first-against-end
+    first-against-requires
+    enum-told
+    past-requires-2
+    sub-left
+    loop-less
+    loop-again
+    enum-told-2
+    mul-lessen
+    sub-lessen
+    part-lessen-start
+    part-lessen-end
+    sub-lessen-2
+    lessen-requires
+    add-at
+    sub-kept
+    sub-count
+    sub-left-2
+    sub-rest
+    loop-less-2
+    loop-again-2
+    enum-told-3
+    sub-rest-2
+    loop-less-3
+    loop-again-3
+    same-length
+    returns)

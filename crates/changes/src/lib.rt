@@ -1,0 +1,235 @@
+// A section of a book changed by the entries of another, both with ascending keys: each pass goes once over both. What the other would enter
+// is weighed first; then it is added, or one less of each is taken. Assumes nothing beyond each function's `requires`.
+ghost use mathlib.Core.Path.{_≡_};
+ghost use mathlib.Core.Bool.{true};
+ghost use mathlib.Core.List.{_++_};
+ghost use Prim.Native.Nat.{_+_, _-_, _≤_};
+ghost use lib.ListN.{length, getD, set, take, drop};
+ghost use Rattle.figures.specs.Limits.{greatest-count};
+ghost use Rattle.section.specs.Entries.{sectionWords, width, firstEntry, entries, span, Sorted};
+ghost use Rattle.changes.specs.Editing.{addAll, lowerAll, addOnce, fitting, weighed, firstAgainst, Laid, Edited, lessenedWords, lessenedBy};
+use figures::limits;
+use section::Found;
+use section::find;
+use section::past;
+use words::Compared;
+
+// How many words of a part are used, and how many entries stand at its front.
+pub struct Size {
+    pub used: usize,
+    pub many: usize,
+}
+
+// What a section's entries would do to another section: how many words those take that it lacks, and whether a count would pass 65,535.
+pub struct Weighed {
+    pub lacking: usize,
+    pub overfull: bool,
+}
+
+// What one less of a part's first entry came to: how many words to go on by, how many were freed, and how many entries were taken out.
+pub struct Lessened {
+    pub step: usize,
+    pub freed: usize,
+    pub out: usize,
+}
+
+// How the first of the entries left, which stand from word `at` on, stands to a key; as higher where none is left.
+fn first_against(book: &[u16], at: usize, left: usize, key: &[u16]) -> Compared
+    requires { ⌜ at + span left (drop at (now book)) ≤ length (now book) ⌝ }
+    ensures { λ r. ⌜ r ≡ firstAgainst (now (key .entry)) (entries left (drop at (now (book .entry)))) ⌝ }
+{
+    if left == 0 {
+        return Compared::Higher;
+    }
+    let start = at + 2;
+    let end = past(book, at);
+    words::compare(&book[start..end], key)
+}
+
+// What the first `more` entries of `other` would do to the first `many` of `book`, in one pass over both.
+pub fn weigh(book: &[u16], many: usize, other: &[u16], more: usize) -> Weighed
+    requires { ⌜ (span many (now book) ≤ length (now book)) × Sorted (entries many (now book)) ⌝ }
+    requires { ⌜ (span more (now other) ≤ length (now other)) × (Sorted (entries more (now other)) × (fitting (entries more (now other)) ≡ true)) ⌝ }
+    ensures { λ r. ⌜ r ≡ weighed (entries more (now (other .entry))) (entries many (now (book .entry))) ⌝ }
+{
+    let mut at: usize = 0;
+    let mut left = many;
+    let mut from: usize = 0;
+    let mut rest = more;
+    let mut lacking: usize = 0;
+    let mut overfull = false;
+    while 0 < rest {
+        let start = from + 2;
+        let end = past(other, from);
+        match first_against(book, at, left, &other[start..end]) {
+            Compared::Lower => {
+                at = past(book, at);
+                left -= 1;
+            }
+            Compared::Equal => {
+                if limits::GREATEST_COUNT - other[from + 1] < book[at + 1] {
+                    overfull = true;
+                }
+                at = past(book, at);
+                left -= 1;
+                from = end;
+                rest -= 1;
+            }
+            Compared::Higher => {
+                lacking += end - from;
+                from = end;
+                rest -= 1;
+            }
+        }
+    }
+    Weighed { lacking, overfull }
+}
+
+// Writes an entry's words at the front of the part, and moves the `used` words that stand there behind them.
+fn enter(part: &mut [u16], used: usize, entry: &[u16])
+    requires { ⌜ used + length (now entry) ≤ length (now part) ⌝ }
+    ensures { λ _. ⌜ now (part .exit) ≡ now (entry .entry) ++ (take used (now (part .entry)) ++ drop (used + length (now (entry .entry))) (now (part .entry))) ⌝ }
+{
+    words::open_gap(part, used, entry.len());
+    words::copy(part, entry);
+}
+
+// Raises the count of the part's first entry.
+fn raise(part: &mut [u16], by: u16)
+    requires { ⌜ (2 ≤ length (now part)) × (getD (now part) 1 0 + by ≤ greatest-count) ⌝ }
+    ensures { λ _. ⌜ now (part .exit) ≡ set (now (part .entry)) 1 (getD (now (part .entry)) 1 0 + by) ⌝ }
+{
+    let count = part[1];
+    part[1] = count + by;
+}
+
+// Enters an entry among the `many` at the front of the part, unless one of them has its key. Answers the size then.
+pub fn enter_once(part: &mut [u16], many: usize, used: usize, entry: &[u16]) -> Size
+    requires { ⌜ Laid (now part) many used × Sorted (entries many (now part)) ⌝ }
+    requires { ⌜ (width (now entry) ≡ length (now entry)) × (used + length (now entry) ≤ length (now part)) ⌝ }
+    ensures { λ r. ⌜ Edited (now (part .entry)) many used (addOnce (firstEntry (now (entry .entry))) (entries many (now (part .entry)))) (now (part .exit)) r ⌝ }
+{
+    let end = entry.len();
+    match find(part, 0, many, &entry[2..end]) {
+        Found::At(_) => Size { used, many },
+        Found::Absent(at) => {
+            enter(&mut part[at..], used - at, entry);
+            let grown = used + end;
+            let more = many + 1;
+            Size {
+                used: grown,
+                many: more,
+            }
+        }
+    }
+}
+
+// Adds the first `more` entries of `other` to the first `many` of `book`, in one pass over both: counts are raised by the other's, and what is
+// lacking is entered. Answers the size then.
+pub fn add_all(book: &mut [u16], many: usize, used: usize, other: &[u16], more: usize) -> Size
+    requires { ⌜ Laid (now book) many used × Sorted (entries many (now book)) ⌝ }
+    requires { ⌜ (span more (now other) ≤ length (now other)) × Sorted (entries more (now other)) ⌝ }
+    requires { ⌜ (length (sectionWords (addAll (entries more (now other)) (entries many (now book)))) + (used - span many (now book)) ≤ length (now book)) × (fitting (addAll (entries more (now other)) (entries many (now book))) ≡ true) ⌝ }
+    ensures { λ r. ⌜ Edited (now (book .entry)) many used (addAll (entries more (now (other .entry))) (entries many (now (book .entry)))) (now (book .exit)) r ⌝ }
+{
+    let mut at: usize = 0;
+    let mut left = many;
+    let mut from: usize = 0;
+    let mut rest = more;
+    let mut grown = used;
+    let mut count = many;
+    while 0 < rest {
+        let start = from + 2;
+        let end = past(other, from);
+        match first_against(book, at, left, &other[start..end]) {
+            Compared::Lower => {
+                at = past(book, at);
+                left -= 1;
+            }
+            Compared::Equal => {
+                raise(&mut book[at..], other[from + 1]);
+                at = past(book, at);
+                left -= 1;
+                from = end;
+                rest -= 1;
+            }
+            Compared::Higher => {
+                enter(&mut book[at..], grown - at, &other[from..end]);
+                let width = end - from;
+                at += width;
+                grown += width;
+                count += 1;
+                from = end;
+                rest -= 1;
+            }
+        }
+    }
+    Size {
+        used: grown,
+        many: count,
+    }
+}
+
+// One less of the part's first entry, which is taken out if it comes to 0: the words behind it, up to `used`, then move down.
+fn lessen(part: &mut [u16], used: usize) -> Lessened
+    requires { ⌜ (width (now part) ≤ used) × (used ≤ length (now part)) ⌝ }
+    ensures { λ r. ⌜ (now (part .exit) ≡ lessenedWords used (now (part .entry))) × (r ≡ lessenedBy (now (part .entry))) ⌝ }
+{
+    let width = past(part, 0);
+    let count = part[1];
+    if count <= 1 {
+        words::close_gap(part, used, width);
+        return Lessened {
+            step: 0,
+            freed: width,
+            out: 1,
+        };
+    }
+    part[1] = count - 1;
+    Lessened {
+        step: width,
+        freed: 0,
+        out: 0,
+    }
+}
+
+// One less of each key of the first `more` entries of `other` among the first `many` of `book`, in one pass over both. Answers the size then.
+pub fn lower_all(book: &mut [u16], many: usize, used: usize, other: &[u16], more: usize) -> Size
+    requires { ⌜ Laid (now book) many used × Sorted (entries many (now book)) ⌝ }
+    requires { ⌜ (span more (now other) ≤ length (now other)) × Sorted (entries more (now other)) ⌝ }
+    ensures { λ r. ⌜ Edited (now (book .entry)) many used (lowerAll (entries more (now (other .entry))) (entries many (now (book .entry)))) (now (book .exit)) r ⌝ }
+{
+    let mut at: usize = 0;
+    let mut left = many;
+    let mut from: usize = 0;
+    let mut rest = more;
+    let mut kept = used;
+    let mut count = many;
+    while 0 < rest {
+        let start = from + 2;
+        let end = past(other, from);
+        match first_against(book, at, left, &other[start..end]) {
+            Compared::Lower => {
+                at = past(book, at);
+                left -= 1;
+            }
+            Compared::Equal => {
+                let less = lessen(&mut book[at..], kept - at);
+                at += less.step;
+                kept -= less.freed;
+                count -= less.out;
+                left -= 1;
+                from = end;
+                rest -= 1;
+            }
+            Compared::Higher => {
+                from = end;
+                rest -= 1;
+            }
+        }
+    }
+    Size {
+        used: kept,
+        many: count,
+    }
+}
