@@ -24,6 +24,14 @@ use Rattle.section.proofs.Sorting.{below-add, sorted-add}
 use Rattle.section.proofs.Sizes.{size-first, size-grows}
 use Rattle.changes.proofs.Relaying.{words-append, words-at, nodes-kept, reached-some, reached-end, behind, behind-length, Reached, reached-none, reached-edited, reached-length, reached-span, reached-few, reached-entries, reached-second, reached-enter, reached-past, reached-count}
 
+-- ---- how a first entry stands to a key
+
+-- Where the first entry is higher than a key, or there is none, the key stands below all.
+pub against-below : (key : List ℕ) (es : List Entry) → firstAgainst key es ≡ Higher → Below key es
+unfolding Below
+against-below key [] h = tt
+against-below key (e ∷ es) h = compare-flip (e .key) key ∙ rw h
+
 -- ---- the sum
 
 -- The sum of two sorted sections is sorted.

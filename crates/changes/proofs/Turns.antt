@@ -13,7 +13,7 @@ use borrow.Author.Tests.{leb-true, leb-false}
 use borrow.Rule.Slice.PartMut.{putMid}
 use Rattle.words.specs.declared.Compared.{Compared}
 use Rattle.words.specs.declared.Compared.the-variants.{Lower, Equal, Higher}
-use Rattle.words.proofs.Ordered.{compare-equal, compare-flip}
+use Rattle.words.proofs.Ordered.{compare-equal}
 use Rattle.words.proofs.Shifts.{tail-all, tail-back}
 use Rattle.section.specs.Entries.{Entry, counted, width, entries, span, Below, Sorted, lessened}
 use Rattle.changes.specs.Editing.{lowerAll, firstAgainst, Laid, Edited, lessenedWords, lessenedBy}
@@ -22,6 +22,7 @@ use Rattle.section.proofs.Words.{span-at, span-step, entries-at}
 use Rattle.section.proofs.Searches.{sorted-past}
 use Rattle.changes.proofs.Lowering.{lower-all-above, lower-all-equal, lower-all-below, lessened-apart, lessened-most, lessened-words-out, lessened-words-left, lessened-by-out, lessened-by-left}
 use Rattle.section.proofs.Counts.{lessened-out, lessened-left}
+use Rattle.changes.proofs.Adding.{against-below}
 use Rattle.changes.proofs.Relaying.{behind, Reached, reached-length, reached-entries, reached-span, reached-end, reached-second, reached-past, reached-count, reached-out, reached-none, reached-edited}
 
 -- ---- how the first entry stands to a key

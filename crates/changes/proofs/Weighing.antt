@@ -17,12 +17,12 @@ use Rattle.words.proofs.Ordered.{compare-flip, compare-self, compare-equal}
 use Rattle.words.proofs.Tests.{and-left, and-right, and-both}
 use Rattle.figures.specs.Limits.{greatest-count}
 use Rattle.section.specs.Entries.{Entry, sectionWords, has, countOf, Below, Sorted, add}
-use Rattle.changes.specs.Editing.{addAll, fitting, lackingWords, overfull, firstAgainst}
+use Rattle.changes.specs.Editing.{addAll, fitting, lackingWords, overfull}
 use Rattle.changes.specs.declared.Weighed.{Weighed}
 use Rattle.section.proofs.Counts.{lower-differs, below-trans, below-lacks, below-absent, counts-other, has-count, entry-count}
 use Rattle.section.proofs.Searches.{has-lower, has-equal}
 use Rattle.section.proofs.Sizes.{size-add}
-use Rattle.changes.proofs.Adding.{against-below, count-add-all, sorted-add-all}
+use Rattle.changes.proofs.Adding.{count-add-all, sorted-add-all}
 
 -- Past a lower entry the others count.
 count-lower-first : (e : Entry) (es : List Entry) (key : List ℕ) → e .key ≺ key → countOf key (e ∷ es) ≡ countOf key es
