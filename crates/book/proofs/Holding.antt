@@ -79,6 +79,7 @@ holding ws z f =
       form = is-formed ws p;
       laid = is-laid ws p;
       decoded = rw f;
+      places = sym (is-places ws p);
       depth = refl;
       least = leb-true _ _ (and-left _ _ (p .depth));
       greatest = leb-true _ _ (and-right _ _ (p .depth));

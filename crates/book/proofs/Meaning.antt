@@ -104,6 +104,11 @@ pub section-even : (s : Section) (b : Book) → sectionInForm s b ≡ true → E
 unfolding sectionInForm
 section-even s b e = ascending-even (shallowest s (b .k)) (deepest s (b .k)) [] (sectionOf s b) e
 
+-- The words used are the head's and those of the sections.
+pub used-is : (b : Book) → used b ≡ head-words + length (sectionWords (b .T)) + length (sectionWords (b .R)) + length (sectionWords (b .L)) + length (sectionWords (b .P))
+unfolding used body
+used-is b = simp length-append (omega arith)
+
 -- ---- words that pass are the words of their book
 
 -- What words that pass have.
@@ -299,11 +304,6 @@ module _ (n : ℕ) (b : Book) (p : Proper b) where
   unfolding x endAt
   zeros-behind = readP .next
 
-  -- The words used are the head's and those of the sections.
-  used-is : used b ≡ head-words + length (sectionWords (b .T)) + length (sectionWords (b .R)) + length (sectionWords (b .L)) + length (sectionWords (b .P))
-  unfolding used body
-  used-is = simp length-append (omega arith)
-
   -- The sections end where the words used do.
   end-used : endAt x ≡ used b
   unfolding endAt middlesAt lowsAt topsAt x
@@ -312,7 +312,7 @@ module _ (n : ℕ) (b : Book) (p : Proper b) where
       let r = readR .long in
       let l = readL .long in
       let m = readP .long in
-      omega (arith, used-is)
+      omega (arith, used-is b)
 
   -- The book is read.
   book-read : bookIn x ≡ b
@@ -349,7 +349,7 @@ laid-passes : (n : ℕ) (b : Book) → inForm b ≡ true → passes (lay n b) �
 laid-passes n b f = let p = form-proper b f in ap passes (is-x n b p) ∙ x-passes n b p
 
 -- It is the book that the words hold.
-laid-read : (n : ℕ) (b : Book) → inForm b ≡ true → bookIn (lay n b) ≡ b
+pub laid-read : (n : ℕ) (b : Book) → inForm b ≡ true → bookIn (lay n b) ≡ b
 laid-read n b f = let p = form-proper b f in ap bookIn (is-x n b p) ∙ book-read n b p
 
 -- ---- the tests of a pass are the definition

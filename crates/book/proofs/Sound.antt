@@ -92,7 +92,7 @@ module _ (least greatest : ℕ) where
 -- ---- books
 
 -- Each section of a sound book is sound, of the depths that it may have.
-sound-section : (b : Book) → SoundBook b → (s : Section) → SoundSection (shallowest s (b .k)) (deepest s (b .k)) (sectionOf s b)
+pub sound-section : (b : Book) → SoundBook b → (s : Section) → SoundSection (shallowest s (b .k)) (deepest s (b .k)) (sectionOf s b)
 unfolding sectionOf
 sound-section b x Taught = x .taught
 sound-section b x Tops = x .tops

@@ -50,7 +50,7 @@ in-any u (there {x} {xs} m) = go (sameTree x u) (in-any u m)
     go false n = n
 
 -- A tree that does not stand in a list is not found.
-lacks-any : (u : Tree) (ts : List Tree) → (u ∈ ts → ⊥) → anyTree u ts ≡ false
+pub lacks-any : (u : Tree) (ts : List Tree) → (u ∈ ts → ⊥) → anyTree u ts ≡ false
 lacks-any u ts lacks = go (anyTree u ts) refl
   where
     go : (b : Bool) → anyTree u ts ≡ b → anyTree u ts ≡ false
@@ -65,7 +65,7 @@ unfolding countsFor sameTree
 counts-tree n t u = refl
 
 -- n more of each tree of a list without repeats count n more for each tree of it, once.
-count-each : (n : ℕ) (u : Tree) (ts : List Tree) (es : List Entry) → NoRepeats ts
+pub count-each : (n : ℕ) (u : Tree) (ts : List Tree) (es : List Entry) → NoRepeats ts
     → countOf (words u) (addEach n ts es) ≡ (if anyTree u ts then n else 0) + countOf (words u) es
 unfolding addEach anyTree if_then_else_ NoRepeats
 count-each n u [] es r = omega arith
@@ -76,12 +76,12 @@ count-each n u (t ∷ ts) es r = rw (count-add n (words t) (words u) (addEach n 
     go false e = omega arith
 
 -- The low parts of an order have no repeats.
-lows-once : (k : ℕ) (t : Tree) → NoRepeats (lowParts k t)
+pub lows-once : (k : ℕ) (t : Tree) → NoRepeats (lowParts k t)
 unfolding lowParts
 lows-once k t = once-no-repeats _
 
 -- The middle parts of an order have no repeats.
-middles-once : (k : ℕ) (t : Tree) → NoRepeats (middleParts k t)
+pub middles-once : (k : ℕ) (t : Tree) → NoRepeats (middleParts k t)
 unfolding middleParts
 middles-once k t = once-no-repeats _
 
@@ -122,7 +122,7 @@ module _ (k : ℕ) where
 -- ---- ascending
 
 -- With n more of each tree a section is still sorted.
-sorted-each : (n : ℕ) (ts : List Tree) (es : List Entry) → 1 ≤ n → Sorted es → Sorted (addEach n ts es)
+pub sorted-each : (n : ℕ) (ts : List Tree) (es : List Entry) → 1 ≤ n → Sorted es → Sorted (addEach n ts es)
 unfolding addEach
 sorted-each n [] es p s = s
 sorted-each n (t ∷ ts) es p s = sorted-add n (words t) (addEach n ts es) p (sorted-each n ts es p s)
@@ -142,7 +142,7 @@ taught-sorted k (o ∷ os) live Middles = sorted-each _ _ _ (live o (here refl))
 -- ---- in form
 
 -- An add keeps what holds of the keys.
-add-keys : (P : List ℕ → Type 0) (n : ℕ) (x : List ℕ) (es : List Entry) → P x → ((e : Entry) → e ∈ es → P (e .key)) → (e : Entry) → e ∈ add n x es → P (e .key)
+pub add-keys : (P : List ℕ → Type 0) (n : ℕ) (x : List ℕ) (es : List Entry) → P x → ((e : Entry) → e ∈ es → P (e .key)) → (e : Entry) → e ∈ add n x es → P (e .key)
 unfolding add
 add-keys P n x [] p h e (here q) = rw q p
 add-keys P n x [] p h e (there m) = h e m
@@ -157,7 +157,7 @@ add-keys P n x (f ∷ es) p h e m = go (compareOf (f .key) x) m (add-keys P n x 
     go Higher (there i) later = h e i
 
 -- Adds of each tree keep it if it holds of their words.
-each-keys : (P : List ℕ → Type 0) (n : ℕ) (ts : List Tree) (es : List Entry) → ((t : Tree) → t ∈ ts → P (words t)) → ((e : Entry) → e ∈ es → P (e .key))
+pub each-keys : (P : List ℕ → Type 0) (n : ℕ) (ts : List Tree) (es : List Entry) → ((t : Tree) → t ∈ ts → P (words t)) → ((e : Entry) → e ∈ es → P (e .key))
     → (e : Entry) → e ∈ addEach n ts es → P (e .key)
 unfolding addEach
 each-keys P n [] es p h = h
@@ -194,7 +194,7 @@ teachings-most test k (o ∷ os) = go (test (o .order)) (teachings-most test k o
     go false h = omega (arith, total-add (o .times) (words (o .order)) (bookOf k os .T))
 
 -- An entry of a sorted section counts.
-sorted-some : (es : List Entry) → Sorted es → (e : Entry) → e ∈ es → 1 ≤ e .count
+pub sorted-some : (es : List Entry) → Sorted es → (e : Entry) → e ∈ es → 1 ≤ e .count
 unfolding Sorted
 sorted-some [] s e m = absurd (List·Memᴰ·not-nil m)
 sorted-some (x ∷ es) s e (here q) = rw q (s .0)

@@ -8,7 +8,7 @@ use lib.ListN.{length, getD, drop}
 use Rattle.figures.specs.Limits.{head-words, most-book-words, least-k, greatest-k}
 use Rattle.section.specs.Entries.{Entry, entries, span, Sorted}
 use Rattle.book.specs.Book.{sectionOf, lay, inForm}
-use Rattle.book.specs.Decoding.{bookIn, decode, startOf, slotOf}
+use Rattle.book.specs.Decoding.{bookIn, decode, placesOf, startOf, slotOf}
 use Rattle.book.specs.declared.Section.{Section}
 use Rattle.book.specs.declared.Places.{Places}
 
@@ -25,6 +25,7 @@ pub record Holds (ws : List ℕ) (p : Places) : Type 0 where
   pub form : inForm (bookIn ws) ≡ true
   pub laid : lay (length ws) (bookIn ws) ≡ ws
   pub decoded : decode ws ≡ some (bookIn ws)
+  pub places : p ≡ placesOf (bookIn ws)
   pub depth : p .k .k ≡ bookIn ws .k
   pub least : least-k ≤ bookIn ws .k
   pub greatest : bookIn ws .k ≤ greatest-k

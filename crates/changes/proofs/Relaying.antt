@@ -47,7 +47,7 @@ pub nodes-kept : (book : List ℕ) (at v : ℕ) → at < length book → getD (t
 nodes-kept book at v h = rw (drop-cons book at 0 h) (getD-at (take at book) (getD book at 0) (set (drop (suc at) book) 0 v) 0 at (length-take-le at book (omega arith)))
 
 -- Each entry takes at least one word.
-length-size : (es : List Entry) → length es ≤ length (sectionWords es)
+pub length-size : (es : List Entry) → length es ≤ length (sectionWords es)
 length-size [] = omega arith
 length-size (e ∷ es) = omega (arith, size-first e es, length-size es)
 
@@ -62,7 +62,7 @@ abbrev pub behind : ℕ → ℕ → List ℕ → List ℕ
 behind n used ws = take (used - span n ws) (drop (span n ws) ws)
 
 -- Zeros, some of them dropped.
-drop-zeros : (z w : ℕ) → w ≤ z → drop w (replicate {A = ℕ} z 0) ≡ replicate (z - w) 0
+pub drop-zeros : (z w : ℕ) → w ≤ z → drop w (replicate {A = ℕ} z 0) ≡ replicate (z - w) 0
 drop-zeros z w h =
     let o : ℕ = 0 in
     let whole : z ≡ w + (z - w) = omega arith in

@@ -112,7 +112,7 @@ entry-fitting [] h = refl
 entry-fitting (e ∷ es) h = and-both (le-leb (e .count) greatest-count (h e (here refl))) (entry-fitting es (λ i m. h i (there m)))
 
 -- n more of a key fit if the key's count then does and the entries did.
-fitting-add : (n : ℕ) (x : List ℕ) (es : List Entry) → Sorted es → fitting (add n x es) ≡ (leb (countOf x es + n) greatest-count and fitting es)
+pub fitting-add : (n : ℕ) (x : List ℕ) (es : List Entry) → Sorted es → fitting (add n x es) ≡ (leb (countOf x es + n) greatest-count and fitting es)
 unfolding fitting add Sorted Below
 fitting-add n x [] s = unfold countOf in rw zero-add
 fitting-add n x (e ∷ es) s = go (compareOf (e .key) x) refl (fitting-add n x es (s .2))

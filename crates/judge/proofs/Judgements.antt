@@ -29,7 +29,7 @@ use Rattle.book.proofs.Sound.{decode-book, on-any}
 use Rattle.book.proofs.Holding.{refused-book}
 use Rattle.judge.specs.Judging.{knows, firstUnknown, verdict, judgeOf}
 use Rattle.judge.specs.Seeking.{unknownLine, topKnown, lineUnknown, unknownNumber, lineAnswer}
-use Rattle.judge.proofs.Spots.{two-words-a-line, short-order, PartIs, part-told}
+use Rattle.order.proofs.Spots.{two-words-a-line, short-order, PartIs, part-told}
 
 -- ---- the first unknown line and its number
 

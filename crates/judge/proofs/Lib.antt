@@ -1,5 +1,4 @@
 -- What the proofs of several functions, and those of other crates, use.
-pub mod Spots
 pub mod Seekings
 pub mod Spellings
 pub mod Tops

@@ -18,7 +18,7 @@ use Rattle.book.specs.Book.{Book}
 use Rattle.judge.specs.Judging.{knows}
 use Rattle.judge.specs.Seeking.{unknownLine, lineUnknown, lookedUpIn, keyOf, Seeks}
 use Rattle.judge.specs.declared.Sought.{Sought}
-use Rattle.judge.proofs.Spots.{line-at, two-words-a-line}
+use Rattle.order.proofs.Spots.{line-at, two-words-a-line}
 
 -- The first unknown line of an order from a line on, counted from 0; 0 where there is none.
 unfoldable pub unknownFrom : Book → List ℕ → ℕ → ℕ

@@ -20,7 +20,7 @@ use Rattle.book.specs.declared.Places.{Places}
 use Rattle.book.specs.declared.Section.the-variants.{Lows, Middles}
 use Rattle.book.specs.Holding.{Holds}
 use Rattle.judge.specs.Seeking.{Seeks}
-use Rattle.judge.proofs.Spots.{LineAt, short-order, part-told, spot-within, spot-words}
+use Rattle.order.proofs.Spots.{LineAt, short-order, part-told, spot-within, spot-words}
 
 -- The part of a low subtree is the subtree.
 low-tree : (k : ℕ) (s : Tree) → isLow k s ≡ true → partOf k s .tree ≡ s

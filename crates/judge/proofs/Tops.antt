@@ -26,7 +26,7 @@ use Rattle.book.specs.Holding.{Holds}
 use Rattle.book.specs.declared.Places.{Places}
 use Rattle.book.specs.declared.Section.the-variants.{Tops}
 use Rattle.judge.specs.Seeking.{topKnown}
-use Rattle.judge.proofs.Spots.{short-order, cut-room}
+use Rattle.order.proofs.Spots.{short-order, cut-room}
 
 -- An order's tree stands at its first word.
 abbrev top-spot : (os : List ℕ) (t : Tree) → Passed os t → Spot os 0 (found t)

@@ -110,7 +110,7 @@ module _ (s : List ℕ) (at d n : ℕ) (room : Room (walkOf s at d) n) where
 -- ---- the node
 
 -- The first two words are written.
-set-two : (l : List ℕ) (a b : ℕ) → 2 ≤ length l → set (set l 0 a) 1 b ≡ a ∷ b ∷ drop 2 l
+pub set-two : (l : List ℕ) (a b : ℕ) → 2 ≤ length l → set (set l 0 a) 1 b ≡ a ∷ b ∷ drop 2 l
 set-two [] a b h = absurd (omega arith)
 set-two (x ∷ []) a b h = absurd (omega arith)
 set-two (x ∷ y ∷ l) a b h = refl

@@ -13,3 +13,4 @@ pub mod PartsAt
 pub mod Lines
 pub mod Cuts
 pub mod Answers
+pub mod Spots

@@ -3,7 +3,7 @@ use mathlib.Core.Path.{refl}
 use native.Mathlib.Omega.{arith}
 use borrow.Author.Needs.{needs}
 use lib.ListN.{length}
-use Rattle.judge.proofs.Spots.{LineAt, line-at, short-order, cut-room}
+use Rattle.order.proofs.Spots.{LineAt, line-at, short-order, cut-room}
 use Rattle.judge.proofs.Seekings.{some-part, seeks-low, seeks-middle}
 use Rattle.judge.proofs.seek.Statement.{statement}
 use Rattle.judge.proofs.seek.Tie as tie

@@ -2,7 +2,7 @@
 use Prim.Native.Nat.{ℕ, _+_, _-_, _*_, _/_, _≤_, _<_}
 use mathlib.Core.Path.{_≡_, refl, ap, sym, subst, _∙_}
 use mathlib.Core.Bool.{Bool, true, false}
-use mathlib.Core.List.{List}
+use mathlib.Core.List.{List, [], append-nil}
 use native.Mathlib.Omega.{arith}
 use lib.Dec.{leb}
 use lib.ListN.{length, take, drop, length-append, length-drop}
@@ -10,18 +10,18 @@ use lib.Seq.{take-append-seam}
 use Rattle.words.specs.Base.{if_then_else_}
 use Rattle.figures.specs.Limits.{most-words}
 use Rattle.figures.specs.Numbers.{done}
 use Rattle.order.specs.Trees.{Tree, words, depth, cut, subtrees}
-use Rattle.order.specs.Reading.{Found, causeOf}
+use Rattle.order.specs.Reading.{Found, found, causeOf}
 use Rattle.order.specs.Parts.{isLow, middle}
 use Rattle.order.specs.Walks.{Room, walkOf, partWalked, partAtOf}
 use Rattle.order.specs.Answers.{treeAt}
 use Rattle.order.specs.declared.PartAt.{PartAt}
 use Rattle.order.specs.declared.PartAt.the-variants.{NoPart, LowTo, MiddleTo}
 use Rattle.order.proofs.Orders.{size}
 use Rattle.order.proofs.Causes.{Passed, has-tree}
 use Rattle.order.proofs.Cutting.{cut-nodes}
 use Rattle.order.proofs.Lines.{Spot, line-spot, walk-spot}
 use Rattle.order.proofs.PartsAt.{part-short}
 
 -- A line of an order, counted from 0, stands at a word.
 pub record LineAt (os : List ℕ) (line : ℕ) : Type 0 where
@@ -86,3 +86,13 @@ module _ (os : List ℕ) (at : ℕ) (x : Found) (p : Spot os at x) where
   cut-room d n h g =
       let t = p .tree in
       rw (walk-spot os at x p d) (omega (arith, size t, size (cut t d), cut-nodes t d, simp (length-append, length-drop) at (ap length (p .here))))
+
+-- ---- the order's own tree
+
+-- An order's tree stands at its first word.
+abbrev pub top-spot : (os : List ℕ) (t : Tree) → Passed os t → Spot os 0 (found t)
+top-spot os t p = record { tree = t; after = []; good = p .good; here = p .spelt ∙ sym (append-nil (words t)); is = refl }
+
+-- 128 words are room for any cut of it.
+pub top-room : (os : List ℕ) (t : Tree) (p : Passed os t) (d n : ℕ) → most-words ≤ n → Room (walkOf os 0 d) n
+top-room os t p d n h = cut-room os 0 (found t) (top-spot os t p) d n (short-order os t p) h

@@ -1,0 +1,9 @@
+-- The laws of the crate: those that readers meet are in Conditions, Sequences, Agreeing and Rows.
+pub mod Calling
+pub mod Counted
+pub mod Reasons
+pub mod Conditions
+pub mod Agreeing
+pub mod Sequences
+pub mod Rows
+pub mod Undoing

@@ -1,0 +1,141 @@
+-- `teach::withdraw_order` meets its contract, by the tests that it makes in turn. Assumes nothing.
+use mathlib.Core.Path.{_≡_, refl, sym, _∙_}
+use borrow.Author.Needs.{needs}
+use Rattle.figures.specs.Numbers.{done}
+use Rattle.order.specs.Reading.{causeOf}
+use Rattle.book.specs.Holding.{Holds}
+use Rattle.teach.specs.Own.{own-words}
+use Rattle.teach.proofs.Outcomes.{all-zeros, told, cause-told, withdraw-refused, least, own-holds, withdraw-untaught, withdraw-ready, withdraw-disagrees, withdraw-done}
+use Rattle.teach.proofs.withdraw_order.Statement.{statement}
+use Rattle.teach.proofs.withdraw_order.Tie as tie
+
+-- Past the first test the words are an order.
+ordered : (c : tie.Else1) → causeOf (c .before .before .before .before .before .args .order .now) ≡ done
+ordered c = sym (cause-told _ _ (c .before .before .check .ensures)) ∙ c .if1 .left
+
+-- Past the listing its own book stands in its slice.
+listed : (c : tie.After-list-own) → Holds (c .list-own .last .1 .1 .0) (c .list-own .result)
+listed c =
+    let o = c .before .before in
+    own-holds _ _ _ (o .before .before .before .before .before .pre) (ordered o) _ _ (c .list-own .ensures .0) (c .list-own .ensures .1)
+
+check-requires : tie.Need-check-requires
+check-requires c κs = search needs
+
+returns : tie.Need-returns
+returns c =
+    let s = c .before .before .before .before .before in
+    withdraw-refused _ _ _ (s .pre) _ (c .before .before .check .ensures) (c .if1 .taken)
+
+slice-aggregate-list-own : tie.Need-slice-aggregate-list-own
+slice-aggregate-list-own c = search needs
+
+list-own-requires : tie.Need-list-own-requires
+list-own-requires c κs =
+    let o = c .before in
+    let s = o .before .before .before .before .before in
+    (least _ _ (s .pre), (ordered o, (all-zeros own-words, refl)))
+
+slice-aggregate-weigh-section : tie.Need-slice-aggregate-weigh-section
+slice-aggregate-weigh-section c = search needs
+
+weigh-section-requires : tie.Need-weigh-section-requires
+weigh-section-requires c κs =
+    let l = c .before .before .before in
+    (l .before .before .before .before .before .before .before .pre, listed l)
+
+answered-requires : tie.Need-answered-requires
+answered-requires c κs = search needs
+
+same-length : tie.Need-same-length
+same-length c = search needs
+
+returns-2 : tie.Need-returns-2
+returns-2 c =
+    let w = c .before .before .before in
+    let l = w .before .before .before .before in
+    let o = l .before .before in
+    let s = o .before .before .before .before .before in
+    told _ _ _ (c .answered .ensures)
+    ∙ withdraw-untaught _ _ _ (s .pre) (ordered o) _ _ (l .list-own .ensures .0) (l .list-own .ensures .1) _ (w .weigh-section .ensures) (c .before .if2 .taken)
+
+slice-aggregate-lacking-parts : tie.Need-slice-aggregate-lacking-parts
+slice-aggregate-lacking-parts c = search needs
+
+lacking-parts-requires : tie.Need-lacking-parts-requires
+lacking-parts-requires c κs =
+    let l = c .before .before .before .before .before .before .before .before in
+    (l .before .before .before .before .before .before .before .pre, listed l)
+
+answered-requires-2 : tie.Need-answered-requires-2
+answered-requires-2 c κs = search needs
+
+same-length-2 : tie.Need-same-length-2
+same-length-2 c = search needs
+
+returns-3 : tie.Need-returns-3
+returns-3 c =
+    let q = c .before .before in
+    let r = q .before .before .before in
+    let w = r .before .before in
+    let l = w .before .before .before .before in
+    let o = l .before .before in
+    let s = o .before .before .before .before .before in
+    told _ _ _ (c .answered2 .ensures)
+    ∙ withdraw-disagrees _ _ _ (s .pre) (ordered o) _ _ (l .list-own .ensures .0) (l .list-own .ensures .1) _ (w .weigh-section .ensures) (r .if2 .left) _ (q .lacking-parts .ensures) (c .before .if3 .taken)
+
+slice-aggregate-change-book : tie.Need-slice-aggregate-change-book
+slice-aggregate-change-book c = search needs
+
+change-book-requires : tie.Need-change-book-requires
+change-book-requires c κs =
+    let r = c .before .before .before .before .before .before in
+    let w = r .before .before in
+    let l = w .before .before .before .before in
+    let o = l .before .before in
+    let s = o .before .before .before .before .before in
+    let ready = withdraw-ready _ _ _ (s .pre) (ordered o) _ _ (l .list-own .ensures .0) (l .list-own .ensures .1) _ (w .weigh-section .ensures) (r .if2 .left) in
+    (s .pre, (listed l, ready))
+
+answered-requires-3 : tie.Need-answered-requires-3
+answered-requires-3 c κs = search needs
+
+same-length-3 : tie.Need-same-length-3
+same-length-3 c = search needs
+
+returns-4 : tie.Need-returns-4
+returns-4 c =
+    let g = c .before .before .before in
+    let f = g .before .before .before in
+    let q = f .before in
+    let r = q .before .before .before in
+    let w = r .before .before in
+    let l = w .before .before .before .before in
+    let o = l .before .before in
+    let s = o .before .before .before .before .before in
+    told _ _ _ (c .answered3 .ensures)
+    ∙ withdraw-done _ _ _ (s .pre) (ordered o) _ _ (l .list-own .ensures .0) (l .list-own .ensures .1) _ (w .weigh-section .ensures) (r .if2 .left) _ (q .lacking-parts .ensures) (f .if3 .left) _ (g .change-book .ensures)
+
+pub withdraw-order-spec : {M : Type 1} → statement M
+withdraw-order-spec =
+    tie.close
+    (tie.spec
+    check-requires
+    returns
+    slice-aggregate-list-own
+    list-own-requires
+    slice-aggregate-weigh-section
+    weigh-section-requires
+    answered-requires
+    same-length
+    returns-2
+    slice-aggregate-lacking-parts
+    lacking-parts-requires
+    answered-requires-2
+    same-length-2
+    returns-3
+    slice-aggregate-change-book
+    change-book-requires
+    answered-requires-3
+    same-length-3
+    returns-4)

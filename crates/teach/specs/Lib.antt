@@ -1,0 +1,4 @@
+-- The definitions of the crate.
+pub mod Calls
+pub mod Own
+pub mod Changing
