@@ -28,7 +28,8 @@ use Rattle.book.specs.declared.Section.the-variants.{Taught}
 use Rattle.book.proofs.Sound.{form-sound}
 use Rattle.book.proofs.Taught.{taught-k, taught-sorted, sorted-each, same-section, section-same}
 use Rattle.teach.specs.Calls.{withdrawn, hasParts, treesIn}
-use Rattle.teach.proofs.Adds.{each-section, same-books, taught-section, count-each-apart, form-sorted}
+use Rattle.teach.proofs.Adds.{each-section, same-books, taught-section, count-each-apart}
+use Rattle.amend.proofs.Sections.{form-sorted}
 use Rattle.teach.proofs.Formed.{withdrawn-keeps-form}
 use Rattle.effects.proofs.Undoing.{undo, commute}
 use Rattle.effects.proofs.Counted.{taught-parts}

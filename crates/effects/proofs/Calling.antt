@@ -24,7 +24,7 @@ use Rattle.book.proofs.Meaning.{decoded, read-back, lay-long}
 use Rattle.book.proofs.Heads.{on-unsized, on-unformed, on-formed, form-formed}
 use Rattle.book.proofs.Holding.{holds}
 use Rattle.teach.specs.Calls.{onOrder, withinCounts, teachTree, teachOf, withdrawn, hasParts, withdrawTree, withdrawOf}
-use Rattle.teach.proofs.Adds.{form-sorted}
+use Rattle.amend.proofs.Sections.{form-sorted}
 use Rattle.teach.proofs.Formed.{passed-fits}
 use Rattle.effects.specs.Conditions.{BookAndOrder}
 

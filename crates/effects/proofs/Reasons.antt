@@ -23,7 +23,8 @@ use Rattle.book.specs.declared.Section.the-variants.{Taught, Tops, Lows, Middle
 use Rattle.book.proofs.Sound.{form-sound}
 use Rattle.book.proofs.Taught.{lacks-any, count-each, sorted-each}
 use Rattle.teach.specs.Calls.{withinCounts, hasEach, hasParts, treesIn}
-use Rattle.teach.proofs.Adds.{taught-section, trees-once, form-sorted, form-fitting, live-taught, has-each}
+use Rattle.teach.proofs.Adds.{taught-section, trees-once, live-taught, has-each}
+use Rattle.amend.proofs.Sections.{form-sorted, form-fitting}
 use Rattle.teach.proofs.Formed.{within-fits}
 use Rattle.effects.proofs.Undoing.{times-counted, count-after-taught}
 use Rattle.effects.specs.Conditions.{WouldPass, lives, touched, PartMissing, from-tops, from-lows, from-middles}

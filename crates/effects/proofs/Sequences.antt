@@ -21,7 +21,8 @@ use Rattle.book.specs.Opening.{outcome, leave, writeBook}
 use Rattle.book.proofs.Meaning.{decoded, lay-long}
 use Rattle.book.proofs.Sound.{form-sound}
 use Rattle.teach.specs.Calls.{withinCounts, teachOf, withdrawn, withdrawOf}
-use Rattle.teach.proofs.Adds.{form-sorted, form-fitting, live-taught}
+use Rattle.teach.proofs.Adds.{live-taught}
+use Rattle.amend.proofs.Sections.{form-sorted, form-fitting}
 use Rattle.teach.proofs.Formed.{taught-keeps-form}
 use Rattle.effects.proofs.Undoing.{undo, commute, count-after-taught}
 use Rattle.effects.specs.Conditions.{BookAndOrder, WouldPass, lives, touched}

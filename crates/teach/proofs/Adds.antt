@@ -29,10 +29,11 @@ use Rattle.book.proofs.Holding.{section-sorted}
 use Rattle.book.proofs.Sound.{form-sound, sound-section}
 use Rattle.book.proofs.Taught.{lacks-any, count-each, lows-once, middles-once, sorted-each, each-keys}
 use Rattle.teach.specs.Calls.{withinCounts, lowerEach, withdrawn, hasEach, hasParts, treesIn}
-use Rattle.teach.specs.Own.{ownBook}
-use Rattle.teach.specs.Changing.{changed, withSection, changedIn, changedBook, lackingParts, lackingAll, overfullAny}
-use Rattle.teach.specs.declared.Change.{Change}
-use Rattle.teach.specs.declared.Change.the-variants.{Teach, Withdraw}
+use Rattle.own.specs.Own.{ownBook}
+use Rattle.amend.specs.Changing.{changed, withSection, changedIn, changedBook, lackingParts, lackingAll, overfullAny}
+use Rattle.amend.specs.declared.Change.{Change}
+use Rattle.amend.specs.declared.Change.the-variants.{Teach, Withdraw}
+use Rattle.amend.proofs.Sections.{form-sorted, form-fitting}
 
 -- ---- the sections, one by one
 
@@ -174,17 +175,6 @@ used-changed own b p s =
 -- Once an order is taught the book uses the words more that its own book has and the book lacked.
 pub used-taught : (t : Tree) (b : Book) → ((s : Section) → Sorted (sectionOf s b)) → used (taught 1 t b) ≡ used b + lackingAll (ownBook (b .k) t) b
 used-taught t b sorted = ap used (taught-changed t b sorted 1 (omega arith)) ∙ used-changed (ownBook (b .k) t) b (own-sorted (b .k) t) sorted
-
--- ---- what a book in form has
-
-module _ (b : Book) (form : inForm b ≡ true) where
-  -- Its sections are sorted.
-  pub form-sorted : (s : Section) → Sorted (sectionOf s b)
-  form-sorted s = section-sorted s b (form-proper b form .section s)
-
-  -- Its counts are at most 65,535.
-  pub form-fitting : (s : Section) → fitting (sectionOf s b) ≡ true
-  form-fitting s = entry-fitting (sectionOf s b) (λ e m. sound-section b (form-sound b form) s .entry e m .few)
 
 -- ---- the counts
 

@@ -32,11 +32,12 @@ use Rattle.book.proofs.Meaning.{used-is}
 use Rattle.book.proofs.Sound.{sorted-next, sound-section, form-sound, sound-form}
 use Rattle.book.proofs.Taught.{add-keys, sorted-some, taught-k, taught-formed}
 use Rattle.teach.specs.Calls.{withinCounts, withdrawn}
-use Rattle.teach.specs.Own.{ownBook}
-use Rattle.teach.specs.Changing.{changed, withSection, changedIn, changedBook, livesThen, LivesReady, ReadyAll}
-use Rattle.teach.specs.declared.Change.{Change}
-use Rattle.teach.specs.declared.Change.the-variants.{Teach, Withdraw}
-use Rattle.teach.proofs.Adds.{each-section, changed-section, taught-changed, withdrawn-changed, form-sorted, form-fitting, live-taught}
+use Rattle.own.specs.Own.{ownBook}
+use Rattle.amend.specs.Changing.{changed, withSection, changedIn, changedBook, livesThen, LivesReady, ReadyAll}
+use Rattle.amend.specs.declared.Change.{Change}
+use Rattle.amend.specs.declared.Change.the-variants.{Teach, Withdraw}
+use Rattle.teach.proofs.Adds.{each-section, changed-section, taught-changed, withdrawn-changed, live-taught}
+use Rattle.amend.proofs.Sections.{form-sorted, form-fitting}
 
 -- ---- entries of a changed section
 

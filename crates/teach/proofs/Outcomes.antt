@@ -34,13 +34,14 @@ use Rattle.book.proofs.Meaning.{used-is, laid-read, lay-long, used-fits}
 use Rattle.book.proofs.Holding.{holds, refused-book}
 use Rattle.book.proofs.Sound.{form-sound, decode-book, on-any, why-only}
 use Rattle.teach.specs.Calls.{onOrder, withinCounts, teachTree, teachOf, withdrawn, hasParts, withdrawTree, withdrawOf}
-use Rattle.teach.specs.Own.{own-words, ownBook, ownOf}
-use Rattle.teach.specs.Changing.{changedBook, ReadyAll, weighedIn, weighedBook, lackingParts, lackingAll, overfullAny}
-use Rattle.teach.specs.declared.Change.the-variants.{Teach, Withdraw}
-use Rattle.teach.proofs.Owning.{own-short}
-use Rattle.teach.proofs.Adds.{taught-changed, withdrawn-changed, used-taught, form-sorted, within-taught, lives-pass, count-passes, has-own, has-no-own, has-own-parts, has-no-own-parts}
+use Rattle.own.specs.Own.{own-words, ownBook, ownOf}
+use Rattle.amend.specs.Changing.{changedBook, ReadyAll, weighedIn, weighedBook, lackingParts, lackingAll, overfullAny}
+use Rattle.amend.specs.declared.Change.the-variants.{Teach, Withdraw}
+use Rattle.own.proofs.Owning.{own-short}
+use Rattle.teach.proofs.Adds.{taught-changed, withdrawn-changed, used-taught, within-taught, lives-pass, count-passes, has-own, has-no-own, has-own-parts, has-no-own-parts}
+use Rattle.amend.proofs.Sections.{form-sorted}
 use Rattle.teach.proofs.Formed.{passed-fits, beside-form, ready-teach, ready-withdraw}
-use Rattle.teach.proofs.Sections.{live-read}
+use Rattle.amend.proofs.Sections.{live-read}
 
 -- A slice of n zeros is as many zeros as it is long.
 pub all-zeros : (n : ℕ) → _≡_ {A = List ℕ} (replicate n 0) (replicate (length (replicate {A = ℕ} n 0)) 0)

@@ -1,0 +1,92 @@
+-- A book that is changed section by section, the last first: what stands in the words at each stage. Assumes nothing.
+use Prim.Native.Nat.{ℕ, _≤_}
+use mathlib.Core.Path.{_≡_, refl, sym, ap, ap₂, _∙_}
+use mathlib.Core.Bool.{true}
+use mathlib.Core.List.{List}
+use lib.ListN.{length}
+use Rattle.figures.specs.Limits.{head-words, most-book-words}
+use Rattle.book.specs.Book.{Book, used, lay, inForm}
+use Rattle.book.specs.Decoding.{bookIn, placesOf, startOf}
+use Rattle.book.specs.Holding.{Holds}
+use Rattle.book.specs.declared.Section.{Section}
+use Rattle.book.specs.declared.Section.the-variants.{Taught, Tops, Lows, Middles}
+use Rattle.book.specs.declared.Places.{Places}
+use Rattle.book.proofs.Meaning.{laid-read, lay-long, used-fits}
+use Rattle.amend.specs.Changing.{withSection, changedIn, Stands, Ready}
+use Rattle.amend.specs.declared.Change.{Change}
+
+-- A book in form stands in words that are a slice of n.
+pub record Stage (n : ℕ) (b : Book) (ws : List ℕ) : Type 0 where
+  pub long : head-words ≤ n
+  pub short : n ≤ most-book-words
+  pub form : inForm b ≡ true
+  pub is : ws ≡ lay n b
+  pub reads : bookIn ws ≡ b
+  pub words : length ws ≡ n
+
+-- A book in form that has room stands in the words that it is laid in.
+staged : (n : ℕ) (b : Book) (ws : List ℕ) → head-words ≤ n → n ≤ most-book-words → inForm b ≡ true → used b ≤ n → ws ≡ lay n b → Stage n b ws
+staged n b ws long short form room is = record {
+  long = long;
+  short = short;
+  form = form;
+  is = is;
+  reads = ap bookIn is ∙ laid-read n b form;
+  words = ap length is ∙ lay-long n b room;
+}
+
+module _ (ws : List ℕ) (p : Places) (h : Holds ws p) where
+  -- The words of a book in form are the first stage.
+  pub first-stage : Stage (length ws) (bookIn ws) ws
+  first-stage = staged (length ws) (bookIn ws) ws (h .long) (h .short) (h .form) (used-fits ws (bookIn ws) (h .laid)) (sym (h .laid))
+
+  -- Its sections start where the places say.
+  pub starts : (s : Section) → startOf s p ≡ startOf s (placesOf (bookIn ws))
+  starts s = ap (startOf s) (h .places)
+
+  -- Its used words are those that the places say.
+  pub uses : p .used ≡ used (bookIn ws)
+  unfolding placesOf
+  uses = ap (λ (q : Places). q .used) (h .places)
+
+  -- A section of it stands there.
+  pub held-stands : (s : Section) → Stands ws s (startOf s p) (used (bookIn ws))
+  held-stands s = record { long = h .long; short = h .short; form = h .form; laid = h .laid; start = starts s; end = refl }
+
+module _ (n : ℕ) (b : Book) (ws : List ℕ) (g : Stage n b ws) where
+  -- A section of a stage stands in its words.
+  pub stage-stands : (s : Section) (at ends : ℕ) → at ≡ startOf s (placesOf b) → ends ≡ used b → Stands ws s at ends
+  stage-stands s at ends e f =
+      record {
+        long = rw (g .words) (g .long);
+        short = rw (g .words) (g .short);
+        form = rw (g .reads) (g .form);
+        laid = ap₂ lay (g .words) (g .reads) ∙ sym (g .is);
+        start = e ∙ ap (λ (c : Book). startOf s (placesOf c)) (sym (g .reads));
+        end = f ∙ ap used (sym (g .reads));
+      }
+
+  module _ (c : Change) (s : Section) (own : Book) (r : Ready n c s own b) where
+    -- What is ready for the book is ready for the words.
+    pub stage-ready : Ready (length ws) c s own (bookIn ws)
+    stage-ready = rw (g .words, g .reads) r
+
+    -- Once a section is changed the next stage stands in the words.
+    pub next-stage : (last : List ℕ) → last ≡ lay (length ws) (changedIn c s own (bookIn ws)) → Stage n (changedIn c s own b) last
+    next-stage last e = staged n (changedIn c s own b) last (g .long) (g .short) (r .form) (r .room) (e ∙ rw (g .words, g .reads))
+
+    -- The words used then.
+    pub next-used : (u : ℕ) → u ≡ used (changedIn c s own (bookIn ws)) → u ≡ used (changedIn c s own b)
+    next-used u e = e ∙ rw (g .reads)
+
+-- ---- the sections before a changed one start where they did
+module _ (c : Change) (own b : Book) where
+  -- Section L does once P is changed.
+  pub lows-start : startOf Lows (placesOf (changedIn c Middles own b)) ≡ startOf Lows (placesOf b)
+  unfolding placesOf changedIn withSection
+  lows-start = refl
+
+  -- Section R does once P or L is changed.
+  pub tops-start : startOf Tops (placesOf (changedIn c Lows own (changedIn c Middles own b))) ≡ startOf Tops (placesOf b)
+  unfolding placesOf changedIn withSection
+  tops-start = refl

@@ -1,0 +1,100 @@
+-- A book changed by another, section by section: teaching adds an order's own book, and withdrawing takes it away. Assumes nothing: these
+-- are definitions.
+use Prim.Native.Nat.{ℕ, _+_, _-_, _≤_}
+use mathlib.Core.Path.{_≡_}
+use mathlib.Core.Bool.{Bool, true}
+use mathlib.Core.List.{List}
+use lib.ListN.{length}
+use Rattle.words.specs.Base.{if_then_else_}
+use Rattle.figures.specs.Limits.{head-words, most-book-words, greatest-count}
+use Rattle.section.specs.Entries.{Entry}
+use Rattle.changes.specs.Editing.{addAll, lowerAll, lackingWords, overfull}
+use Rattle.changes.specs.declared.Weighed.{Weighed}
+use Rattle.book.specs.Book.{Book, sectionOf, used, live, lay, inForm}
+use Rattle.book.specs.Decoding.{bookIn, placesOf, startOf}
+use Rattle.book.specs.declared.Section.{Section}
+use Rattle.book.specs.declared.Section.the-variants.{Taught, Tops, Lows, Middles}
+use Rattle.amend.specs.declared.Change.{Change}
+use Rattle.amend.specs.declared.Change.the-variants.{Teach, Withdraw}
+
+-- A section's entries, changed by those of another.
+abbrev pub changed : Change → List Entry → List Entry → List Entry
+changed Teach os es = addAll os es
+changed Withdraw os es = lowerAll os es
+
+-- The book with other entries in one section.
+unfoldable pub withSection : Section → List Entry → Book → Book
+withSection Taught es b = record { k = b .k; T = es; R = b .R; L = b .L; P = b .P }
+withSection Tops es b = record { k = b .k; T = b .T; R = es; L = b .L; P = b .P }
+withSection Lows es b = record { k = b .k; T = b .T; R = b .R; L = es; P = b .P }
+withSection Middles es b = record { k = b .k; T = b .T; R = b .R; L = b .L; P = es }
+
+-- One section of the book, changed by the same section of another.
+unfoldable pub changedIn : Change → Section → Book → Book → Book
+changedIn c s own b = withSection s (changed c (sectionOf s own) (sectionOf s b)) b
+
+-- All four sections, the last first.
+unfoldable pub changedBook : Change → Book → Book → Book
+changedBook c own b = changedIn c Taught own (changedIn c Tops own (changedIn c Lows own (changedIn c Middles own b)))
+
+-- The live teachings, changed by those of another book; only section T has them.
+abbrev pub livesThen : Change → Section → ℕ → ℕ → ℕ
+livesThen Teach Taught live more = live + more
+livesThen Withdraw Taught live more = live - more
+livesThen c Tops live more = live
+livesThen c Lows live more = live
+livesThen c Middles live more = live
+
+-- The live teachings can be changed so: they stay within 65,535, and no more are taken than there are.
+abbrev pub LivesReady : Change → Section → ℕ → ℕ → Type 0
+LivesReady Teach Taught live more = live + more ≤ greatest-count
+LivesReady Withdraw Taught live more = more ≤ live
+LivesReady c Tops live more = Unit {0}
+LivesReady c Lows live more = Unit {0}
+LivesReady c Middles live more = Unit {0}
+
+-- The words are a book in form, one section of which starts at a word, and so many words are used.
+pub record Stands (ws : List ℕ) (s : Section) (at uses : ℕ) : Type 0 where
+  pub long : head-words ≤ length ws
+  pub short : length ws ≤ most-book-words
+  pub form : inForm (bookIn ws) ≡ true
+  pub laid : lay (length ws) (bookIn ws) ≡ ws
+  pub start : at ≡ startOf s (placesOf (bookIn ws))
+  pub end : uses ≡ used (bookIn ws)
+
+-- The changed book is in form and has room, and its live teachings are those of both.
+pub record Ready (n : ℕ) (c : Change) (s : Section) (own b : Book) : Type 0 where
+  pub form : inForm (changedIn c s own b) ≡ true
+  pub room : used (changedIn c s own b) ≤ n
+  pub lives : live (changedIn c s own b) ≡ livesThen c s (live b) (live own)
+  pub counts : LivesReady c s (live b) (live own)
+
+-- Each section can be changed once those behind it are.
+pub record ReadyAll (n : ℕ) (c : Change) (own b : Book) : Type 0 where
+  pub middles : Ready n c Middles own b
+  pub lows : Ready n c Lows own (changedIn c Middles own b)
+  pub tops : Ready n c Tops own (changedIn c Lows own (changedIn c Middles own b))
+  pub taught : Ready n c Taught own (changedIn c Tops own (changedIn c Lows own (changedIn c Middles own b)))
+
+-- What another book would do to a section of a book.
+abbrev pub weighedIn : Section → Book → Book → Weighed
+weighedIn s own b = record { lacking = lackingWords (sectionOf s own) (sectionOf s b); overfull = overfull (sectionOf s own) (sectionOf s b) }
+
+-- How many words of another book's sections R, L and P the book lacks.
+unfoldable pub lackingParts : Book → Book → ℕ
+lackingParts own b = lackingWords (own .R) (b .R) + lackingWords (own .L) (b .L) + lackingWords (own .P) (b .P)
+
+-- How many words of another book's sections the book lacks.
+unfoldable pub lackingAll : Book → Book → ℕ
+lackingAll own b = lackingWords (own .T) (b .T) + lackingParts own b
+
+-- "a touched count would pass 65,535", in one of the sections
+unfoldable pub overfullAny : Book → Book → Bool
+overfullAny own b =
+    if overfull (own .T) (b .T) then true else
+    (if overfull (own .R) (b .R) then true else
+    (if overfull (own .L) (b .L) then true else overfull (own .P) (b .P)))
+
+-- What another book would do to the book.
+abbrev pub weighedBook : Book → Book → Weighed
+weighedBook own b = record { lacking = lackingAll own b; overfull = overfullAny own b }

@@ -1,0 +1,198 @@
+// A book amended by another one of the same k: weighed against it, and then changed by it, section by section. Teaching adds an order's own
+// book, and withdrawing takes it away. Assumes nothing beyond each function's `requires`.
+ghost use mathlib.Core.Path.{_≡_};
+ghost use mathlib.Core.Bool.{true};
+ghost use Prim.Native.Nat.{_+_, _-_, _≤_};
+ghost use lib.ListN.{length};
+ghost use Rattle.words.specs.Base.{if_then_else_};
+ghost use Rattle.section.specs.Entries.{sectionWords, entries, span, Sorted};
+ghost use Rattle.changes.specs.Editing.{fitting, Laid, Edited};
+ghost use Rattle.book.specs.Book.{used, lay};
+ghost use Rattle.book.specs.Decoding.{bookIn, startOf, slotOf};
+ghost use Rattle.book.specs.Holding.{Holds};
+ghost use Rattle.amend.specs.Changing.{changed, changedIn, changedBook, livesThen, LivesReady, Stands, Ready, ReadyAll, weighedIn, weighedBook, lackingParts};
+use book::Places;
+use book::Section;
+use changes::Size;
+use changes::Weighed;
+use figures::limits;
+
+// What a call does to the book.
+pub enum Change {
+    Teach,
+    Withdraw,
+}
+
+// Where a section starts.
+fn start(section: Section, places: Places) -> usize
+    ensures { λ r. ⌜ r ≡ startOf section places ⌝ }
+{
+    match section {
+        Section::Taught => limits::HEAD_WORDS,
+        Section::Tops => places.tops,
+        Section::Lows => places.lows,
+        Section::Middles => places.middles,
+    }
+}
+
+// The head's word with a section's number of entries.
+fn slot(section: Section) -> usize
+    ensures { λ r. ⌜ r ≡ slotOf section ⌝ }
+{
+    match section {
+        Section::Taught => limits::TAUGHT_WORD,
+        Section::Tops => limits::TOPS_WORD,
+        Section::Lows => limits::LOWS_WORD,
+        Section::Middles => limits::MIDDLES_WORD,
+    }
+}
+
+// What a section of the own book would do to the same section of the book.
+pub fn weigh_section(
+    book: &[u16],
+    section: Section,
+    places: Places,
+    own: &[u16],
+    owns: Places,
+) -> Weighed
+    requires { ⌜ Holds (now book) places ⌝ }
+    requires { ⌜ Holds (now own) owns ⌝ }
+    ensures { λ r. ⌜ r ≡ weighedIn section (bookIn (now (own .entry))) (bookIn (now (book .entry))) ⌝ }
+{
+    let word = slot(section);
+    let at = start(section, places);
+    let from = start(section, owns);
+    let many = book[word] as usize;
+    let more = own[word] as usize;
+    changes::weigh(&book[at..], many, &own[from..], more)
+}
+
+// How many words of the own book's tops, low parts and middle parts the book lacks.
+pub fn lacking_parts(book: &[u16], places: Places, own: &[u16], owns: Places) -> usize
+    requires { ⌜ Holds (now book) places ⌝ }
+    requires { ⌜ Holds (now own) owns ⌝ }
+    ensures { λ r. ⌜ r ≡ lackingParts (bookIn (now (own .entry))) (bookIn (now (book .entry))) ⌝ }
+{
+    let tops = weigh_section(book, Section::Tops, places, own, owns);
+    let lows = weigh_section(book, Section::Lows, places, own, owns);
+    let middles = weigh_section(book, Section::Middles, places, own, owns);
+    tops.lacking + lows.lacking + middles.lacking
+}
+
+// Whether one of two holds.
+fn either(one: bool, other: bool) -> bool
+    ensures { λ r. ⌜ r ≡ (if one then true else other) ⌝ }
+{
+    if one {
+        return true;
+    }
+    other
+}
+
+// What the own book would do to the book: how many words it lacks, and whether a count would pass 65,535.
+pub fn weigh_book(book: &[u16], places: Places, own: &[u16], owns: Places) -> Weighed
+    requires { ⌜ Holds (now book) places ⌝ }
+    requires { ⌜ Holds (now own) owns ⌝ }
+    ensures { λ r. ⌜ r ≡ weighedBook (bookIn (now (own .entry))) (bookIn (now (book .entry))) ⌝ }
+{
+    let taught = weigh_section(book, Section::Taught, places, own, owns);
+    let tops = weigh_section(book, Section::Tops, places, own, owns);
+    let lows = weigh_section(book, Section::Lows, places, own, owns);
+    let middles = weigh_section(book, Section::Middles, places, own, owns);
+    let lacking = taught.lacking + (tops.lacking + lows.lacking + middles.lacking);
+    let parts = either(tops.overfull, either(lows.overfull, middles.overfull));
+    let overfull = either(taught.overfull, parts);
+    Weighed { lacking, overfull }
+}
+
+// Changes the first `many` entries of a part of the book by the first `more` of the own book's part.
+fn change_entries(
+    part: &mut [u16],
+    many: usize,
+    used: usize,
+    own: &[u16],
+    more: usize,
+    change: Change,
+) -> Size
+    requires { ⌜ Laid (now part) many used × Sorted (entries many (now part)) ⌝ }
+    requires { ⌜ (span more (now own) ≤ length (now own)) × Sorted (entries more (now own)) ⌝ }
+    requires { ⌜ (length (sectionWords (changed change (entries more (now own)) (entries many (now part)))) + (used - span many (now part)) ≤ length (now part)) × (fitting (changed change (entries more (now own)) (entries many (now part))) ≡ true) ⌝ }
+    ensures { λ r. ⌜ Edited (now (part .entry)) many used (changed change (entries more (now (own .entry))) (entries many (now (part .entry)))) (now (part .exit)) r ⌝ }
+{
+    match change {
+        Change::Teach => changes::add_all(part, many, used, own, more),
+        Change::Withdraw => changes::lower_all(part, many, used, own, more),
+    }
+}
+
+// The live teachings after a section was changed: only section T has them.
+fn lives(change: Change, section: Section, live: u16, more: u16) -> u16
+    requires { ⌜ LivesReady change section live more ⌝ }
+    ensures { λ r. ⌜ r ≡ livesThen change section live more ⌝ }
+{
+    match section {
+        Section::Taught => match change {
+            Change::Teach => live + more,
+            Change::Withdraw => live - more,
+        },
+        Section::Tops => live,
+        Section::Lows => live,
+        Section::Middles => live,
+    }
+}
+
+// Changes a section of the book, which starts at word `at`, by the same section of the own book, which starts there at word `from`, and
+// keeps the head right. Answers how many words are used then.
+fn change_section(
+    book: &mut [u16],
+    section: Section,
+    at: usize,
+    uses: usize,
+    own: &[u16],
+    from: usize,
+    change: Change,
+) -> usize
+    requires { ⌜ Stands (now book) section at uses ⌝ }
+    requires { ⌜ Stands (now own) section from (used (bookIn (now own))) ⌝ }
+    requires { ⌜ Ready (length (now book)) change section (bookIn (now own)) (bookIn (now book)) ⌝ }
+    ensures came { λ r. ⌜ r ≡ used (changedIn change section (bookIn (now (own .entry))) (bookIn (now (book .entry)))) ⌝ }
+    ensures wrote { λ _. ⌜ now (book .exit) ≡ lay (length (now (book .entry))) (changedIn change section (bookIn (now (own .entry))) (bookIn (now (book .entry)))) ⌝ }
+{
+    let word = slot(section);
+    let many = book[word] as usize;
+    let more = own[word] as usize;
+    let live = lives(
+        change,
+        section,
+        book[limits::LIVE_WORD],
+        own[limits::LIVE_WORD],
+    );
+    let size = change_entries(&mut book[at..], many, uses - at, &own[from..], more, change);
+    let end = at + size.used;
+    book[limits::USED_WORD] = end as u16;
+    book[limits::LIVE_WORD] = live;
+    book[word] = size.many as u16;
+    end
+}
+
+// Changes the book by the own book, its last section first, so that the sections before it still start where they did.
+pub fn change_book(book: &mut [u16], places: Places, own: &[u16], owns: Places, change: Change)
+    requires { ⌜ Holds (now book) places ⌝ }
+    requires { ⌜ Holds (now own) owns ⌝ }
+    requires { ⌜ ReadyAll (length (now book)) change (bookIn (now own)) (bookIn (now book)) ⌝ }
+    ensures { λ _. ⌜ now (book .exit) ≡ lay (length (now (book .entry))) (changedBook change (bookIn (now (own .entry))) (bookIn (now (book .entry)))) ⌝ }
+{
+    let p = change_section(
+        book,
+        Section::Middles,
+        places.middles,
+        places.used,
+        own,
+        owns.middles,
+        change,
+    );
+    let l = change_section(book, Section::Lows, places.lows, p, own, owns.lows, change);
+    let r = change_section(book, Section::Tops, places.tops, l, own, owns.tops, change);
+    let at = limits::HEAD_WORDS;
+    change_section(book, Section::Taught, at, r, own, at, change);
+}

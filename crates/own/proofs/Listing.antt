@@ -1,0 +1,440 @@
+-- The parts of an order, entered one after the other, each once: what is entered in the end, and what a turn of the loop over the lines
+-- does. Assumes nothing.
+use Prim.Native.Nat.{ℕ, _+_, _*_, _-_, _/_, _≤_, _<_}
+use mathlib.Core.Path.{_≡_, refl, sym, ap, ap₂, subst, _∙_}
+use mathlib.Core.Bool.{Bool, true, false, not, Bool·beq}
+use mathlib.Core.List.{List, [], _∷_, map, append-nil}
+use native.Mathlib.Omega.{arith}
+use borrow.Author.Tests.{leb-true, leb-false, le-leb, lt-leb}
+use lib.Dec.{leb}
+use lib.ListN.{length, take, drop, replicate, length-append, length-drop, length-replicate, drop-of-length-le}
+use lib.Seq.{drop-append-seam, take-at, take-length}
+use Rattle.words.specs.Base.{if_then_else_, over, keep, sameWords}
+use Rattle.words.proofs.Tests.{no-test}
+use Rattle.figures.specs.Limits.{least-k, most-words}
+use Rattle.figures.specs.Numbers.{done}
+use Rattle.section.specs.Entries.{Entry, counted, entryWords, sectionWords, Even, width, firstEntry, entries, span, has, Sorted, add}
+use Rattle.changes.specs.Editing.{addOnce, Laid, padded, relaid, Edited}
+use Rattle.changes.specs.declared.Size.{Size}
+use Rattle.section.proofs.Sizes.{size-add, even-add}
+use Rattle.section.proofs.Words.{words-entries, words-span}
+use Rattle.section.proofs.Counts.{has-add}
+use Rattle.section.proofs.Sorting.{sorted-add, add-commutes}
+use Rattle.changes.proofs.Once.{once-has, once-lacks, sorted-add-once}
+use Rattle.order.specs.Trees.{Tree, words, depth, cut, subtrees}
+use Rattle.order.specs.Parts.{isLow, isMiddle, middle, lows, middles, sameTree, eachOnce, lowParts, middleParts}
+use Rattle.order.specs.Reading.{byOrder, causeOf}
+use Rattle.order.specs.Walks.{walkOf, cutOf, Room, partAtOf}
+use Rattle.order.specs.Answers.{treeAt}
+use Rattle.order.specs.declared.Walked.{Walked}
+use Rattle.order.specs.declared.PartAt.{PartAt}
+use Rattle.order.specs.declared.PartAt.the-variants.{NoPart, LowTo, MiddleTo}
+use Rattle.order.proofs.Unique.{tree-same}
+use Rattle.order.proofs.Orders.{size}
+use Rattle.order.proofs.Causes.{Passed, has-tree}
+use Rattle.order.proofs.Lines.{Spot, line-spot, tree-next, walk-spot, cut-spot}
+use Rattle.order.proofs.Spots.{two-words-a-line, short-order, PartIs, part-told, cut-room}
+use Rattle.order.proofs.Cutting.{cut-shallow}
+use Rattle.book.specs.Taught.{addEach}
+use Rattle.book.proofs.Taught.{sorted-each}
+use Rattle.own.specs.Own.{entry-words, occurring, partsOnce, linesOf, listOf, lowAt}
+
+-- ---- trees entered once
+
+-- An entry of count 1 for each tree, once however often it occurs.
+unfoldable pub enterEach : List Tree → List Entry → List Entry
+enterEach [] es = es
+enterEach (t ∷ ts) es = enterEach ts (addOnce (counted (words t) 1) es)
+
+module _ {A : Type 0} where
+  -- What passes one test and then another is what passes a third that says both.
+  keep-keep : (p q r : A → Bool) → ((x : A) → r x ≡ (if q x then p x else false)) → (l : List A) → keep p (keep q l) ≡ keep r l
+  unfolding keep if_then_else_
+  keep-keep p q r both [] = refl
+  keep-keep p q r both (x ∷ l) = go (q x) refl (p x) refl (keep-keep p q r both l)
+    where
+      go : (a : Bool) → q x ≡ a → (b : Bool) → p x ≡ b → keep p (keep q l) ≡ keep r l → keep p (keep q (x ∷ l)) ≡ keep r (x ∷ l)
+      go true e true f ih = rw (both x, e, f, ih)
+      go true e false f ih = rw (both x, e, f, ih)
+      go false e b f ih = rw (both x, e, ih)
+
+  -- A test that all pass keeps all.
+  keep-all : (p : A → Bool) → ((x : A) → p x ≡ true) → (l : List A) → keep p l ≡ l
+  unfolding keep if_then_else_
+  keep-all p all [] = refl
+  keep-all p all (x ∷ l) = rw (all x, keep-all p all l)
+
+-- One more of a tree can be added before or after the others.
+each-add : (n : ℕ) (x : List ℕ) (ts : List Tree) (es : List Entry) → 1 ≤ n → Sorted es → add n x (addEach n ts es) ≡ addEach n ts (add n x es)
+unfolding addEach
+each-add n x [] es p s = refl
+each-add n x (t ∷ ts) es p s = add-commutes n n x (words t) (addEach n ts es) p p (sorted-each n ts es p s) ∙ ap (add n (words t)) (each-add n x ts es p s)
+
+-- A tree that has no entry.
+abbrev lacks : List Entry → Tree → Bool
+lacks es s = not (has (words s) es)
+
+-- Once a tree has an entry, the other trees that lack one are all that lack one.
+lacks-known : (t u : Tree) (es : List Entry) → has (words t) es ≡ true → lacks es u ≡ (if not (sameTree t u) then lacks es u else false)
+unfolding if_then_else_
+lacks-known t u es h = go (sameTree t u) refl
+  where
+    go : (b : Bool) → sameTree t u ≡ b → lacks es u ≡ (if not (sameTree t u) then lacks es u else false)
+    go true e = rw (e, ← tree-same t u e, h)
+    go false e = rw e
+
+-- With one more of a tree the other trees that lacked an entry lack one.
+lacks-added : (t u : Tree) (es : List Entry) → lacks (add 1 (words t) es) u ≡ (if not (sameTree t u) then lacks es u else false)
+unfolding if_then_else_ sameTree
+lacks-added t u es = rw (has-add 1 (words t) (words u) es) (go (sameWords (words t) (words u)))
+  where
+    go : (b : Bool) → not (if b then true else has (words u) es) ≡ (if not b then lacks es u else false)
+    go true = refl
+    go false = refl
+
+-- Entered one after the other, each tree that had no entry is added once.
+entered-once : (ts : List Tree) (es : List Entry) → Sorted es → enterEach ts es ≡ addEach 1 (keep (lacks es) (eachOnce ts)) es
+unfolding enterEach eachOnce addEach keep if_then_else_
+entered-once [] es s = refl
+entered-once (t ∷ ts) es s = go (has (words t) es) refl (entered-once ts es s) (entered-once ts (add 1 (words t) es) (sorted-add 1 (words t) es (omega arith) s))
+  where
+    others : Tree → Bool
+    others u = not (sameTree t u)
+
+    go : (b : Bool) → has (words t) es ≡ b → enterEach ts es ≡ addEach 1 (keep (lacks es) (eachOnce ts)) es
+        → enterEach ts (add 1 (words t) es) ≡ addEach 1 (keep (lacks (add 1 (words t) es)) (eachOnce ts)) (add 1 (words t) es)
+        → enterEach ts (addOnce (counted (words t) 1) es) ≡ addEach 1 (keep (lacks es) (t ∷ keep others (eachOnce ts))) es
+    go true e known added =
+        rw (once-has (counted (words t) 1) es e, e, keep-keep (lacks es) others (lacks es) (λ u. lacks-known t u es e) (eachOnce ts)) known
+    go false e known added =
+        rw (once-lacks (counted (words t) 1) es e, e, keep-keep (lacks es) others (lacks (add 1 (words t) es)) (λ u. lacks-added t u es) (eachOnce ts))
+        (added ∙ sym (each-add 1 (words t) (keep (lacks (add 1 (words t) es)) (eachOnce ts)) es (omega arith) s))
+
+-- Entered into nothing, each tree is added once.
+pub entered-all : (ts : List Tree) → enterEach ts [] ≡ addEach 1 (eachOnce ts) []
+unfolding Sorted has
+entered-all ts = entered-once ts [] tt ∙ ap (λ (us : List Tree). addEach 1 us []) (keep-all (lacks []) (λ u. refl) (eachOnce ts))
+
+-- ---- the parts of a kind
+
+-- The parts that these subtrees stand for, of the low or of the middle ones.
+unfoldable pub partsIn : Bool → ℕ → List Tree → List Tree
+partsIn true k ss = keep (isLow k) ss
+partsIn false k ss = map (middle k) (keep (isMiddle k) ss)
+
+-- No subtrees stand for none.
+pub parts-none : (low : Bool) (k : ℕ) → partsIn low k [] ≡ []
+unfolding partsIn keep
+parts-none true k = refl
+parts-none false k = refl
+
+-- Those of an order's subtrees are the order's.
+pub parts-all : (low : Bool) (k : ℕ) (t : Tree) → partsIn low k (subtrees t) ≡ occurring low k t
+unfolding partsIn lows middles
+parts-all true k t = refl
+parts-all false k t = refl
+
+-- Each once they are the order's, each once.
+pub parts-once : (low : Bool) (k : ℕ) (t : Tree) → eachOnce (partsIn low k (subtrees t)) ≡ partsOnce low k t
+unfolding partsIn lows middles lowParts middleParts
+parts-once true k t = refl
+parts-once false k t = refl
+
+-- A subtree is of one kind or of the other.
+either-kind : (k : ℕ) (s : Tree) → least-k ≤ k → isMiddle k s ≡ not (isLow k s)
+unfolding isMiddle isLow
+either-kind k s h = go (leb (depth s) (k - 2)) refl
+  where
+    go : (b : Bool) → leb (depth s) (k - 2) ≡ b → leb (k - 1) (depth s) ≡ not (leb (depth s) (k - 2))
+    go true e = rw e (lt-leb (k - 1) (depth s) (omega (arith, leb-true (depth s) (k - 2) e)))
+    go false e = rw e (le-leb (k - 1) (depth s) (omega (arith, leb-false (depth s) (k - 2) e)))
+
+module _ (k : ℕ) (s : Tree) (ss : List Tree) (least : least-k ≤ k) where
+  -- A subtree of the kind stands for its cut at k-1.
+  pub parts-more : (low : Bool) → isLow k s ≡ low → partsIn low k (s ∷ ss) ≡ cut s (k - 1) ∷ partsIn low k ss
+  unfolding partsIn keep if_then_else_ middle isLow
+  parts-more true e = rw (e, cut-shallow s (k - 1) (omega (arith, leb-true (depth s) (k - 2) e)))
+  parts-more false e = rw (either-kind k s least, e)
+
+  -- One of the other kind adds none.
+  pub parts-same : (low : Bool) → (isLow k s ≡ low → ⊥) → partsIn low k (s ∷ ss) ≡ partsIn low k ss
+  unfolding partsIn keep if_then_else_
+  parts-same low other = go low (isLow k s) refl other
+    where
+      go : (low b : Bool) → isLow k s ≡ b → (isLow k s ≡ low → ⊥) → partsIn low k (s ∷ ss) ≡ partsIn low k ss
+      go true true e h = absurd (h e)
+      go true false e h = rw e
+      go false true e h = rw (either-kind k s least, e)
+      go false false e h = absurd (h e)
+
+-- ---- the words of a list that grows
+
+-- Behind the words of a slice stand zeros.
+behind-zeros : (n : ℕ) (ws : List ℕ) → drop (length ws) (padded n ws) ≡ replicate (n - length ws) 0
+unfolding padded
+behind-zeros n ws = drop-append-seam ws (replicate (n - length ws) 0)
+
+module _ (n : ℕ) (es : List Entry) (even : Even es) (fits : length (sectionWords es) ≤ n) where
+  -- The list's words and the zeros fill the slice.
+  padded-long : length (padded n (sectionWords es)) ≡ n
+  unfolding padded
+  padded-long = simp (length-append, length-replicate) (omega arith)
+
+  -- The entries are read back from the slice.
+  padded-entries : entries (length es) (padded n (sectionWords es)) ≡ es
+  unfolding padded
+  padded-entries = words-entries es _ even
+
+  -- They take their words.
+  padded-span : span (length es) (padded n (sectionWords es)) ≡ length (sectionWords es)
+  unfolding padded
+  padded-span = words-span es _ even
+
+  -- They stand at the front, and zeros behind them.
+  padded-laid : Laid (padded n (sectionWords es)) (length es) (length (sectionWords es))
+  padded-laid = record {
+    within = omega (arith, padded-span);
+    room = omega (arith, padded-long);
+    zeros = rw padded-long (behind-zeros n (sectionWords es));
+  }
+
+  -- With other entries for all of them, the slice has the words of these.
+  padded-relaid : (new : List Entry) → relaid (length es) (length (sectionWords es)) new (padded n (sectionWords es)) ≡ padded n (sectionWords new)
+  unfolding relaid
+  padded-relaid new =
+      let none : length (sectionWords es) - span (length es) (padded n (sectionWords es)) ≡ 0 = omega (arith, padded-span) in
+      rw (none, padded-long, append-nil)
+
+  -- The same of a slice that was edited.
+  padded-edited : (new : List Entry) (out now : List ℕ) (many used : ℕ) (size : Size) → out ≡ padded n (sectionWords es) → many ≡ length es → used ≡ length (sectionWords es)
+      → Edited out many used new now size → (now ≡ padded n (sectionWords new)) × (size .used ≡ length (sectionWords new)) × (size .many ≡ length new)
+  padded-edited new out now many used size is counts uses ed =
+      let spans : span many out ≡ length (sectionWords es) = rw (is, counts) padded-span in
+      (ed .words ∙ rw (is, counts, uses) (padded-relaid new), omega (arith, ed .uses, spans, uses), ed .counts)
+
+-- ---- an entry entered once
+
+module _ (e : Entry) (es : List Entry) where
+  -- Two words a node are kept.
+  even-once : 2 * (length (e .key) / 2) ≡ length (e .key) → Even es → Even (addOnce e es)
+  even-once k h = go (has (e .key) es) refl
+    where
+      go : (b : Bool) → has (e .key) es ≡ b → Even (addOnce e es)
+      go true t = rw (once-has e es t) h
+      go false t = rw (once-lacks e es t) (even-add (e .count) (e .key) es k h)
+
+  -- At most the entry's words are added.
+  pub size-once : Sorted es → length (sectionWords (addOnce e es)) ≤ length (sectionWords es) + (2 + length (e .key))
+  unfolding if_then_else_
+  size-once s = go (has (e .key) es) refl
+    where
+      go : (b : Bool) → has (e .key) es ≡ b → length (sectionWords (addOnce e es)) ≤ length (sectionWords es) + (2 + length (e .key))
+      go true t = rw (once-has e es t) (omega arith)
+      go false t = rw (once-lacks e es t) (omega (arith, rw t at (size-add (e .count) (e .key) es s)))
+
+-- ---- an entry's words
+
+module _ (e : Entry) (even : 2 * (length (e .key) / 2) ≡ length (e .key)) where
+  -- Its words say how many they are.
+  entry-width : width (entryWords e) ≡ length (entryWords e)
+  entry-width = omega (arith, even)
+
+  -- It is read back from them.
+  entry-first : firstEntry (entryWords e) ≡ e
+  entry-first = rw (even, take-length)
+
+-- ---- the loop over the lines
+
+-- The loop's place: so many entries are listed at the front of `out`, and with the parts of the lines left they come to all parts; `out` has
+-- room for as many entries, and `entry` for one.
+pub record Listing (low : Bool) (k : ℕ) (os out₀ out entry : List ℕ) (line used many : ℕ) : Type 0 where
+  pub tree : Tree
+  pub passes : Passed os tree
+  pub listed : List Entry
+  pub sorted : Sorted listed
+  pub even : Even listed
+  pub words : out ≡ padded (length out₀) (sectionWords listed)
+  pub long : length out ≡ length out₀
+  pub uses : used ≡ length (sectionWords listed)
+  pub counts : many ≡ length listed
+  pub left : enterEach (partsIn low k (drop line (subtrees tree))) listed ≡ enterEach (partsIn low k (subtrees tree)) []
+  pub room : used + length (partsIn low k (drop line (subtrees tree))) * entry-words ≤ length out
+  pub spare : length entry ≡ entry-words
+
+-- A place by other names.
+pub listing-named : (low : Bool) (k : ℕ) (os out₀ out entry : List ℕ) (line used many : ℕ) (out′ entry′ : List ℕ) (used′ many′ : ℕ) → out′ ≡ out → entry′ ≡ entry → used′ ≡ used → many′ ≡ many
+    → Listing low k os out₀ out entry line used many → Listing low k os out₀ out′ entry′ line used′ many′
+listing-named low k os out₀ out entry line used many out′ entry′ used′ many′ o e u m st = rw (o, e, u, m) st
+
+-- Before the first line nothing is listed.
+pub list-start : (low : Bool) (k : ℕ) (os out entry : List ℕ) → causeOf os ≡ done → out ≡ replicate (length out) 0 → linesOf low k os * entry-words ≤ length out
+    → length entry ≡ entry-words → Listing low k os out out entry 0 0 0
+unfolding linesOf byOrder Sorted Even padded sectionWords
+list-start low k os out entry e zeros room spare =
+    let x = has-tree os e in
+    let t = x .tree in
+    let p = x .passes in
+    let none : length out - 0 ≡ length out = omega arith in
+    let all : length (occurring low k t) * entry-words ≤ length out = rw (p .is) at room in
+    record {
+      tree = t;
+      passes = p;
+      listed = [];
+      sorted = tt;
+      even = tt;
+      words = rw none zeros;
+      long = refl;
+      uses = refl;
+      counts = refl;
+      left = refl;
+      room = rw (parts-all low k t) (omega arith);
+      spare = spare;
+    }
+
+-- The parts that are listed past the last line.
+pub list-end : (low : Bool) (k : ℕ) (os out₀ out entry : List ℕ) (line used many : ℕ) (st : Listing low k os out₀ out entry line used many) → length os / 2 ≤ line
+    → st .listed ≡ listOf low k os
+unfolding listOf byOrder enterEach
+list-end low k os out₀ out entry line used many st past =
+    let t = st .tree in
+    let none : partsIn low k (drop line (subtrees t)) ≡ [] =
+    ap (partsIn low k) (drop-of-length-le (subtrees t) {i = line} (omega (arith, two-words-a-line os t (st .passes)))) ∙ parts-none low k in
+    let all : st .listed ≡ addEach 1 (partsOnce low k t) [] =
+    ap (λ (ts : List Tree). enterEach ts (st .listed)) (sym none) ∙ st .left ∙ entered-all (partsIn low k (subtrees t)) ∙ ap (λ (ts : List Tree). addEach 1 ts []) (parts-once low k t) in
+    rw (st .passes .is) all
+
+-- Two answers that are told the same are the same.
+pub told-same : (a b : Bool) → Bool·beq a b ≡ true → a ≡ b
+told-same true true e = refl
+told-same true false e = no-test e
+told-same false true e = no-test e
+told-same false false e = refl
+
+-- Two that are told apart are not.
+pub told-other : (a b : Bool) → Bool·beq a b ≡ false → a ≡ b → ⊥
+told-other true true e f = no-test (sym e)
+told-other true false e f = no-test (sym f)
+told-other false true e f = no-test f
+told-other false false e f = no-test (sym e)
+
+-- What a part tells of the tree that stands there.
+low-told : (k at : ℕ) (s : Tree) (v : PartAt) → PartIs k at s v → lowAt v ≡ isLow k s
+low-told k at s NoPart p = absurd p
+low-told k at s (LowTo e) p = sym (p .0)
+low-told k at s (MiddleTo e c) p = sym (p .0)
+
+module _ (low : Bool) (k : ℕ) (os out₀ out entry : List ℕ) (line used many : ℕ) (st : Listing low k os out₀ out entry line used many) (more : line < length os / 2) where
+  -- The line's subtree stands at its word.
+  spot : Spot os (line * 2) (treeAt (subtrees (st .tree)) line)
+  spot = line-spot os (st .tree) line (st .passes) (omega (arith, two-words-a-line os (st .tree) (st .passes)))
+
+  -- It is the first of those left.
+  next : drop line (subtrees (st .tree)) ≡ spot .tree ∷ drop (line + 1) (subtrees (st .tree))
+  next = tree-next (subtrees (st .tree)) line (spot .tree) (spot .is)
+
+  -- Its kind is what stands at its word.
+  kind-here : (b : Bool) → b ≡ lowAt (partAtOf os (line * 2) k) → isLow k (spot .tree) ≡ b
+  kind-here b is =
+      let short = short-order os (st .tree) (st .passes) in
+      sym (is ∙ low-told k (line * 2) (spot .tree) (partAtOf os (line * 2) k) (part-told os (line * 2) _ spot k (partAtOf os (line * 2) k) (partAtOf os (line * 2) k) short refl refl))
+
+  -- 128 words are room for its cut.
+  pub cut-ready : (d : ℕ) → Room (walkOf os (line * 2) d) most-words
+  cut-ready d = cut-room os (line * 2) _ spot d most-words (short-order os (st .tree) (st .passes)) (omega arith)
+
+  -- Its cut has at most 128 words.
+  cut-short : (d : ℕ) → length (words (cut (spot .tree) d)) ≤ most-words
+  cut-short d = subst (λ (w : Walked). Room w most-words) (walk-spot os (line * 2) _ spot d) (cut-ready d)
+
+  -- So many words are written of it at most.
+  pub cut-most : (d : ℕ) → length (cutOf os (line * 2) d) ≤ most-words
+  cut-most d = rw (cut-spot os (line * 2) _ spot d) (cut-short d)
+
+  -- A line of the other kind leaves the list as it is.
+  pub line-passed : (b : Bool) → least-k ≤ k → b ≡ lowAt (partAtOf os (line * 2) k) → Bool·beq b low ≡ false → Listing low k os out₀ out entry (line + 1) used many
+  line-passed b least is other =
+      let same : partsIn low k (drop line (subtrees (st .tree))) ≡ partsIn low k (drop (line + 1) (subtrees (st .tree))) =
+      ap (partsIn low k) next ∙ parts-same k (spot .tree) (drop (line + 1) (subtrees (st .tree))) least low (λ e. told-other b low other (sym (kind-here b is) ∙ e)) in
+      record {
+        tree = st .tree;
+        passes = st .passes;
+        listed = st .listed;
+        sorted = st .sorted;
+        even = st .even;
+        words = st .words;
+        long = st .long;
+        uses = st .uses;
+        counts = st .counts;
+        left = ap (λ (ts : List Tree). enterEach ts (st .listed)) (sym same) ∙ st .left;
+        room = rw (← same) (st .room);
+        spare = st .spare;
+      }
+
+  module _ (b : Bool) (least : least-k ≤ k) (is : b ≡ lowAt (partAtOf os (line * 2) k)) (same : Bool·beq b low ≡ true) where
+    -- The parts left are that of the line, and those of the lines behind it.
+    parts-here : partsIn low k (drop line (subtrees (st .tree))) ≡ cut (spot .tree) (k - 1) ∷ partsIn low k (drop (line + 1) (subtrees (st .tree)))
+    parts-here = ap (partsIn low k) next ∙ parts-more k (spot .tree) (drop (line + 1) (subtrees (st .tree))) least low (kind-here b is ∙ told-same b low same)
+
+    -- The entry of the line's part.
+    abbrev part : Entry
+    part = counted (words (cut (spot .tree) (k - 1))) 1
+
+    -- It has two words a node.
+    part-even : 2 * (length (part .key) / 2) ≡ length (part .key)
+    part-even = omega (arith, size (cut (spot .tree) (k - 1)))
+
+    -- There is room for it and for those behind it.
+    part-room : used + (2 + length (part .key)) + length (partsIn low k (drop (line + 1) (subtrees (st .tree)))) * entry-words ≤ length out
+    part-room = omega (arith, st .room, ap length parts-here, cut-short (k - 1))
+
+    -- What is written of it: the cut at d = k-1, up to `end`.
+    module _ (d end : ℕ) (entry′ : List ℕ) (deep : d ≡ k - 1) (ends : end ≡ 2 + length (cutOf os (line * 2) d))
+        (wrote : entry′ ≡ over (entryWords (counted (cutOf os (line * 2) d) 1)) entry) where
+      -- The entry's words stand before the end.
+      entry-here : take (end - 0) (drop 0 entry′) ≡ entryWords part
+      entry-here =
+          let is-cut : cutOf os (line * 2) d ≡ words (cut (spot .tree) (k - 1)) = cut-spot os (line * 2) _ spot d ∙ ap (λ (n : ℕ). words (cut (spot .tree) n)) deep in
+          let long : length (entryWords part) ≡ end - 0 = omega (arith, ends, ap length is-cut) in
+          ap (take (end - 0)) (wrote ∙ ap (λ (w : List ℕ). over (entryWords (counted w 1)) entry) is-cut) ∙ take-at (entryWords part) (drop (length (entryWords part)) entry) (end - 0) long
+
+      -- The words that are listed have room.
+      listed-fits : length (sectionWords (st .listed)) ≤ length out₀
+      listed-fits = omega (arith, part-room, st .uses, st .long)
+
+      -- The entries are those listed.
+      listed-here : entries many out ≡ st .listed
+      listed-here = ap₂ entries (st .counts) (st .words) ∙ padded-entries (length out₀) (st .listed) (st .even) listed-fits
+
+      -- It can be entered.
+      pub enter-ready : (Laid out many used × Sorted (entries many out)) × ((width (take (end - 0) (drop 0 entry′)) ≡ length (take (end - 0) (drop 0 entry′))) × (used + length (take (end - 0) (drop 0 entry′)) ≤ length out))
+      enter-ready =
+          let laid : Laid out many used = rw (st .words, st .counts, st .uses) (padded-laid (length out₀) (st .listed) (st .even) listed-fits) in
+          ((laid, rw listed-here (st .sorted)), (rw entry-here (entry-width part part-even), rw entry-here (omega (arith, part-room))))
+
+      -- Once it is entered the lines behind it are left.
+      pub line-entered : (out′ : List ℕ) (size : Size) → Edited out many used (addOnce (firstEntry (take (end - 0) (drop 0 entry′))) (entries many out)) out′ size
+          → Listing low k os out₀ out′ entry′ (line + 1) (size .used) (size .many)
+      unfolding enterEach
+      line-entered out′ size ed =
+          let n = length out₀ in
+          let new : List Entry = addOnce part (st .listed) in
+          let is-new : addOnce (firstEntry (take (end - 0) (drop 0 entry′))) (entries many out) ≡ new = ap₂ addOnce (ap firstEntry entry-here ∙ entry-first part part-even) listed-here in
+          let after = padded-edited n (st .listed) (st .even) listed-fits new out out′ many used size (st .words) (st .counts) (st .uses) (subst (λ (es : List Entry). Edited out many used es out′ size) is-new ed) in
+          let more-words : length (sectionWords new) ≤ length (sectionWords (st .listed)) + (2 + length (part .key)) = size-once part (st .listed) (st .sorted) in
+          let even = even-once part (st .listed) part-even (st .even) in
+          let fits : length (sectionWords new) ≤ n = omega (arith, more-words, part-room, st .uses, st .long) in
+          let long : length out′ ≡ n = ap length (after .0) ∙ padded-long n new even fits in
+          record {
+            tree = st .tree;
+            passes = st .passes;
+            listed = new;
+            sorted = sorted-add-once part (st .listed) (omega arith) (st .sorted);
+            even = even;
+            words = after .0;
+            long = long;
+            uses = after .1;
+            counts = after .2;
+            left = ap (λ (ts : List Tree). enterEach ts (st .listed)) (sym parts-here) ∙ st .left;
+            room = omega (arith, after .1, more-words, part-room, st .uses, st .long, long);
+            spare = ap length wrote ∙ simp (length-append, length-drop) (omega (arith, cut-most d, st .spare));
+          }

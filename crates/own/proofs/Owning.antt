@@ -1,0 +1,282 @@
+-- An order's own book: what it is, how many words it takes, and the slice that it is listed in, stage by stage. Assumes nothing.
+use Prim.Native.Nat.{ℕ, _+_, _*_, _-_, _≤_, _<_}
+use mathlib.Core.Path.{_≡_, refl, sym, ap, subst, _∙_}
+use mathlib.Core.Bool.{Bool, true, false, Bool·beq}
+use mathlib.Core.List.{List, [], _∷_, _++_, append-assoc, append-nil, List·Memᴰ·head as here, List·Memᴰ·tail as there}
+use native.Mathlib.Omega.{arith}
+use lib.ListN.{length, take, drop, set, replicate, length-append, length-replicate, replicate-append-replicate}
+use lib.Seq.{take-at, drop-at}
+use borrow.Rule.Slice.PartMut.{putMid}
+use Rattle.words.specs.Base.{over, _∈_}
+use Rattle.words.proofs.Tests.{no-test}
+use Rattle.words.proofs.Shifts.{tail-all, tail-back}
+use Rattle.figures.specs.Limits.{least-k, most-nodes, most-words, greatest-depth, head-words}
+use Rattle.figures.specs.Numbers.{done}
+use Rattle.section.specs.Entries.{Entry, counted, entryWords, sectionWords, Sorted, total, add}
+use Rattle.changes.specs.Editing.{addOnce, padded}
+use Rattle.changes.proofs.Relaying.{drop-zeros}
+use Rattle.changes.proofs.Once.{sorted-add-once}
+use Rattle.order.specs.Trees.{Tree, words, cut, subtrees}
+use Rattle.order.specs.Reading.{found, byOrder, causeOf}
+use Rattle.order.specs.Walks.{walkOf, cutOf, Room}
+use Rattle.order.specs.Parts.{isLow, top}
+use Rattle.order.specs.declared.Walked.{Walked}
+use Rattle.order.proofs.Orders.{size}
+use Rattle.order.proofs.Causes.{Passed, has-tree}
+use Rattle.order.proofs.Cutting.{cut-shallow, cut-nodes, subtree-nodes}
+use Rattle.order.proofs.Lines.{walk-spot, cut-spot}
+use Rattle.order.proofs.Spots.{top-spot, top-room}
+use Rattle.book.specs.Book.{Book, body, used, live, encode, lay}
+use Rattle.book.specs.Decoding.{placesOf}
+use Rattle.book.specs.declared.Places.{Places}
+use Rattle.book.specs.Taught.{addEach, taught, bookOf}
+use Rattle.book.proofs.Meaning.{used-is}
+use Rattle.own.specs.Own.{entry-words, own-words, ownOf, linesOf, listOf}
+use Rattle.own.proofs.Listing.{enterEach, entered-all, partsIn, parts-none, parts-all, parts-once, parts-more, parts-same, told-same, told-other, size-once}
+
+-- ---- how many words it takes
+
+-- A section of one entry has its words.
+one-words : (e : Entry) → sectionWords (e ∷ []) ≡ entryWords e
+unfolding sectionWords
+one-words e = append-nil (entryWords e)
+
+-- So it has two words more than its tree.
+one-long : (key : List ℕ) → length (sectionWords (counted key 1 ∷ [])) ≡ 2 + length key
+one-long key = rw (one-words (counted key 1)) (omega arith)
+
+-- Every subtree stands for a part of one kind.
+parts-both : (k : ℕ) (ss : List Tree) → least-k ≤ k → length (partsIn true k ss) + length (partsIn false k ss) ≡ length ss
+parts-both k [] least = rw (parts-none true k, parts-none false k) refl
+parts-both k (s ∷ ss) least = go (isLow k s) refl (parts-both k ss least)
+  where
+    go : (b : Bool) → isLow k s ≡ b → length (partsIn true k ss) + length (partsIn false k ss) ≡ length ss
+        → length (partsIn true k (s ∷ ss)) + length (partsIn false k (s ∷ ss)) ≡ length (s ∷ ss)
+    go true e ih = rw (parts-more k s ss least true e, parts-same k s ss least false (λ f. no-test (sym f ∙ e))) (omega arith)
+    go false e ih = rw (parts-same k s ss least true (λ f. no-test (sym e ∙ f)), parts-more k s ss least false e) (omega arith)
+
+-- Each part that is entered takes at most an entry's words.
+parts-size : (low : Bool) (k : ℕ) (ss : List Tree) (es : List Entry) → least-k ≤ k → Sorted es → ((s : Tree) → s ∈ ss → length (subtrees s) ≤ most-nodes)
+    → length (sectionWords (enterEach (partsIn low k ss) es)) ≤ length (sectionWords es) + length (partsIn low k ss) * entry-words
+unfolding enterEach
+parts-size low k [] es least sorted few = rw (parts-none low k) (omega arith)
+parts-size low k (s ∷ ss) es least sorted few =
+    go (Bool·beq (isLow k s) low) refl (λ fs h. parts-size low k ss fs least h (λ u m. few u (there m)))
+  where
+    go : (b : Bool) → Bool·beq (isLow k s) low ≡ b
+        → ((fs : List Entry) → Sorted fs → length (sectionWords (enterEach (partsIn low k ss) fs)) ≤ length (sectionWords fs) + length (partsIn low k ss) * entry-words)
+        → length (sectionWords (enterEach (partsIn low k (s ∷ ss)) es)) ≤ length (sectionWords es) + length (partsIn low k (s ∷ ss)) * entry-words
+    go true e ih =
+        rw (parts-more k s ss least low (told-same (isLow k s) low e))
+        (omega (
+          arith,
+          ih (addOnce (counted (words (cut s (k - 1))) 1) es) (sorted-add-once (counted (words (cut s (k - 1))) 1) es (omega arith) sorted),
+          size-once (counted (words (cut s (k - 1))) 1) es sorted,
+          few s (here refl),
+          cut-nodes s (k - 1),
+          size (cut s (k - 1)),
+        ))
+    go false e ih = rw (parts-same k s ss least low (told-other (isLow k s) low e)) (ih es sorted)
+
+module _ (k : ℕ) (os : List ℕ) (t : Tree) (p : Passed os t) (least : least-k ≤ k) where
+  -- The lines of a kind are the parts of the kind.
+  lines-are : (low : Bool) → linesOf low k os ≡ length (partsIn low k (subtrees t))
+  unfolding linesOf byOrder
+  lines-are low = rw (p .is, parts-all low k t)
+
+  -- The list is what its parts come to.
+  list-is : (low : Bool) → listOf low k os ≡ enterEach (partsIn low k (subtrees t)) []
+  unfolding listOf byOrder
+  list-is low = rw (p .is) (sym (entered-all (partsIn low k (subtrees t)) ∙ ap (λ (ts : List Tree). addEach 1 ts []) (parts-once low k t)))
+
+-- An order within the limits, and what it says of its own book.
+module _ (os : List ℕ) (is : causeOf os ≡ done) where
+  -- 128 words are room for any cut of it.
+  pub whole-ready : (d : ℕ) → Room (walkOf os 0 d) most-words
+  whole-ready d = let x = has-tree os is in top-room os (x .tree) (x .passes) d most-words (omega arith)
+
+  -- A cut of it has at most 128 words.
+  pub whole-short : (d : ℕ) → length (cutOf os 0 d) ≤ most-words
+  whole-short d =
+      let x = has-tree os is in
+      let s = top-spot os (x .tree) (x .passes) in
+      rw (cut-spot os 0 (found (x .tree)) s d) (subst (λ (w : Walked). Room w most-words) (walk-spot os 0 (found (x .tree)) s d) (whole-ready d))
+
+  module _ (k : ℕ) (least : least-k ≤ k) where
+    -- No more than 64 lines stand for a part.
+    pub few-lines : linesOf true k os + linesOf false k os ≤ most-nodes
+    few-lines =
+        let x = has-tree os is in
+        omega (arith, lines-are k os (x .tree) (x .passes) least true, lines-are k os (x .tree) (x .passes) least false, parts-both k (subtrees (x .tree)) least, x .passes .nodes)
+
+    -- The list of a kind takes an entry's words for each line of the kind at most.
+    pub list-short : (low : Bool) → length (sectionWords (listOf low k os)) ≤ linesOf low k os * entry-words
+    unfolding Sorted sectionWords
+    list-short low =
+        let x = has-tree os is in
+        let t = x .tree in
+        rw (list-is k os t (x .passes) least low, lines-are k os t (x .passes) least low)
+        (omega (arith, parts-size low k (subtrees t) [] least tt (λ s m. omega (arith, subtree-nodes t m, x .passes .nodes))))
+
+    -- Its own book has one entry for the order, one for its top, and the two lists.
+    pub own-is : ownOf k os ≡ record { k = k; T = counted (cutOf os 0 greatest-depth) 1 ∷ []; R = counted (cutOf os 0 (k - 2)) 1 ∷ []; L = listOf true k os; P = listOf false k os }
+    unfolding ownOf listOf byOrder bookOf taught add top
+    own-is =
+        let x = has-tree os is in
+        let t = x .tree in
+        let s = top-spot os t (x .passes) in
+        let all : words t ≡ cutOf os 0 greatest-depth = ap words (sym (cut-shallow t greatest-depth (x .passes .deep))) ∙ sym (cut-spot os 0 (found t) s greatest-depth) in
+        let some : words (cut t (k - 2)) ≡ cutOf os 0 (k - 2) = sym (cut-spot os 0 (found t) s (k - 2)) in
+        rw (x .passes .is, ← all, ← some)
+
+    -- It takes no more words than its slice has.
+    pub own-short : used (ownOf k os) ≤ own-words
+    own-short =
+        let whole = cutOf os 0 greatest-depth in
+        let top = cutOf os 0 (k - 2) in
+        let e = ap used own-is in
+        omega (
+          arith,
+          e,
+          used-is (record { k = k; T = counted whole 1 ∷ []; R = counted top 1 ∷ []; L = listOf true k os; P = listOf false k os }),
+          one-long whole,
+          one-long top,
+          whole-short greatest-depth,
+          whole-short (k - 2),
+          list-short true,
+          list-short false,
+          few-lines,
+        )
+
+-- ---- the slice, stage by stage
+
+-- In a slice of n words stand zeros for the head, then these words, up to `at`, and then zeros.
+pub record Stage (n : ℕ) (ws now : List ℕ) (at : ℕ) : Type 0 where
+  pub words : now ≡ replicate head-words 0 ++ padded (n - head-words) ws
+  pub place : at ≡ head-words + length ws
+  pub room : at ≤ n
+
+-- A slice of zeros has no words yet.
+pub stage-start : (own : List ℕ) → head-words ≤ length own → own ≡ replicate (length own) 0 → Stage (length own) [] own head-words
+unfolding padded
+stage-start own long zeros =
+    let n = length own in
+    let o : ℕ = 0 in
+    let whole : n ≡ head-words + (n - head-words - 0) = omega arith in
+    record {
+      words = zeros ∙ ap (λ (m : ℕ). replicate m o) whole ∙ sym (replicate-append-replicate head-words (n - head-words - 0) o);
+      place = refl;
+      room = long;
+    }
+
+module _ (n : ℕ) (ws now : List ℕ) (at : ℕ) (s : Stage n ws now at) where
+  -- The slice has n words.
+  pub stage-long : length now ≡ n
+  unfolding padded
+  stage-long = ap length (s .words) ∙ simp (length-append, length-replicate) (omega (arith, s .place, s .room))
+
+  -- The place lies within it.
+  pub stage-within : at ≤ length now
+  stage-within = omega (arith, stage-long, s .room)
+
+  -- So do the words of the head.
+  pub stage-head : (i : ℕ) → i < head-words → i < length now
+  stage-head i h = omega (arith, stage-within, s .place)
+
+  -- The words up to the place, and the zeros behind it.
+  stage-split : now ≡ (replicate head-words 0 ++ ws) ++ replicate (n - at) 0
+  unfolding padded
+  stage-split =
+      let o : ℕ = 0 in
+      let rest : n - head-words - length ws ≡ n - at = omega (arith, s .place) in
+      s .words ∙ rw rest (sym (append-assoc (replicate head-words o) ws (replicate (n - at) o)))
+
+  -- The place is past the words.
+  stage-front-long : length (replicate {A = ℕ} head-words 0 ++ ws) ≡ at
+  stage-front-long = omega (arith, s .place)
+
+  -- Before the place stand the head and the words.
+  stage-front : take at now ≡ replicate head-words 0 ++ ws
+  stage-front = ap (take at) stage-split ∙ take-at (replicate head-words 0 ++ ws) (replicate (n - at) 0) at stage-front-long
+
+  -- What is lent from the place on are zeros.
+  stage-lent : take (length now - at) (drop at now) ≡ replicate (n - at) 0
+  stage-lent =
+      tail-all at now stage-within ∙ ap (drop at) stage-split ∙ drop-at (replicate head-words 0 ++ ws) (replicate (n - at) 0) at stage-front-long
+
+  -- So many words are lent.
+  stage-lent-long : length (take (length now - at) (drop at now)) ≡ n - at
+  stage-lent-long = ap length stage-lent ∙ length-replicate (n - at) 0
+
+  -- What has room in the slice has room in what is lent.
+  pub stage-fits : (m : ℕ) → at + m ≤ n → m ≤ length (take (length now - at) (drop at now))
+  stage-fits m h = rw stage-lent-long (omega arith)
+
+  -- All that is lent is zero.
+  pub stage-zeros : take (length now - at) (drop at now) ≡ replicate (length (take (length now - at) (drop at now))) 0
+  stage-zeros = stage-lent ∙ let o : ℕ = 0 in ap (λ (m : ℕ). replicate m o) (sym stage-lent-long)
+
+  -- The words that come back with others at their front are the next stage.
+  stage-next : (w last : List ℕ) (at′ : ℕ) → at′ ≡ at + length w → at + length w ≤ n → last ≡ w ++ replicate (n - at - length w) 0
+      → Stage n (ws ++ w) (putMid at (length now - at) now last) at′
+  unfolding padded
+  stage-next w last at′ next fits is =
+      let rest : n - at - length w ≡ n - head-words - length (ws ++ w) = rw length-append (omega (arith, s .place)) in
+      record {
+        words = tail-back at now stage-within last ∙ rw (stage-front, is, rest) (simp append-assoc);
+        place = rw length-append (omega (arith, s .place, next));
+        room = omega (arith, next);
+      }
+
+  -- Words written over the zeros are the next stage.
+  pub stage-over : (w last : List ℕ) (at′ : ℕ) → at′ ≡ at + length w → at + length w ≤ n → last ≡ over w (take (length now - at) (drop at now))
+      → Stage n (ws ++ w) (putMid at (length now - at) now last) at′
+  stage-over w last at′ next fits is =
+      stage-next w last at′ next fits (is ∙ ap (over w) stage-lent ∙ ap (λ (l : List ℕ). w ++ l) (drop-zeros (n - at) (length w) (omega arith)))
+
+  -- Words with zeros behind them are the next stage.
+  pub stage-padded : (w last : List ℕ) (at′ : ℕ) → at′ ≡ at + length w → at + length w ≤ n → last ≡ padded (length (take (length now - at) (drop at now))) w
+      → Stage n (ws ++ w) (putMid at (length now - at) now last) at′
+  unfolding padded
+  stage-padded w last at′ next fits is = stage-next w last at′ next fits (is ∙ rw stage-lent-long refl)
+
+-- ---- the head
+
+module _ (n : ℕ) (b : Book) (ws now : List ℕ) (at : ℕ) (is : ws ≡ body b) (s : Stage n ws now at) where
+  -- With its seven words the slice is the book's.
+  pub head-written : (k lows middles : ℕ) → k ≡ b .k → live b ≡ 1 → length (b .T) ≡ 1 → length (b .R) ≡ 1 → lows ≡ length (b .L) → middles ≡ length (b .P)
+      → set (set (set (set (set (set (set now 0 k) 1 at) 2 1) 3 1) 4 1) 5 lows) 6 middles ≡ lay n b
+  unfolding lay encode used padded
+  head-written k lows middles depth one taught tops low middle =
+      let past : n - head-words - length (body b) ≡ n - (head-words + length (body b)) = omega arith in
+      rw (s .words, s .place, is, depth, one, taught, tops, low, middle, past) refl
+
+-- ---- the whole
+
+module _ (k : ℕ) (whole top : List ℕ) (ls ms : List Entry) where
+  -- The book of one entry for the order, one for its top, and two lists.
+  abbrev pub book : Book
+  book = record { k = k; T = counted whole 1 ∷ []; R = counted top 1 ∷ []; L = ls; P = ms }
+
+  -- The words that are written one after the other are those of the book.
+  pub book-body : ((entryWords (counted whole 1) ++ entryWords (counted top 1)) ++ sectionWords ls) ++ sectionWords ms ≡ body book
+  unfolding body
+  book-body = rw (one-words (counted whole 1), one-words (counted top 1)) (simp append-assoc)
+
+  -- One teaching is live.
+  pub book-live : live book ≡ 1
+  unfolding live total
+  book-live = refl
+
+  -- Where its sections start.
+  pub book-places : (tops lows middles uses : ℕ) → tops ≡ head-words + (2 + length whole) → lows ≡ tops + (2 + length top) → middles ≡ lows + length (sectionWords ls)
+      → uses ≡ middles + length (sectionWords ms) → _≡_ {A = Places} (record { k = record { k = k }; tops = tops; lows = lows; middles = middles; used = uses }) (placesOf book)
+  unfolding placesOf used body
+  book-places tops lows middles uses t l m u =
+      let one : length (sectionWords (book .T)) ≡ 2 + length whole = one-long whole in
+      let two : length (sectionWords (book .R)) ≡ 2 + length top = one-long top in
+      let e₁ : tops ≡ head-words + length (sectionWords (book .T)) = omega arith in
+      let e₂ : lows ≡ head-words + length (sectionWords (book .T)) + length (sectionWords (book .R)) = omega arith in
+      let e₃ : middles ≡ head-words + length (sectionWords (book .T)) + length (sectionWords (book .R)) + length (sectionWords ls) = omega arith in
+      let e₄ : uses ≡ used book = simp length-append (omega arith) in
+      rw (e₁, e₂, e₃, e₄) refl

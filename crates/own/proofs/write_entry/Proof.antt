@@ -1,0 +1,102 @@
+-- `own::write_entry` meets its contract: the cut is written behind two words, which are then its number of nodes and 1. Assumes nothing.
+use Prim.Native.Nat.{ℕ, _+_, _-_, _/_, _≤_}
+use mathlib.Core.Path.{_≡_, refl, ap, _∙_}
+use mathlib.Core.List.{List, _++_, append-assoc}
+use native.Mathlib.Omega.{arith}
+use lib.ListN.{length, take, drop, set, length-append, length-take, length-drop, length-set}
+use lib.Seq.{drop-at, length-take-le}
+use borrow.Author.Needs.{needs}
+use Rattle.words.specs.Base.{over}
+use Rattle.figures.specs.Limits.{most-words}
+use Rattle.section.specs.Entries.{counted, entryWords}
+use Rattle.order.specs.Walks.{walkOf, cutOf, Room, cutLength}
+use Rattle.order.specs.declared.Laid.{Laid}
+use Rattle.order.specs.declared.Walked.{Walked}
+use Rattle.order.specs.declared.Walked.the-variants.{Broken, Whole}
+use Rattle.order.proofs.Cuts.{room-cut, set-two, part-back}
+use Rattle.own.proofs.write_entry.Statement.{statement}
+use Rattle.own.proofs.write_entry.Tie as tie
+
+-- A cut that has room has room in more words.
+room-more : (w : Walked) (n m : ℕ) → Room w n → n ≤ m → Room w m
+room-more Broken n m r h = r
+room-more (Whole e d c) n m r h = omega arith
+
+-- A cut that has room is that short.
+room-short : (w : Walked) (n : ℕ) → Room w n → cutLength w ≤ n
+room-short Broken n r = absurd r
+room-short (Whole e d c) n r = r
+
+-- An entry of a cut that was written behind two words, once these are written too.
+entry-over : (w l last : List ℕ) → 2 + length w ≤ length l → last ≡ over w (take (length l - 2) (drop 2 l))
+    → set (set (take 2 l ++ (last ++ drop (length l - 2) (drop 2 l))) 0 (length w / 2)) 1 1 ≡ over (entryWords (counted w 1)) l
+entry-over w l last fits is =
+    let new : take 2 l ++ (last ++ drop (length l - 2) (drop 2 l)) ≡ (take 2 l ++ w) ++ drop (2 + length w) l = part-back 2 l w last fits is in
+    let two : length (take 2 l) ≡ 2 = length-take-le 2 l (omega arith) in
+    let long : 2 ≤ length ((take 2 l ++ w) ++ drop (2 + length w) l) = simp (length-append, length-take) (omega arith) in
+    let rest : drop 2 ((take 2 l ++ w) ++ drop (2 + length w) l) ≡ w ++ drop (2 + length w) l =
+    ap (drop 2) (append-assoc (take 2 l) w (drop (2 + length w) l)) ∙ drop-at (take 2 l) (w ++ drop (2 + length w) l) 2 two in
+    let past : 2 + length w ≡ length (entryWords (counted w 1)) = omega arith in
+    rw (new, set-two ((take 2 l ++ w) ++ drop (2 + length w) l) (length w / 2) 1 long, rest, past) refl
+
+-- The cut's length is what was written, and it is short.
+count-is : (c : tie.After-put) →
+    let b = c .before .before .before .before in
+    (c .put .result .count ≡ length (cutOf (b .args .order .now) (b .args .at) (b .args .d))) × (c .put .result .count ≤ most-words)
+count-is c =
+    let b = c .before .before .before .before in
+    let r = room-cut (b .args .order .now) (b .args .at) (b .args .d) most-words (b .pre .0) in
+    let e : c .put .result .count ≡ cutLength (walkOf (b .args .order .now) (b .args .at) (b .args .d)) = ap (λ (x : Laid). x .count) (c .put .ensures .0) in
+    (e ∙ r .1, omega (arith, e, room-short (walkOf (b .args .order .now) (b .args .at) (b .args .d)) most-words (b .pre .0)))
+
+sub-put : tie.Need-sub-put
+sub-put c = search needs
+
+part-put-start : tie.Need-part-put-start
+part-put-start c = search needs
+
+part-put-end : tie.Need-part-put-end
+part-put-end c = search needs
+
+put-requires : tie.Need-put-requires
+put-requires c κs =
+    let b = c .before .before .before in
+    room-more (walkOf (b .args .order .now) (b .args .at) (b .args .d)) most-words _ (b .pre .0) (simp (length-take, length-drop) (omega (arith, b .pre .1)))
+
+cast-out : tie.Need-cast-out
+cast-out c = omega (arith, count-is (c .before .before) .1)
+
+slice-write-out : tie.Need-slice-write-out
+slice-write-out c = search needs
+
+same-length : tie.Need-same-length
+same-length c = search needs
+
+slice-write-out-2 : tie.Need-slice-write-out-2
+slice-write-out-2 c = simp length-set (omega (arith, simp length-set at (same-length c), c .before .before .before .before .before .before .pre .1))
+
+add-result : tie.Need-add-result
+add-result c = omega (arith, count-is (c .before .before) .1)
+
+returns : tie.Need-returns
+returns c =
+    let b = c .before .before .before .before .before .before in
+    let w = cutOf (b .args .order .now) (b .args .at) (b .args .d) in
+    let n = count-is (c .before .before) in
+    let is : c .before .before .put .result .count ≡ length w = n .0 in
+    (rw is refl, rw is (entry-over w (b .args .out .now) _ (omega (arith, n .0, n .1, b .pre .1)) (c .before .before .put .ensures .1)))
+
+pub write-entry-spec : {M : Type 1} → statement M
+write-entry-spec =
+    tie.close
+    (tie.spec
+    sub-put
+    part-put-start
+    part-put-end
+    put-requires
+    cast-out
+    slice-write-out
+    slice-write-out-2
+    add-result
+    same-length
+    returns)

@@ -1,0 +1,118 @@
+// An order's own book: the book of one teaching of it, listed in a lent slice. Its parts are entered in ascending order, each once, so that a
+// book can be weighed against it and changed by it in one pass. Assumes nothing beyond each function's `requires`.
+ghost use mathlib.Core.Path.{_≡_};
+ghost use Prim.Native.Nat.{_+_, _*_, _≤_};
+ghost use lib.ListN.{length, replicate};
+ghost use Rattle.words.specs.Base.{over};
+ghost use Rattle.figures.specs.Limits.{least-k, most-words};
+ghost use Rattle.figures.specs.Numbers.{done};
+ghost use Rattle.section.specs.Entries.{counted, entryWords, sectionWords};
+ghost use Rattle.changes.specs.Editing.{padded};
+ghost use Rattle.order.specs.Reading.{causeOf};
+ghost use Rattle.order.specs.Walks.{walkOf, cutOf, partAtOf, Room};
+ghost use Rattle.book.specs.Book.{lay};
+ghost use Rattle.book.specs.Decoding.{placesOf};
+ghost use Rattle.own.specs.Own.{entry-words, own-words, ownOf, linesOf, listOf, sizeOf, lowAt};
+use book::Places;
+use changes::Size;
+use figures::Depth;
+use figures::limits;
+use order::PartAt;
+
+// The most words that an entry takes.
+const ENTRY_WORDS: usize = 2 + limits::MOST_WORDS;
+
+// The most words that an order's own book takes: its head, the order, its top, and a part for each line.
+pub const OWN_WORDS: usize = limits::HEAD_WORDS + (2 + limits::MOST_NODES) * ENTRY_WORDS;
+
+// Writes an entry of count 1 for the cut at d of the tree at word `at` to the front of `out`. Answers its number of words.
+fn write_entry(order: &[u16], at: usize, d: usize, out: &mut [u16]) -> usize
+    requires { ⌜ Room (walkOf (now order) at d) most-words ⌝ }
+    requires { ⌜ entry-words ≤ length (now out) ⌝ }
+    ensures came { λ r. ⌜ r ≡ 2 + length (cutOf (now (order .entry)) at d) ⌝ }
+    ensures wrote { λ _. ⌜ now (out .exit) ≡ over (entryWords (counted (cutOf (now (order .entry)) at d) 1)) (now (out .entry)) ⌝ }
+{
+    let laid = order::put(order, at, d, &mut out[2..]);
+    let count = laid.count;
+    let nodes = count / 2;
+    out[0] = nodes as u16;
+    out[1] = 1;
+    2 + count
+}
+
+// Whether the tree at word `at` stands for a low part.
+fn is_low(order: &[u16], at: usize, k: Depth) -> bool
+    ensures { λ r. ⌜ r ≡ lowAt (partAtOf (now (order .entry)) at (k .k)) ⌝ }
+{
+    match order::part_at(order, at, k) {
+        PartAt::NoPart => false,
+        PartAt::LowTo { end: _ } => true,
+        PartAt::MiddleTo { end: _, count: _ } => false,
+    }
+}
+
+// Lists the order's low parts, or its middle parts, at the front of `out`, whose words are zero: an entry of count 1 for each, once however
+// often it occurs, ascending. The words of either kind are the cut at k-1, since that of a low part is the subtree itself.
+fn list_parts(order: &[u16], k: Depth, low: bool, out: &mut [u16]) -> Size
+    requires { ⌜ least-k ≤ k .k ⌝ }
+    requires { ⌜ causeOf (now order) ≡ done ⌝ }
+    requires { ⌜ now out ≡ replicate (length (now out)) 0 ⌝ }
+    requires { ⌜ linesOf low (k .k) (now order) * entry-words ≤ length (now out) ⌝ }
+    ensures came { λ r. ⌜ r ≡ sizeOf (listOf low (k .k) (now (order .entry))) ⌝ }
+    ensures wrote { λ _. ⌜ now (out .exit) ≡ padded (length (now (out .entry))) (sectionWords (listOf low (k .k) (now (order .entry)))) ⌝ }
+{
+    let mut entry = [0u16; ENTRY_WORDS];
+    let lines = order.len() / 2;
+    let mut line: usize = 0;
+    let mut used: usize = 0;
+    let mut many: usize = 0;
+    while line < lines {
+        let at = line * 2;
+        if is_low(order, at, k) == low {
+            let end = write_entry(order, at, k.of_middles(), &mut entry);
+            let size = changes::enter_once(out, many, used, &entry[0..end]);
+            used = size.used;
+            many = size.many;
+        }
+        line += 1;
+    }
+    Size { used, many }
+}
+
+// Lists the order's own book in `own`, whose words are zero. Answers where its sections start.
+pub fn list_own(order: &[u16], k: Depth, own: &mut [u16]) -> Places
+    requires { ⌜ least-k ≤ k .k ⌝ }
+    requires { ⌜ causeOf (now order) ≡ done ⌝ }
+    requires { ⌜ now own ≡ replicate (length (now own)) 0 ⌝ }
+    requires { ⌜ length (now own) ≡ own-words ⌝ }
+    ensures came { λ r. ⌜ r ≡ placesOf (ownOf (k .k) (now (order .entry))) ⌝ }
+    ensures wrote { λ _. ⌜ now (own .exit) ≡ lay own-words (ownOf (k .k) (now (order .entry))) ⌝ }
+{
+    let whole = write_entry(
+        order,
+        0,
+        limits::GREATEST_DEPTH,
+        &mut own[limits::HEAD_WORDS..],
+    );
+    let tops = limits::HEAD_WORDS + whole;
+    let top = write_entry(order, 0, k.of_tops(), &mut own[tops..]);
+    let lows = tops + top;
+    let low = list_parts(order, k, true, &mut own[lows..]);
+    let middles = lows + low.used;
+    let middle = list_parts(order, k, false, &mut own[middles..]);
+    let used = middles + middle.used;
+    own[limits::K_WORD] = k.value();
+    own[limits::USED_WORD] = used as u16;
+    own[limits::LIVE_WORD] = 1;
+    own[limits::TAUGHT_WORD] = 1;
+    own[limits::TOPS_WORD] = 1;
+    own[limits::LOWS_WORD] = low.many as u16;
+    own[limits::MIDDLES_WORD] = middle.many as u16;
+    Places {
+        k,
+        tops,
+        lows,
+        middles,
+        used,
+    }
+}
