@@ -9,7 +9,7 @@ use Rattle.book.specs.Book.{Book, used, lay, inForm}
 use Rattle.book.specs.Decoding.{bookIn, placesOf, startOf}
 use Rattle.book.specs.Holding.{Holds}
 use Rattle.book.specs.declared.Section.{Section}
-use Rattle.book.specs.declared.Section.the-variants.{Taught, Tops, Lows, Middles}
+use Rattle.book.specs.declared.Section.the-variants.{Tops, Lows, Middles}
 use Rattle.book.specs.declared.Places.{Places}
 use Rattle.book.proofs.Meaning.{laid-read, lay-long, used-fits}
 use Rattle.amend.specs.Changing.{withSection, changedIn, Stands, Ready}

@@ -1,25 +1,24 @@
 -- A section of a book that stands in words: what a call that changes it asks, and what the words are then. Assumes nothing.
-use Prim.Native.Nat.{ℕ, _+_, _-_, _≤_, _<_}
+use Prim.Native.Nat.{ℕ, _+_, _-_, _≤_}
 use mathlib.Core.Path.{_≡_, refl, sym, ap, _∙_}
 use mathlib.Core.Bool.{true}
 use mathlib.Core.List.{List}
 use native.Mathlib.Omega.{arith}
-use lib.ListN.{length, getD, set, take, drop, length-drop}
+use lib.ListN.{length, getD, set, drop, length-drop}
 use borrow.Rule.Slice.PartMut.{putMid}
-use Rattle.words.proofs.Shifts.{tail-all, tail-back}
-use Rattle.figures.specs.Limits.{head-words, greatest-count, most-book-words}
+use Rattle.words.proofs.Shifts.{tail-back}
 use Rattle.section.specs.Entries.{Entry, sectionWords, entries, span, Even, Sorted}
 use Rattle.changes.specs.Editing.{fitting, Laid, Edited}
 use Rattle.changes.specs.declared.Size.{Size}
 use Rattle.changes.proofs.Relaying.{length-size}
-use Rattle.book.specs.Book.{Book, sectionOf, used, live, lay, inForm}
+use Rattle.book.specs.Book.{Book, sectionOf, used, live, lay}
 use Rattle.book.specs.Decoding.{bookIn, slotOf}
 use Rattle.book.specs.declared.Section.{Section}
 use Rattle.book.specs.declared.Section.the-variants.{Taught, Tops, Lows, Middles}
 use Rattle.book.proofs.Meaning.{form-proper, section-even, used-fits}
 use Rattle.amend.specs.Changing.{changed, withSection, changedIn, livesThen, LivesReady, Stands, Ready}
 use Rattle.amend.specs.declared.Change.{Change}
-use Rattle.amend.proofs.Sections.{form-sorted, form-fitting, before, behind, start-is, used-with, used-split, slot-read, live-read, start-used, part-entries, part-span, part-laid, used-then, then-laid}
+use Rattle.amend.proofs.Sections.{form-sorted, form-fitting, start-is, used-with, used-split, slot-read, live-read, start-used, part-entries, part-span, part-laid, used-then, then-laid}
 
 -- The section that is given other entries has them.
 section-with : (s : Section) (es : List Entry) (b : Book) → sectionOf s (withSection s es b) ≡ es

@@ -1,3 +1,4 @@
 -- The definitions of the crate.
 pub mod Conditions
 pub mod Heard
+pub mod Whys

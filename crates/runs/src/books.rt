@@ -17,10 +17,10 @@ const BEFORE: u16 = 9;
 const MOST_WORDS: usize = 16385;
 
 // The words that an order may have.
-const MOST_ORDER: usize = 140;
+pub const MOST_ORDER: usize = 140;
 
 // Says an answer: its number and its line.
-fn answer(answer: Answer) {
+pub fn answer(answer: Answer) {
     say::word(answer.number);
     say::text(b", line ");
     say::count(answer.line);

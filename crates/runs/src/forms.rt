@@ -4,8 +4,8 @@
 //   write ROOM W W ..    the order of these words is written to an output of so many bytes
 //   there W W ..         the order of these words is written and read back
 //   back TEXT            the text is read and written back
-// The cases of books stand on lines like these: see `books`.
-use crate::books;
+// The cases of books stand on lines like these: see `calls` and `books`.
+use crate::calls;
 use crate::lent;
 use crate::lent::HELD;
 use crate::lent::MARK;
@@ -104,7 +104,7 @@ fn with_room(reads: bool, behind: &[u8]) {
 }
 
 // Runs a case of forms, or else one of books, by its kind and what stands behind that.
-fn case(kind: &[u8], behind: &[u8]) {
+fn case(kind: &[u8], behind: &[u8], kept: &mut [u16]) {
     if same::bytes(kind, b"read") {
         with_room(true, behind);
         return;
@@ -121,11 +121,11 @@ fn case(kind: &[u8], behind: &[u8]) {
         back(behind);
         return;
     }
-    books::case(kind, behind);
+    calls::case(kind, behind, kept);
 }
 
-// Says a line, and what comes of the case on it.
-pub fn run(line: &[u8]) {
+// Says a line, and what comes of the case on it, which may be one of a kept book.
+pub fn run(line: &[u8], kept: &mut [u16]) {
     say::text(line);
     say::end();
     let end = line::find(line, b' ', 0);
@@ -134,6 +134,6 @@ pub fn run(line: &[u8]) {
         return;
     }
     say::text(b"  ");
-    case(kind, &line[end..]);
+    case(kind, &line[end..], kept);
     say::end();
 }

@@ -1,17 +1,24 @@
 // Standard input: the lines that it holds, each run in turn.
+use crate::calls;
 use crate::forms;
 use crate::line;
 use crate::say;
 use libc::STDIN_FILENO;
 
-// Runs each line of a text; the last may stand without LF.
-fn lines(text: &[u8]) {
+// Runs each line of a text, with one kept book; the last may stand without LF.
+fn lines(text: &[u8], kept: &mut [u16]) {
     let mut at = 0;
     while at < text.len() {
         let end = line::find(text, b'\n', at);
-        forms::run(&text[at..end]);
+        forms::run(&text[at..end], kept);
         at = end + 1;
     }
+}
+
+// Runs each line of a text; no book is laid before the first.
+fn all(text: &[u8]) {
+    let mut kept = [0u16; calls::HELD];
+    lines(text, &mut kept);
 }
 
 // Says so if standard input holds more than was read.
@@ -28,6 +35,6 @@ fn rest() {
 pub fn run() {
     let mut buffer = io::large_buffer();
     let n = io::read_full(STDIN_FILENO, &mut buffer);
-    lines(&buffer[..n]);
+    all(&buffer[..n]);
     rest();
 }

@@ -3,7 +3,7 @@ ghost use Prim.Native.Nat.{_≤_};
 ghost use lib.ListN.{length};
 
 // The greatest number that is read: what a word holds.
-const GREATEST: usize = 65535;
+pub const GREATEST: usize = 65535;
 
 // The answer where a number, words or a text cannot be read: above every number, and above every room.
 const NONE: usize = 65536;

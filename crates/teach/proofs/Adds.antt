@@ -19,14 +19,12 @@ use Rattle.section.proofs.Counts.{counts-own, counts-other, count-add, count-lo
 use Rattle.section.proofs.Sorting.{sorted-lower, same-counts}
 use Rattle.changes.proofs.Adding.{sorted-add-all, count-add-all}
 use Rattle.changes.proofs.Lowering.{sorted-lower-all, count-lower-all}
-use Rattle.changes.proofs.Weighing.{lacking-size, lacking-none, none-lacking, entry-fitting, overfull-fitting}
+use Rattle.changes.proofs.Weighing.{lacking-size, lacking-none, none-lacking, overfull-fitting}
 use Rattle.book.specs.Book.{Book, sectionOf, used, live, inForm}
 use Rattle.book.specs.Taught.{addEach, taught, bookOf}
 use Rattle.book.specs.declared.Section.{Section}
 use Rattle.book.specs.declared.Section.the-variants.{Taught, Tops, Lows, Middles}
-use Rattle.book.proofs.Meaning.{form-proper, used-is}
-use Rattle.book.proofs.Holding.{section-sorted}
-use Rattle.book.proofs.Sound.{form-sound, sound-section}
+use Rattle.book.proofs.Meaning.{used-is}
 use Rattle.book.proofs.Taught.{lacks-any, count-each, lows-once, middles-once, sorted-each, each-keys}
 use Rattle.teach.specs.Calls.{withinCounts, lowerEach, withdrawn, hasEach, hasParts, treesIn}
 use Rattle.own.specs.Own.{ownBook}

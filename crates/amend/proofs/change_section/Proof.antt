@@ -1,14 +1,13 @@
 -- `amend::change_section` meets its contract. Assumes nothing.
-use Prim.Native.Nat.{ℕ, _+_, _-_, _≤_, _<_}
-use mathlib.Core.Path.{_≡_, refl, sym, ap, _∙_}
-use mathlib.Core.List.{List}
+use Prim.Native.Nat.{_+_, _-_, _≤_, _<_}
+use mathlib.Core.Path.{_≡_}
 use native.Mathlib.Omega.{arith}
-use lib.ListN.{length, getD, take, drop, length-set}
+use lib.ListN.{length, take, drop, length-set}
 use borrow.Author.Needs.{needs}
 use Rattle.words.proofs.Shifts.{tail-all}
 use Rattle.book.specs.Book.{used}
-use Rattle.book.specs.Decoding.{bookIn, slotOf}
-use Rattle.amend.specs.Changing.{changedIn, Stands}
+use Rattle.book.specs.Decoding.{bookIn}
+use Rattle.amend.specs.Changing.{changedIn}
 use Rattle.amend.proofs.Sections.{slot-small}
 use Rattle.amend.proofs.Standing.{stand-fits, stand-start, lives-ready, entries-ready, end-then, many-then, words-then}
 use Rattle.amend.proofs.change_section.Statement.{statement}

@@ -1,13 +1,13 @@
 -- `amend::lives` meets its contract. Assumes nothing.
 use Prim.Native.Nat.{ℕ, _+_, _-_, _≤_}
-use mathlib.Core.Path.{_≡_, subst₂}
+use mathlib.Core.Path.{_≡_}
 use native.Mathlib.Omega.{arith}
 use Rattle.figures.specs.Limits.{greatest-count}
 use Rattle.book.specs.declared.Section.{Section}
 use Rattle.book.specs.declared.Section.the-variants.{Taught}
 use Rattle.amend.specs.declared.Change.{Change}
 use Rattle.amend.specs.declared.Change.the-variants.{Teach, Withdraw}
-use Rattle.amend.specs.Changing.{livesThen, LivesReady}
+use Rattle.amend.specs.Changing.{LivesReady}
 use borrow.Author.Needs.{needs}
 use Rattle.amend.proofs.lives.Statement.{statement}
 use Rattle.amend.proofs.lives.Tie as tie

@@ -1,4 +1,6 @@
--- `runs::input::lines` is safe and ends: each turn goes past the end of a line. Assumes nothing.
+-- `runs::input::lines` is safe and ends: each turn goes past the end of a line, and what keeps a book has as many words as before.
+-- Assumes nothing.
+use mathlib.Core.Path.{_≡_}
 use Prim.Native.Nat.{_-_}
 use lib.ListN.{length}
 use borrow.Author.Needs.{needs}
@@ -6,10 +8,10 @@ use Rattle.runs.proofs.input.lines.Statement.{statement}
 use Rattle.runs.proofs.input.lines.Tie as tie
 
 abbrev Inv-loop : tie.InvT-loop
-Inv-loop text at₀ at = Unit {0}
+Inv-loop text kept₀ at₀ kept at = length kept ≡ length kept₀
 
 abbrev μ-loop : tie.MeasureT-loop
-μ-loop text at₀ at = length text - at
+μ-loop text kept₀ at₀ kept at = length text - at
 
 loop-holds : tie.Need-loop-holds Inv-loop μ-loop
 loop-holds c = search needs
@@ -38,6 +40,9 @@ loop-less c = search needs
 loop-again : tie.Need-loop-again Inv-loop μ-loop
 loop-again c = search needs
 
+same-length : tie.Need-same-length Inv-loop μ-loop
+same-length c = search needs
+
 returns : tie.Need-returns Inv-loop μ-loop
 returns c = search needs
 
@@ -56,4 +61,5 @@ lines-spec =
     add-at
     loop-less
     loop-again
+    same-length
     returns)
