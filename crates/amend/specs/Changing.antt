@@ -1,5 +1,5 @@
--- A book changed by another, section by section: teaching adds an order's own book, and withdrawing takes it away. Assumes nothing: these
--- are definitions.
+-- A book changed by another, section by section: teaching adds an order's own book, in which every count is 1, and withdrawing takes it
+-- away. Assumes nothing: these are definitions.
 use Prim.Native.Nat.{ℕ, _+_, _-_, _≤_}
 use mathlib.Core.Path.{_≡_}
 use mathlib.Core.Bool.{Bool, true}
@@ -8,7 +8,7 @@ use lib.ListN.{length}
 use Rattle.words.specs.Base.{if_then_else_}
 use Rattle.figures.specs.Limits.{head-words, most-book-words, greatest-count}
 use Rattle.section.specs.Entries.{Entry}
-use Rattle.changes.specs.Editing.{addAll, lowerAll, lackingWords, overfull}
+use Rattle.changes.specs.Editing.{addAll, lowerAll, lackingWords, overfull, weighed}
 use Rattle.changes.specs.declared.Weighed.{Weighed}
 use Rattle.book.specs.Book.{Book, sectionOf, used, live, lay, inForm}
 use Rattle.book.specs.Decoding.{bookIn, placesOf, startOf}
@@ -17,7 +17,7 @@ use Rattle.book.specs.declared.Section.the-variants.{Taught, Tops, Lows, Middle
 use Rattle.amend.specs.declared.Change.{Change}
 use Rattle.amend.specs.declared.Change.the-variants.{Teach, Withdraw}
 
--- A section's entries, changed by those of another.
+-- A section's entries, changed by those of another: teaching adds the other's counts, and withdrawing takes one for each of its keys.
 abbrev pub changed : Change → List Entry → List Entry → List Entry
 changed Teach os es = addAll os es
 changed Withdraw os es = lowerAll os es
@@ -37,7 +37,7 @@ changedIn c s own b = withSection s (changed c (sectionOf s own) (sectionOf s b)
 unfoldable pub changedBook : Change → Book → Book → Book
 changedBook c own b = changedIn c Taught own (changedIn c Tops own (changedIn c Lows own (changedIn c Middles own b)))
 
--- The live teachings, changed by those of another book; only section T has them.
+-- The live teachings, changed by those of another book, each of whose orders counts 1 if they are taken; only section T has them.
 abbrev pub livesThen : Change → Section → ℕ → ℕ → ℕ
 livesThen Teach Taught live more = live + more
 livesThen Withdraw Taught live more = live - more
@@ -62,7 +62,7 @@ pub record Stands (ws : List ℕ) (s : Section) (at uses : ℕ) : Type 0 where
   pub start : at ≡ startOf s (placesOf (bookIn ws))
   pub end : uses ≡ used (bookIn ws)
 
--- The changed book is in form and has room, and its live teachings are those of both.
+-- The changed book is in form and has room, and its live teachings are those that `livesThen` says.
 pub record Ready (n : ℕ) (c : Change) (s : Section) (own b : Book) : Type 0 where
   pub form : inForm (changedIn c s own b) ≡ true
   pub room : used (changedIn c s own b) ≤ n
@@ -78,7 +78,7 @@ pub record ReadyAll (n : ℕ) (c : Change) (own b : Book) : Type 0 where
 
 -- What another book would do to a section of a book.
 abbrev pub weighedIn : Section → Book → Book → Weighed
-weighedIn s own b = record { lacking = lackingWords (sectionOf s own) (sectionOf s b); overfull = overfull (sectionOf s own) (sectionOf s b) }
+weighedIn s own b = weighed (sectionOf s own) (sectionOf s b)
 
 -- How many words of another book's sections R, L and P the book lacks.
 unfoldable pub lackingParts : Book → Book → ℕ

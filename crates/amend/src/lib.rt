@@ -1,5 +1,5 @@
-// A book amended by another one of the same k: weighed against it, and then changed by it, section by section. Teaching adds an order's own
-// book, and withdrawing takes it away. Assumes nothing beyond each function's `requires`.
+// A book amended by another: weighed against it, and then changed by it, section by section. Teaching adds an order's own book, and withdrawing
+// takes it away. Assumes nothing beyond each function's `requires`.
 ghost use mathlib.Core.Path.{_≡_};
 ghost use mathlib.Core.Bool.{true};
 ghost use Prim.Native.Nat.{_+_, _-_, _≤_};

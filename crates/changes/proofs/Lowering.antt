@@ -15,12 +15,12 @@ use Rattle.words.specs.declared.Compared.the-variants.{Lower, Equal, Higher}
 use Rattle.words.proofs.Ordered.{compare-self, compare-flip}
 use Rattle.words.proofs.Tests.{and-left, and-right, and-both, words-same}
 use Rattle.figures.specs.Limits.{greatest-count}
-use Rattle.section.specs.Entries.{Entry, counted, sectionWords, width, Even, has, countsFor, countOf, Below, Sorted, lessened, lower}
+use Rattle.section.specs.Entries.{Entry, counted, sectionWords, width, has, countsFor, countOf, Below, Sorted, lessened, lower}
 use Rattle.changes.specs.Editing.{lowerAll, fitting, lessenedWords, lessenedBy}
 use Rattle.changes.specs.declared.Lessened.{Lessened}
 use Rattle.section.proofs.Counts.{below-trans, below-lacks, counts-own, counts-other, lessened-out, lessened-left, count-lower}
 use Rattle.section.proofs.Sorting.{below-lower, sorted-lower}
-use Rattle.section.proofs.Sizes.{size-first, even-lower}
+use Rattle.section.proofs.Sizes.{size-first}
 
 -- ---- one key
 
@@ -69,12 +69,6 @@ pub below-lower-all : (y : List ℕ) (os es : List Entry) → Sorted es → Belo
 unfolding lowerAll
 below-lower-all y [] es s h = h
 below-lower-all y (o ∷ os) es s h = below-lower y (o .key) (lowerAll os es) (sorted-lower-all os es s) (below-lower-all y os es s h)
-
--- Its keys keep two words a node.
-pub even-lower-all : (os es : List Entry) → Even es → Even (lowerAll os es)
-unfolding lowerAll
-even-lower-all [] es h = h
-even-lower-all (o ∷ os) es h = even-lower (o .key) (lowerAll os es) (even-lower-all os es h)
 
 -- Every count stays at most 65,535.
 pub fitting-lower-all : (os es : List Entry) → fitting es ≡ true → fitting (lowerAll os es) ≡ true

@@ -4,16 +4,14 @@ use Prim.Native.Nat.{ℕ, _+_, _-_, _≤_}
 use mathlib.Core.Path.{_≡_, refl, sym, ap, _∙_}
 use mathlib.Core.Bool.{Bool, true, false}
 use mathlib.Core.List.{List, [], _∷_, _++_, append-assoc, List·Memᴰ·head as here, List·Memᴰ·tail as there}
-use native.Mathlib.Nat.{zero-add}
 use native.Mathlib.Omega.{arith}
 use lib.ListN.{length, take, drop}
 use lib.Seq.{take-all}
 use Rattle.words.specs.Base.{if_then_else_, _∈_}
 use Rattle.words.specs.Compare.{_≺_}
-use Rattle.section.specs.Entries.{Entry, counted, entryWords, sectionWords, width, firstEntry, entries, has, countsFor, countOf, look, Below, Sorted, add}
+use Rattle.section.specs.Entries.{Entry, counted, entryWords, sectionWords, width, firstEntry, entries, has, look, Below, Sorted, add}
 use Rattle.changes.specs.Editing.{addOnce, Laid, Edited}
 use Rattle.section.specs.declared.Found.the-variants.{At, Absent}
-use Rattle.section.proofs.Counts.{count-add}
 use Rattle.section.proofs.Searches.{look-has, look-lacks, look-gap}
 use Rattle.section.proofs.Sorting.{sorted-add}
 use Rattle.changes.proofs.Adding.{add-below}
@@ -40,15 +38,6 @@ module _ (e : Entry) (es : List Entry) where
       go true h = rw (once-has h) s
       go false h = rw (once-lacks h) (sorted-add (e .count) (e .key) es p s)
 
-  -- An entry once more counts what it counts where its key had none, and otherwise nothing.
-  pub count-add-once : (z : List ℕ) → countOf z (addOnce e es) ≡ (if has (e .key) es then 0 else countsFor z e) + countOf z es
-  unfolding if_then_else_
-  count-add-once z = go (has (e .key) es) refl
-    where
-      go : (b : Bool) → has (e .key) es ≡ b → countOf z (addOnce e es) ≡ (if has (e .key) es then 0 else countsFor z e) + countOf z es
-      go true h = rw (once-has h, h, zero-add)
-      go false h = rw (once-lacks h, h) (count-add (e .count) (e .key) z es)
-
 -- n more of a key that has no entry are entered between the entries with lower keys and the others.
 pub add-gap : (n : ℕ) (key : List ℕ) (front back : List Entry) → ((e : Entry) → e ∈ front → e .key ≺ key) → Below key back
     → add n key (front ++ back) ≡ front ++ (counted key n ∷ back)
@@ -59,8 +48,8 @@ add-gap n key (f ∷ front) back low high = rw (low f (here refl), add-gap n key
 -- ---- words
 
 -- Words that one entry fills are its words.
-pub entry-words : (ws : List ℕ) → width ws ≡ length ws → ws ≡ entryWords (firstEntry ws)
-entry-words ws h = sym (take-all (width ws) ws (omega arith)) ∙ first-words ws (omega arith)
+pub spelt-entry : (ws : List ℕ) → width ws ≡ length ws → ws ≡ entryWords (firstEntry ws)
+spelt-entry ws h = sym (take-all (width ws) ws (omega arith)) ∙ first-words ws (omega arith)
 
 module _ (ws : List ℕ) (n used : ℕ) (laid : Laid ws n used) where
   -- There are no more entries than words.

@@ -106,10 +106,6 @@ module _ (done es : List Entry) (kept book : List ℕ) (at left used count : ℕ
   pub reached-span : span left (drop at book) ≡ length (sectionWords es)
   reached-span = ap₂ span (r .many) reached-rest ∙ words-span es (kept ++ replicate (r .zeros) 0) (r .even)
 
-  -- They lie within the book.
-  pub reached-within : at + span left (drop at book) ≤ length book
-  reached-within = omega (arith, reached-span, reached-length, r .uses)
-
   -- What is used from the place on are the entries left and the words kept.
   pub reached-used : take (used - at) (drop at book) ≡ sectionWords es ++ kept
   reached-used =

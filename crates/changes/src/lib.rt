@@ -1,5 +1,6 @@
-// A section of a book changed by the entries of another, both with ascending keys: each pass goes once over both. What the other would enter
-// is weighed first; then it is added, or one less of each is taken. Assumes nothing beyond each function's `requires`.
+// A section of a book changed by the entries of another, both with ascending keys: each pass reads both once, and shifts what stands behind an
+// entry that it enters or takes out. What the other would enter is weighed first; then it is added, or one less of each is taken. Assumes
+// nothing beyond each function's `requires`.
 ghost use mathlib.Core.Path.{_≡_};
 ghost use mathlib.Core.Bool.{true};
 ghost use mathlib.Core.List.{_++_};

@@ -200,6 +200,6 @@ module _ (t : Tree) (b : Book) (f : inForm b ≡ true) (l : Fits 0 greatest-dept
   unfolding withdrawn
   withdrawn-agrees = is-agreeing (withdrawn t b) (ap (withdrawn t) left-taught ∙ undo left left-sorted t)
 
-  -- No part of such an order is missing: 9 is not given of a book that agrees with itself.
+  -- No part of such an order is missing from a book that agrees with itself.
   pub taught-has-parts : hasParts t b ≡ true
   taught-has-parts = ap (hasParts t) left-taught ∙ taught-parts t left left-sorted

@@ -22,14 +22,14 @@ use Rattle.effects.proofs.Undoing.{times-counted, count-after-taught}
 
 module _ (t : Tree) (b : Book) (sorted : (s : Section) → Sorted (sectionOf s b)) where
   -- Its sections are sorted.
-  pub taught-sorted : (s : Section) → Sorted (sectionOf s (taught 1 t b))
-  taught-sorted s = rw (taught-section 1 t b s) (sorted-each 1 (treesIn s (b .k) t) (sectionOf s b) (omega arith) (sorted s))
+  pub after-sorted : (s : Section) → Sorted (sectionOf s (taught 1 t b))
+  after-sorted s = rw (taught-section 1 t b s) (sorted-each 1 (treesIn s (b .k) t) (sectionOf s b) (omega arith) (sorted s))
 
   -- Each tree that the teaching counts in a section has an entry there.
   pub taught-entry : (s : Section) (u : Tree) → u ∈ treesIn s (b .k) t → has (words u) (sectionOf s (taught 1 t b)) ≡ true
   taught-entry s u m =
       let some : 1 ≤ countOf (words u) (sectionOf s (taught 1 t b)) = omega (arith, count-after-taught 1 t u b s, times-counted s (b .k) 1 t u m) in
-      has-count (words u) (sectionOf s (taught 1 t b)) (taught-sorted s) ∙ lt-ltb 0 (countOf (words u) (sectionOf s (taught 1 t b))) some
+      has-count (words u) (sectionOf s (taught 1 t b)) (after-sorted s) ∙ lt-ltb 0 (countOf (words u) (sectionOf s (taught 1 t b))) some
 
   -- The order has an entry in T.
   pub taught-has : has (words t) (taught 1 t b .T) ≡ true

@@ -1,4 +1,4 @@
--- The laws of the crate: those that readers meet are in Conditions, Whys, Sequences, Agreeing and Rows.
+-- The laws of the crate: those that readers meet are in Conditions, Whys, Sequences, Agreeing, Undoing and Rows.
 pub mod Calling
 pub mod Counted
 pub mod Reasons

@@ -28,7 +28,7 @@ use Rattle.amend.proofs.Sections.{form-sorted, form-fitting}
 use Rattle.teach.proofs.Formed.{within-fits}
 use Rattle.effects.proofs.Undoing.{times-counted, count-after-taught}
 use Rattle.effects.specs.Conditions.{WouldPass, lives, touched, PartMissing, from-tops, from-lows, from-middles}
-use Rattle.effects.proofs.Counted.{taught-sorted}
+use Rattle.effects.proofs.Counted.{after-sorted}
 
 -- ---- counts that would pass
 
@@ -102,7 +102,7 @@ module _ (t : Tree) (b : Book) (form : inForm b ≡ true) where
   pub within-none : withinCounts (taught 1 t b) ≡ true → WouldPass t b → ⊥
   within-none w (lives e) = omega (arith, within-fits _ w .0, live-taught 1 t b)
   within-none w (touched s u m e) =
-      omega (arith, count-few (words u) (sectionOf s (taught 1 t b)) (taught-sorted t b (form-sorted b form) s) (within-fits _ w .1 s), count-after-taught 1 t u b s, times-counted s (b .k) 1 t u m)
+      omega (arith, count-few (words u) (sectionOf s (taught 1 t b)) (after-sorted t b (form-sorted b form) s) (within-fits _ w .1 s), count-after-taught 1 t u b s, times-counted s (b .k) 1 t u m)
 
   -- Where the counts do not fit then, something would pass.
   pub not-within : withinCounts (taught 1 t b) ≡ false → WouldPass t b

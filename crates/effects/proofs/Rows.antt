@@ -52,9 +52,10 @@ unfolding computes
 cases-1-to-4 = (refl, refl)
 
 -- Case 5: "A taught, k=2: 51 words."
-case-5 : heard (opens 2 ∷ teaches A ∷ []) (slice 51) ≡ hears 0 0 7 ∷ hears 0 0 51 ∷ []
+case-5 : (heard (opens 2 ∷ teaches A ∷ []) (slice 51) ≡ hears 0 0 7 ∷ hears 0 0 51 ∷ [])
+    × (heard (opens 2 ∷ teaches A ∷ []) (slice 50) ≡ hears 0 0 7 ∷ hears 6 0 7 ∷ [])
 unfolding computes
-case-5 = refl
+case-5 = (refl, refl)
 
 -- Case 8: "Single node 1000 taught, k=2, in 19 words: 0; in 18: 6."
 case-8 : (heard (opens 2 ∷ teaches single ∷ []) (slice 19) ≡ hears 0 0 7 ∷ hears 0 0 19 ∷ [])
@@ -95,6 +96,6 @@ abbrev lacking : Book
 lacking = withP (bookOf 3 (times 1 A ∷ [])) []
 
 -- It is in form and does not agree with itself, and withdrawing A is refused by 9.
-part-missing : (inForm lacking ≡ true) × (agreeing lacking ≡ false) × (heard (withdraws A ∷ []) (lay 60 lacking) ≡ hears 9 0 47 ∷ [])
+missing-part : (inForm lacking ≡ true) × (agreeing lacking ≡ false) × (heard (withdraws A ∷ []) (lay 60 lacking) ≡ hears 9 0 47 ∷ [])
 unfolding computes
-part-missing = (refl, refl, refl)
+missing-part = (refl, refl, refl)

@@ -27,10 +27,10 @@ use Rattle.teach.proofs.Formed.{taught-keeps-form}
 use Rattle.effects.proofs.Undoing.{undo, commute, count-after-taught}
 use Rattle.effects.specs.Conditions.{BookAndOrder, WouldPass, lives, touched}
 use Rattle.effects.proofs.Calling.{number-is, one-number, words-are, Met, met, refuses, goes, its-words, its-form, its-limits, its-sorted, written-met, TeachCase, passing, crowded, teaches, teach-does, withdraw-does, teach-case, WithdrawCase, untaught, lacks, withdraws, withdraw-case}
-use Rattle.effects.proofs.Conditions.{teach-0, teach-writes, withdraw-9, withdraw-writes}
+use Rattle.effects.proofs.Conditions.{teach-0, teach-writes, withdraw-0, withdraw-9, withdraw-writes}
 use Rattle.effects.proofs.Reasons.{count-few, none-passes, passes-none}
 use Rattle.effects.proofs.Agreeing.{taught-agrees, withdrawn-agrees, taught-has-parts}
-use Rattle.effects.proofs.Counted.{taught-sorted, taught-has, taught-parts, taught-uses}
+use Rattle.effects.proofs.Counted.{after-sorted, taught-has, taught-parts, taught-uses}
 
 -- ---- an order that was just taught
 
@@ -44,9 +44,9 @@ record Done (ws os : List ℕ) : Type 0 where
   wrote : teachOf ws os ≡ writeBook ws (taught 1 tree book)
 
 -- It is known where the answer is 0.
-teach-done : (ws os : List ℕ) → teachOf ws os .answer .number ≡ done → Done ws os
+was-taught : (ws os : List ℕ) → teachOf ws os .answer .number ≡ done → Done ws os
 unfolding teachOf
-teach-done ws os e = go (met ws os)
+was-taught ws os e = go (met ws os)
   where
     by-case : (b : Book) (t : Tree) → BookAndOrder ws os b t → TeachCase ws os (taught 1 t b) → Done ws os
     by-case b t g (passing w r) = absurd (omega (arith, one-number r e))
@@ -82,7 +82,7 @@ module _ (ws os : List ℕ) (b : Book) (t : Tree) (g : BookAndOrder ws os b t) (
 -- was before the teaching.
 pub teach-then-withdraw : (ws os : List ℕ) → teachOf ws os .answer .number ≡ done → withdrawOf (teachOf ws os .words) os ≡ outcome (answered done) ws
 teach-then-withdraw ws os e =
-    let d = teach-done ws os e in
+    let d = was-taught ws os e in
     ap (λ (l : List ℕ). withdrawOf l os) (words-are (d .wrote)) ∙ withdraws-it ws os (d .book) (d .tree) (d .both) (d .fits) (d .room)
 
 -- ---- two orders
@@ -122,7 +122,7 @@ module _ (ws os ps : List ℕ) (b : Book) (t u : Tree) (g : BookAndOrder ws os b
 
   -- There is room for it.
   alone-room : used (taught 1 u b) ≤ length ws
-  alone-room = omega (arith, taught-uses t (taught 1 u b) (taught-sorted u b (its-sorted ws os b t g)), ap used swapped, second .1)
+  alone-room = omega (arith, taught-uses t (taught 1 u b) (after-sorted u b (its-sorted ws os b t g)), ap used swapped, second .1)
 
   -- The first is taught after it, and the words are the same in the end.
   same-end : teachOf (lay (length ws) (taught 1 u b)) os ≡ teachOf (lay (length ws) (taught 1 t b)) ps
@@ -139,8 +139,8 @@ module _ (ws os ps : List ℕ) (b : Book) (t u : Tree) (g : BookAndOrder ws os b
 pub two-teachings : (ws os ps : List ℕ) → teachOf ws os .answer .number ≡ done → teachOf (teachOf ws os .words) ps .answer .number ≡ done
     → (teachOf ws ps .answer .number ≡ done) × (teachOf (teachOf ws ps .words) os ≡ teachOf (teachOf ws os .words) ps)
 two-teachings ws os ps e f =
-    let d = teach-done ws os e in
-    let c = teach-done (teachOf ws os .words) ps f in
+    let d = was-taught ws os e in
+    let c = was-taught (teachOf ws os .words) ps f in
     turned ws os ps (d .book) (d .tree) (c .tree) (d .both) (d .fits) (d .room) (c .both .isOrder) (d .wrote) f
   where
     turned : (ws os ps : List ℕ) (b : Book) (t u : Tree) → BookAndOrder ws os b t → withinCounts (taught 1 t b) ≡ true → used (taught 1 t b) ≤ length ws → orderOf ps ≡ order u
@@ -208,7 +208,12 @@ module _ (ws os : List ℕ) (b : Book) (is : decode ws ≡ some b) where
   pub withdraw-agrees : agreeing b ≡ true → (c : Book) × (decode (withdrawOf ws os .words) ≡ some c) × (agreeing c ≡ true)
   withdraw-agrees a = withdraw-keeps (λ c. agreeing c ≡ true) ws os b is a (λ t l h. withdrawn-agrees t b (decoded ws b is .1) l h a)
 
--- Of a book that "agrees with itself" no withdrawal is refused by 9: an order that has an entry in T can be withdrawn.
+-- From a book that "agrees with itself" an order that has an entry in T is withdrawn: the answer is 0.
+pub agreeing-withdraws : (ws os : List ℕ) (b : Book) (t : Tree) → BookAndOrder ws os b t → agreeing b ≡ true → has (words t) (b .T) ≡ true → withdrawOf ws os .answer .number ≡ done
+agreeing-withdraws ws os b t g a h =
+    withdraw-0 ws os b t g .1 (h, passes-none t b (taught-has-parts t b (its-form ws os b t g) (its-limits ws os b t g) h a))
+
+-- No withdrawal from a book that "agrees with itself" is refused by 9.
 pub agreeing-no-9 : (ws os : List ℕ) (b : Book) (t : Tree) → BookAndOrder ws os b t → agreeing b ≡ true → withdrawOf ws os .answer .number ≡ not-agreeing → ⊥
 agreeing-no-9 ws os b t g a e =
     let p = withdraw-9 ws os b t g .0 e in

@@ -23,7 +23,7 @@ use Rattle.book.proofs.Holding.{refused-book}
 use Rattle.book.proofs.Sound.{sound-form, book-decode, on-any, why-is, why-only}
 use Rattle.teach.specs.Calls.{onOrder, teachTree, teachOf, withdrawTree, withdrawOf}
 use Rattle.effects.specs.Conditions.{BookAndOrder}
-use Rattle.effects.specs.Whys.{WhyTaught, teach-no-book, teach-no-order, would-pass, needs-more, teach-done, WhyWithdrawn, withdraw-no-book, withdraw-no-order, no-entry, part-missing, withdraw-done}
+use Rattle.effects.specs.Whys.{WhyTaught, teach-no-book, teach-no-order, would-pass, needs-more, book-taught, WhyWithdrawn, withdraw-no-book, withdraw-no-order, no-entry, part-missing, book-withdrawn}
 use Rattle.effects.proofs.Calling.{TeachCase, passing, crowded, teaches, teach-case, WithdrawCase, untaught, lacks, withdraws, withdraw-case}
 use Rattle.effects.proofs.Conditions.{teach-7, teach-6, teach-0, teach-writes, teach-refusal-leaves, teach-line, withdraw-8, withdraw-9, withdraw-0, withdraw-writes, withdraw-refusal-leaves, withdraw-line}
 use Rattle.effects.proofs.Reasons.{within-none, not-within, fails-missing, passes-none}
@@ -81,7 +81,7 @@ module _ (ws os : List ℕ) where
       case : (b : Book) (t : Tree) → IsBook ws b → IsOrder os t → TeachCase ws os (taught 1 t b) → WhyTaught ws os (teachOf ws os)
       case b t i q (passing w r) = would-pass b t r i q (not-within t b (sound-form b (i .sound)) w)
       case b t i q (crowded w h r) = needs-more b t r i q (within-none t b (sound-form b (i .sound)) w) h
-      case b t i q (teaches w h r) = teach-done b t r i q (within-none t b (sound-form b (i .sound)) w) h
+      case b t i q (teaches w h r) = book-taught b t r i q (within-none t b (sound-form b (i .sound)) w) h
 
       go : Row → WhyTaught ws os (teachOf ws os)
       go (unbooked n w) = teach-no-book n (by-form (teachTree ws) n w) w
@@ -99,7 +99,7 @@ module _ (ws os : List ℕ) where
   teach-only o (teach-no-order b n e i c x) = by-cause (teachTree ws) b n i c x ∙ sym e
   teach-only o (would-pass b t e i q p) = teach-leaves _ (λ z. omega arith) (teach-7 ws os b t (is-met b t i q) .1 p) ∙ sym e
   teach-only o (needs-more b t e i q p h) = teach-leaves _ (λ z. omega arith) (teach-6 ws os b t (is-met b t i q) .1 (p, h)) ∙ sym e
-  teach-only o (teach-done b t e i q p h) =
+  teach-only o (book-taught b t e i q p h) =
       let g : BookAndOrder ws os b t = is-met b t i q in
       let d : teachOf ws os .answer .number ≡ done = teach-0 ws os b t g .1 (p, h) in
       outcome-is (teachOf ws os) done _ d (teach-line ws os) (teach-writes ws os b t g d .0) ∙ sym e
@@ -114,7 +114,7 @@ module _ (ws os : List ℕ) where
       case : (b : Book) (t : Tree) → IsBook ws b → IsOrder os t → WithdrawCase ws os b t → WhyWithdrawn ws os (withdrawOf ws os)
       case b t i q (untaught h r) = no-entry b t r i q h
       case b t i q (lacks h p r) = part-missing b t r i q h (fails-missing t b p)
-      case b t i q (withdraws h p r) = withdraw-done b t r i q h (passes-none t b p)
+      case b t i q (withdraws h p r) = book-withdrawn b t r i q h (passes-none t b p)
 
       go : Row → WhyWithdrawn ws os (withdrawOf ws os)
       go (unbooked n w) = withdraw-no-book n (by-form (withdrawTree ws) n w) w
@@ -132,7 +132,7 @@ module _ (ws os : List ℕ) where
   withdraw-only o (withdraw-no-order b n e i c x) = by-cause (withdrawTree ws) b n i c x ∙ sym e
   withdraw-only o (no-entry b t e i q h) = withdraw-leaves _ (λ z. omega arith) (withdraw-8 ws os b t (is-met b t i q) .1 h) ∙ sym e
   withdraw-only o (part-missing b t e i q h p) = withdraw-leaves _ (λ z. omega arith) (withdraw-9 ws os b t (is-met b t i q) .1 (h, p)) ∙ sym e
-  withdraw-only o (withdraw-done b t e i q h p) =
+  withdraw-only o (book-withdrawn b t e i q h p) =
       let g : BookAndOrder ws os b t = is-met b t i q in
       let d : withdrawOf ws os .answer .number ≡ done = withdraw-0 ws os b t g .1 (h, p) in
       outcome-is (withdrawOf ws os) done _ d (withdraw-line ws os) (withdraw-writes ws os b t g d .0) ∙ sym e

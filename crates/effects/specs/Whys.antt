@@ -1,5 +1,5 @@
--- The rows of 01's table that teaching and withdrawing can answer, by sound books and orders within limits, apart from the tests of `teachOf`
--- and `withdrawOf`. That each answers exactly by its rows is shown in proofs/Whys.antt. Assumes nothing: these are definitions.
+-- The rows of 01's table that teaching and withdrawing can answer: by sound books, orders within limits, the counts that are touched, the words
+-- used and what has an entry. That each answers exactly by its rows is shown in proofs/Whys.antt. Assumes nothing: these are definitions.
 use Prim.Native.Nat.{ℕ, _≤_, _<_}
 use mathlib.Core.Path.{_≡_}
 use mathlib.Core.Bool.{true, false}
@@ -29,7 +29,7 @@ pub data WhyTaught (ws os : List ℕ) (o : Outcome) : Type 0 where
   -- 6: "the result needs more words than the book slice has"
   needs-more : (b : Book) (t : Tree) → o ≡ leave ws no-room → IsBook ws b → IsOrder os t → (WouldPass t b → ⊥) → length ws < used (taught 1 t b) → WhyTaught ws os o
   -- 0: "done", and "Success writes the book" with one teaching more
-  teach-done : (b : Book) (t : Tree) → o ≡ writeBook ws (taught 1 t b) → IsBook ws b → IsOrder os t → (WouldPass t b → ⊥) → used (taught 1 t b) ≤ length ws → WhyTaught ws os o
+  book-taught : (b : Book) (t : Tree) → o ≡ writeBook ws (taught 1 t b) → IsBook ws b → IsOrder os t → (WouldPass t b → ⊥) → used (taught 1 t b) ≤ length ws → WhyTaught ws os o
 
 -- Why withdrawing answers and leaves the words as o has them: "Withdraw: 4, 5, 1, 2, 8, 9."
 pub data WhyWithdrawn (ws os : List ℕ) (o : Outcome) : Type 0 where
@@ -42,4 +42,4 @@ pub data WhyWithdrawn (ws os : List ℕ) (o : Outcome) : Type 0 where
   -- 9: "withdraw: a part of the order is missing from R, L or P"
   part-missing : (b : Book) (t : Tree) → o ≡ leave ws not-agreeing → IsBook ws b → IsOrder os t → has (words t) (b .T) ≡ true → PartMissing t b → WhyWithdrawn ws os o
   -- 0: "done", and "Success writes the book" with one teaching less
-  withdraw-done : (b : Book) (t : Tree) → o ≡ writeBook ws (withdrawn t b) → IsBook ws b → IsOrder os t → has (words t) (b .T) ≡ true → (PartMissing t b → ⊥) → WhyWithdrawn ws os o
+  book-withdrawn : (b : Book) (t : Tree) → o ≡ writeBook ws (withdrawn t b) → IsBook ws b → IsOrder os t → has (words t) (b .T) ≡ true → (PartMissing t b → ⊥) → WhyWithdrawn ws os o

@@ -1,1 +1,1 @@
-// What teaching and withdrawing do to a book, as laws on the definitions of `teach`; no code.
+// What teaching and withdrawing do to a book, as laws on the definitions of `teach`; no code. Assumes nothing.

@@ -9,7 +9,7 @@ use Rattle.figures.specs.Numbers.{done, short-output}
 use Rattle.figures.specs.Answers.{wrote}
 use Rattle.figures.specs.declared.Written.{Written}
 use Rattle.order.specs.Answers.{writing, write}
-use Rattle.order.proofs.Cuts.{no-room, has-room}
+use Rattle.order.proofs.Cuts.{no-output-room, has-room}
 use Rattle.form.specs.Reading.{Form, fault, form, formOf, wordsOf, readOf}
 use Rattle.form.specs.Turns.{Got}
 use Rattle.form.proofs.Trips.{form-write, fault-write}
@@ -58,7 +58,7 @@ module _ (text w out : List ℕ) (r : Written) (g : Got (formOf text) r w) where
 
     -- The output is too short for them.
     pub short-out : (a : Written) → length out < r .count → a ≡ wrote short-output 0 → writing a out ≡ readOf text out
-    short-out a h q = no-room (found .these) out a q (omega (arith, found .size)) ∙ sym (found .call)
+    short-out a h q = no-output-room (found .these) out a q (omega (arith, found .size)) ∙ sym (found .call)
 
     -- They stand at the front of the output.
     pub read-out : (last : List ℕ) → r .count ≤ length out → last ≡ over (take (r .count - 0) (drop 0 w)) out → writing r last ≡ readOf text out

@@ -9,7 +9,6 @@ use lib.ListN.{length, drop, drop-of-length-le}
 use Rattle.words.specs.Base.{if_then_else_}
 use Rattle.figures.specs.Numbers.{done, top-unknown, low-unknown, middle-unknown}
 use Rattle.figures.specs.Answers.{answered}
-use Rattle.figures.specs.declared.Answer.{Answer}
 use Rattle.order.specs.Trees.{Tree, subtrees}
 use Rattle.order.specs.Reading.{order, byOrder, orderOf, causeOf}
 use Rattle.order.specs.Parts.{isLow}
@@ -84,11 +83,6 @@ module _ (b : Book) (os : List ℕ) (t : Tree) (p : Passed os t) where
   line-answers = rw (p .is) (answers-from (length (subtrees t)) 0 (omega arith))
 
 -- ---- a book in form
-
--- The number of the answer to an order is its cause.
-pub cause-told : (os : List ℕ) (a : Answer) → a ≡ checkOf os → a .number ≡ causeOf os
-unfolding checkOf
-cause-told os a e = ap (λ (x : Answer). x .number) e
 
 module _ (ws os : List ℕ) (b : Book) (i : IsBook ws b) where
   -- The book judges.

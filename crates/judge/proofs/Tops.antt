@@ -1,8 +1,8 @@
 -- The order's top, written to a scratch and looked up in R. Assumes nothing.
 use Prim.Native.Nat.{ℕ, _-_, _≤_}
-use mathlib.Core.Path.{_≡_, refl, ap, sym, _∙_}
+use mathlib.Core.Path.{_≡_, ap, sym, _∙_}
 use mathlib.Core.Bool.{true, false}
-use mathlib.Core.List.{List, [], append-nil}
+use mathlib.Core.List.{List}
 use native.Mathlib.Nat.{sub-zero}
 use native.Mathlib.Omega.{arith}
 use lib.ListN.{length, getD, take, drop}
@@ -19,28 +19,20 @@ use Rattle.order.specs.Parts.{top}
 use Rattle.order.specs.Walks.{Room, walkOf, cutOf, cutLength, laidOf}
 use Rattle.order.specs.declared.Laid.{Laid}
 use Rattle.order.proofs.Causes.{Passed}
-use Rattle.order.proofs.Lines.{Spot, walk-spot, cut-spot}
+use Rattle.order.proofs.Lines.{walk-spot, cut-spot}
 use Rattle.book.specs.Book.{sectionOf}
 use Rattle.book.specs.Decoding.{bookIn}
 use Rattle.book.specs.Holding.{Holds}
 use Rattle.book.specs.declared.Places.{Places}
 use Rattle.book.specs.declared.Section.the-variants.{Tops}
 use Rattle.judge.specs.Seeking.{topKnown}
-use Rattle.order.proofs.Spots.{short-order, cut-room}
-
--- An order's tree stands at its first word.
-abbrev top-spot : (os : List ℕ) (t : Tree) → Passed os t → Spot os 0 (found t)
-top-spot os t p = record { tree = t; after = []; good = p .good; here = p .spelt ∙ sym (append-nil (words t)); is = refl }
+use Rattle.order.proofs.Spots.{top-spot, top-room}
 
 -- The order's tree, and a depth to cut it at.
 module _ (os : List ℕ) (t : Tree) (p : Passed os t) (d : ℕ) where
-  -- 128 words are room for its cut.
-  pub top-room : (n : ℕ) → most-words ≤ n → Room (walkOf os 0 d) n
-  top-room n h = cut-room os 0 (found t) (top-spot os t p) d n (short-order os t p) h
-
   -- The cut that is written has at most 128 words.
   pub top-count : (r : Laid) → r ≡ laidOf (walkOf os 0 d) → r .count ≤ most-words
-  top-count r e = rw (ap (λ (l : Laid). l .count) e) (go (top-room most-words (omega arith)))
+  top-count r e = rw (ap (λ (l : Laid). l .count) e) (go (top-room os t p d most-words (omega arith)))
     where
       go : Room (walkOf os 0 d) most-words → cutLength (walkOf os 0 d) ≤ most-words
       go h = rw (walk-spot os 0 (found t) (top-spot os t p) d) (rw (walk-spot os 0 (found t) (top-spot os t p) d) at h)

@@ -292,9 +292,9 @@ module _ (w l : List ℕ) (r : Written) where
   no-words a e = let z : leb 0 (length l) ≡ true = le-leb 0 (length l) (omega arith) in rw (a, e, z) refl
 
   -- They have no room.
-  pub no-room : r ≡ wrote short-output 0 → length l < length w → writing r l ≡ write w l
+  pub no-output-room : r ≡ wrote short-output 0 → length l < length w → writing r l ≡ write w l
   unfolding write if_then_else_
-  no-room a h = rw (a, lt-leb (length w) (length l) h) refl
+  no-output-room a h = rw (a, lt-leb (length w) (length l) h) refl
 
   -- They have room, and were written.
   pub has-room : (n : ℕ) (last : List ℕ) → r ≡ wrote done n → length w ≡ n → n ≤ length l → last ≡ over w l → writing r last ≡ write w l

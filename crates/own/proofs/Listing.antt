@@ -37,7 +37,7 @@ use Rattle.order.proofs.Spots.{two-words-a-line, short-order, PartIs, part-told
 use Rattle.order.proofs.Cutting.{cut-shallow}
 use Rattle.book.specs.Taught.{addEach}
 use Rattle.book.proofs.Taught.{sorted-each}
-use Rattle.own.specs.Own.{entry-words, occurring, partsOnce, linesOf, listOf, lowAt}
+use Rattle.own.specs.Own.{entry-words, occurring, partsOnce, partLines, listOf, lowAt}
 
 -- ---- trees entered once
 
@@ -267,9 +267,9 @@ pub listing-named : (low : Bool) (k : ℕ) (os out₀ out entry : List ℕ) (lin
 listing-named low k os out₀ out entry line used many out′ entry′ used′ many′ o e u m st = rw (o, e, u, m) st
 
 -- Before the first line nothing is listed.
-pub list-start : (low : Bool) (k : ℕ) (os out entry : List ℕ) → causeOf os ≡ done → out ≡ replicate (length out) 0 → linesOf low k os * entry-words ≤ length out
+pub list-start : (low : Bool) (k : ℕ) (os out entry : List ℕ) → causeOf os ≡ done → out ≡ replicate (length out) 0 → partLines low k os * entry-words ≤ length out
     → length entry ≡ entry-words → Listing low k os out out entry 0 0 0
-unfolding linesOf byOrder Sorted Even padded sectionWords
+unfolding partLines byOrder Sorted Even padded sectionWords
 list-start low k os out entry e zeros room spare =
     let x = has-tree os e in
     let t = x .tree in

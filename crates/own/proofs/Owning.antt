@@ -31,7 +31,7 @@ use Rattle.book.specs.Decoding.{placesOf}
 use Rattle.book.specs.declared.Places.{Places}
 use Rattle.book.specs.Taught.{addEach, taught, bookOf}
 use Rattle.book.proofs.Meaning.{used-is}
-use Rattle.own.specs.Own.{entry-words, own-words, ownOf, linesOf, listOf}
+use Rattle.own.specs.Own.{entry-words, own-words, ownOf, partLines, listOf}
 use Rattle.own.proofs.Listing.{enterEach, entered-all, partsIn, parts-none, parts-all, parts-once, parts-more, parts-same, told-same, told-other, size-once}
 
 -- ---- how many words it takes
@@ -80,8 +80,8 @@ parts-size low k (s ∷ ss) es least sorted few =
 
 module _ (k : ℕ) (os : List ℕ) (t : Tree) (p : Passed os t) (least : least-k ≤ k) where
   -- The lines of a kind are the parts of the kind.
-  lines-are : (low : Bool) → linesOf low k os ≡ length (partsIn low k (subtrees t))
-  unfolding linesOf byOrder
+  lines-are : (low : Bool) → partLines low k os ≡ length (partsIn low k (subtrees t))
+  unfolding partLines byOrder
   lines-are low = rw (p .is, parts-all low k t)
 
   -- The list is what its parts come to.
@@ -104,13 +104,13 @@ module _ (os : List ℕ) (is : causeOf os ≡ done) where
 
   module _ (k : ℕ) (least : least-k ≤ k) where
     -- No more than 64 lines stand for a part.
-    pub few-lines : linesOf true k os + linesOf false k os ≤ most-nodes
+    pub few-lines : partLines true k os + partLines false k os ≤ most-nodes
     few-lines =
         let x = has-tree os is in
         omega (arith, lines-are k os (x .tree) (x .passes) least true, lines-are k os (x .tree) (x .passes) least false, parts-both k (subtrees (x .tree)) least, x .passes .nodes)
 
     -- The list of a kind takes an entry's words for each line of the kind at most.
-    pub list-short : (low : Bool) → length (sectionWords (listOf low k os)) ≤ linesOf low k os * entry-words
+    pub list-short : (low : Bool) → length (sectionWords (listOf low k os)) ≤ partLines low k os * entry-words
     unfolding Sorted sectionWords
     list-short low =
         let x = has-tree os is in

@@ -18,7 +18,7 @@ use Rattle.book.specs.Taught.{emptyBook, addEach, bookOf}
 abbrev pub entry-words : ℕ
 entry-words = 2 + most-words
 
--- The most words that an order's own book takes: its head, the order, its top, and a part for each line.
+-- No order's own book takes more words: its head, the order, its top, and a part for each line, each as long as the longest order.
 abbrev pub own-words : ℕ
 own-words = head-words + (2 + most-nodes) * entry-words
 
@@ -41,8 +41,8 @@ partsOnce true k t = lowParts k t
 partsOnce false k t = middleParts k t
 
 -- How many lines of an order stand for a part of the kind.
-unfoldable pub linesOf : Bool → ℕ → List ℕ → ℕ
-linesOf low k os = byOrder (orderOf os) (λ n. 0) (λ t. length (occurring low k t))
+unfoldable pub partLines : Bool → ℕ → List ℕ → ℕ
+partLines low k os = byOrder (orderOf os) (λ n. 0) (λ t. length (occurring low k t))
 
 -- The entries of one teaching for the order's parts of a kind.
 unfoldable pub listOf : Bool → ℕ → List ℕ → List Entry

@@ -1,5 +1,5 @@
-// An order's own book: the book of one teaching of it, listed in a lent slice. Its parts are entered in ascending order, each once, so that a
-// book can be weighed against it and changed by it in one pass. Assumes nothing beyond each function's `requires`.
+// An order's own book: the book of one teaching of it, listed in a lent slice. Each part is entered once, where it belongs, so that the parts
+// ascend and a book can be weighed against them and changed by them in one pass. Assumes nothing beyond each function's `requires`.
 ghost use mathlib.Core.Path.{_≡_};
 ghost use Prim.Native.Nat.{_+_, _*_, _≤_};
 ghost use lib.ListN.{length, replicate};
@@ -12,7 +12,7 @@ ghost use Rattle.order.specs.Reading.{causeOf};
 ghost use Rattle.order.specs.Walks.{walkOf, cutOf, partAtOf, Room};
 ghost use Rattle.book.specs.Book.{lay};
 ghost use Rattle.book.specs.Decoding.{placesOf};
-ghost use Rattle.own.specs.Own.{entry-words, own-words, ownOf, linesOf, listOf, sizeOf, lowAt};
+ghost use Rattle.own.specs.Own.{entry-words, own-words, ownOf, partLines, listOf, sizeOf, lowAt};
 use book::Places;
 use changes::Size;
 use figures::Depth;
@@ -22,7 +22,7 @@ use order::PartAt;
 // The most words that an entry takes.
 const ENTRY_WORDS: usize = 2 + limits::MOST_WORDS;
 
-// The most words that an order's own book takes: its head, the order, its top, and a part for each line.
+// No order's own book takes more words: its head, the order, its top, and a part for each line, each as long as the longest order.
 pub const OWN_WORDS: usize = limits::HEAD_WORDS + (2 + limits::MOST_NODES) * ENTRY_WORDS;
 
 // Writes an entry of count 1 for the cut at d of the tree at word `at` to the front of `out`. Answers its number of words.
@@ -57,7 +57,7 @@ fn list_parts(order: &[u16], k: Depth, low: bool, out: &mut [u16]) -> Size
     requires { ⌜ least-k ≤ k .k ⌝ }
     requires { ⌜ causeOf (now order) ≡ done ⌝ }
     requires { ⌜ now out ≡ replicate (length (now out)) 0 ⌝ }
-    requires { ⌜ linesOf low (k .k) (now order) * entry-words ≤ length (now out) ⌝ }
+    requires { ⌜ partLines low (k .k) (now order) * entry-words ≤ length (now out) ⌝ }
     ensures came { λ r. ⌜ r ≡ sizeOf (listOf low (k .k) (now (order .entry))) ⌝ }
     ensures wrote { λ _. ⌜ now (out .exit) ≡ padded (length (now (out .entry))) (sectionWords (listOf low (k .k) (now (order .entry)))) ⌝ }
 {

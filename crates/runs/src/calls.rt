@@ -4,8 +4,8 @@
 //   withdraw W W ..   the order of these words is withdrawn from it
 //   ask W W ..        the order of these words is judged by it
 //   show              says every word of it
-// *N behind a word lets it stand N times in all. Each call says its answer, word 1 of the book and a mark of all the words of its slice,
-// of 32 bits: another mark means that a word changed, and the same mark hardly ever misses that one did.
+// *N behind a word lets it stand N times in all. Each call says its answer, word 1 of the book and a mark of 32 bits of all the words of its
+// slice: where a mark differs a word changed, and where it is the same it is all but certain that none did.
 use crate::books;
 use crate::line;
 use crate::same;
@@ -13,7 +13,7 @@ use crate::say;
 use figures::Answer;
 
 // The words that hold a kept book: one that says how many words its slice has, and behind that the slice, with room for one word more
-// than the largest book has. All of them 0 are a slice of no words.
+// than the largest book has. At first all are 0: a slice of no words.
 pub const HELD: usize = 16386;
 
 // A call that has an order.

@@ -20,7 +20,7 @@ use Rattle.order.specs.Trees.{Tree, words}
 use Rattle.order.specs.Reading.{byOrder, orderOf, causeOf}
 use Rattle.order.specs.Fits.{Fits}
 use Rattle.order.specs.Answers.{checkOf}
-use Rattle.order.proofs.Causes.{has-tree, refused-by}
+use Rattle.order.proofs.Causes.{cause-told, has-tree, refused-by}
 use Rattle.book.specs.Book.{Book, sectionOf, used, live, lay, inForm}
 use Rattle.book.specs.Decoding.{bookIn, placesOf, bookFormOf}
 use Rattle.book.specs.Sound.{IsBook, book}
@@ -80,11 +80,6 @@ teach-unheld ws os = unheld ws os (teachTree ws)
 pub withdraw-unheld : (ws os : List ℕ) (n : ℕ) → bookFormOf ws ≡ Refused n → leave ws n ≡ withdrawOf ws os
 unfolding withdrawOf
 withdraw-unheld ws os = unheld ws os (withdrawTree ws)
-
--- The number of the answer to an order is its cause.
-pub cause-told : (os : List ℕ) (a : Answer) → a ≡ checkOf os → a .number ≡ causeOf os
-unfolding checkOf
-cause-told os a e = ap (λ (x : Answer). x .number) e
 
 -- ---- a book in form
 

@@ -1,6 +1,6 @@
 -- `amend::weigh_book` meets its contract: what each section lacks is little, and the four sections together are what is asked. Assumes
 -- nothing.
-use Prim.Native.Nat.{_+_, _*_, _≤_}
+use Prim.Native.Nat.{_≤_}
 use native.Mathlib.Omega.{arith}
 use borrow.Author.Needs.{needs}
 use Rattle.figures.specs.Limits.{most-book-words}
@@ -9,13 +9,13 @@ use Rattle.amend.proofs.Weights.{weighed-few, book-weighed}
 use Rattle.amend.proofs.weigh_book.Statement.{statement}
 use Rattle.amend.proofs.weigh_book.Tie as tie
 
--- The sections together lack at most four times 16,384 words.
+-- Each section lacks at most 16,384 words.
 few : (c : tie.After-weigh-section4) → let t = c .before in
-    t .before .before .weigh-section .result .lacking + (t .before .weigh-section2 .result .lacking + t .weigh-section3 .result .lacking + c .weigh-section4 .result .lacking) ≤ 4 * most-book-words
+    (t .before .before .weigh-section .result .lacking ≤ most-book-words) × (t .before .weigh-section2 .result .lacking ≤ most-book-words) × (t .weigh-section3 .result .lacking ≤ most-book-words) × (c .weigh-section4 .result .lacking ≤ most-book-words)
 few c =
     let t = c .before in
     let h = t .before .before .before .before .before .pre .1 in
-    omega (arith, weighed-few _ _ h Taught _ _ (t .before .before .weigh-section .ensures), weighed-few _ _ h Tops _ _ (t .before .weigh-section2 .ensures), weighed-few _ _ h Lows _ _ (t .weigh-section3 .ensures), weighed-few _ _ h Middles _ _ (c .weigh-section4 .ensures))
+    (weighed-few _ _ h Taught _ _ (t .before .before .weigh-section .ensures), weighed-few _ _ h Tops _ _ (t .before .weigh-section2 .ensures), weighed-few _ _ h Lows _ _ (t .weigh-section3 .ensures), weighed-few _ _ h Middles _ _ (c .weigh-section4 .ensures))
 
 weigh-section-requires : tie.Need-weigh-section-requires
 weigh-section-requires c κs = search needs

@@ -8,7 +8,7 @@ use borrow.Author.Needs.{needs}
 use Rattle.words.proofs.Shifts.{tail-all, tail-back}
 use Rattle.section.specs.Entries.{firstEntry, entries, look}
 use Rattle.section.specs.declared.Found.the-variants.{Absent}
-use Rattle.changes.proofs.Once.{laid-few, gap-within, entry-words, once-found, once-entered}
+use Rattle.changes.proofs.Once.{laid-few, gap-within, spelt-entry, once-found, once-entered}
 use Rattle.changes.proofs.enter_once.Statement.{statement}
 use Rattle.changes.proofs.enter_once.Tie as tie
 
@@ -96,7 +96,7 @@ returns-2 c =
     let part = b .args .part .now in
     let at = k .before .at .given .0 .0 in
     let entered = rw (tail-all at part (inside k)) at (c .before .before .enter .ensures) in
-    once-entered part (b .args .many) (b .args .used) (b .pre .0 .0) (firstEntry (b .args .entry .now)) at (b .args .entry .now) _ (gap k) (b .pre .0 .1) (entry-words (b .args .entry .now) (b .pre .1 .0)) (b .pre .1 .1)
+    once-entered part (b .args .many) (b .args .used) (b .pre .0 .0) (firstEntry (b .args .entry .now)) at (b .args .entry .now) _ (gap k) (b .pre .0 .1) (spelt-entry (b .args .entry .now) (b .pre .1 .0)) (b .pre .1 .1)
     (tail-back at part (inside k) (c .before .before .enter .last .0) ∙ ap (λ (l : List ℕ). take at part ++ l) entered)
     (same-length-2 c)
 

@@ -25,8 +25,8 @@ returns c =
     let k = p .before .before in
     let x = k .before .before .before .args in
     let wide : k .past .result ≡ width (x .part .now) = omega arith in (
-      c .before .before .close-gap .ensures ∙ sym (lessened-words-out (x .part .now) (k .past .result) wide (x .used) (p .if1 .taken)),
-      sym (lessened-by-out (x .part .now) (k .past .result) wide (p .if1 .taken)),
+      c .before .before .close-gap .ensures ∙ sym (lessened-words-out (x .part .now) (k .past .result) wide (x .used) (omega (arith, p .if1 .taken))),
+      sym (lessened-by-out (x .part .now) (k .past .result) wide (omega (arith, p .if1 .taken))),
     )
 
 sub-part : tie.Need-sub-part

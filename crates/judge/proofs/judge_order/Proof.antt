@@ -8,7 +8,8 @@ use Rattle.order.specs.Reading.{causeOf}
 use Rattle.order.proofs.Causes.{has-tree}
 use Rattle.book.specs.Decoding.{bookIn}
 use Rattle.judge.specs.Seeking.{lineAnswer}
-use Rattle.judge.proofs.Judgements.{cause-told, line-within, judge-refused, judge-top, judge-lines}
+use Rattle.judge.proofs.Judgements.{line-within, judge-refused, judge-top, judge-lines}
+use Rattle.order.proofs.Causes.{cause-told}
 use Rattle.judge.proofs.judge_order.Statement.{statement}
 use Rattle.judge.proofs.judge_order.Tie as tie
 

@@ -9,7 +9,8 @@ use Rattle.order.specs.Trees.{words}
 use Rattle.order.specs.Parts.{top}
 use Rattle.order.proofs.Causes.{HasTree, has-tree}
 use Rattle.book.specs.declared.Section.the-variants.{Tops}
-use Rattle.judge.proofs.Tops.{top-room, top-count, top-key, top-there, top-lacking}
+use Rattle.judge.proofs.Tops.{top-count, top-key, top-there, top-lacking}
+use Rattle.order.proofs.Spots.{top-room}
 use Rattle.judge.proofs.top_known.Statement.{statement}
 use Rattle.judge.proofs.top_known.Tie as tie
 

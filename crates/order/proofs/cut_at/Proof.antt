@@ -5,7 +5,7 @@ use lib.ListN.{length}
 use borrow.Author.Needs.{needs}
 use Rattle.order.specs.Walks.{Room}
 use Rattle.order.specs.declared.Walked.{Walked}
-use Rattle.order.proofs.Cuts.{cut-length, no-words, no-room, has-room}
+use Rattle.order.proofs.Cuts.{cut-length, no-words, no-output-room, has-room}
 use Rattle.order.proofs.cut_at.Statement.{statement}
 use Rattle.order.proofs.cut_at.Tie as tie
 
@@ -28,7 +28,7 @@ wrote-requires-2 : tie.Need-wrote-requires-2
 wrote-requires-2 c κs = search needs
 
 returns-2 : tie.Need-returns-2
-returns-2 c = let i = cut-length _ _ _ _ _ (c .before .before .before .before .before .walk .ensures) (c .before .before .before .cut .given .1) in no-room _ _ _ (c .wrote2 .ensures) (omega arith)
+returns-2 c = let i = cut-length _ _ _ _ _ (c .before .before .before .before .before .walk .ensures) (c .before .before .before .cut .given .1) in no-output-room _ _ _ (c .wrote2 .ensures) (omega arith)
 
 put-requires : tie.Need-put-requires
 put-requires c κs = subst (λ (w : Walked). Room w (length (c .before .before .before .before .before .before .before .before .args .out .now))) (sym (c .before .before .before .cut .given .1) ∙ c .before .before .before .before .before .walk .ensures) (c .before .if1 .left)

@@ -14,7 +14,7 @@ use Rattle.changes.proofs.Relaying.{length-size}
 use Rattle.order.specs.Walks.{cutOf}
 use Rattle.book.specs.Book.{lay}
 use Rattle.book.specs.Decoding.{placesOf}
-use Rattle.own.specs.Own.{entry-words, own-words, linesOf, listOf}
+use Rattle.own.specs.Own.{entry-words, own-words, partLines, listOf}
 use Rattle.own.proofs.Owning.{whole-ready, whole-short, few-lines, list-short, own-is, Stage, stage-start, stage-long, stage-within, stage-head, stage-fits, stage-zeros, stage-over, stage-padded, head-written, book, book-body, book-live, book-places}
 use Rattle.own.proofs.list_own.Statement.{statement}
 use Rattle.own.proofs.list_own.Tie as tie
@@ -74,7 +74,7 @@ stage₂ c =
 lows-room : (c : tie.After-write-entry2) →
     let a = c .before .before .before .before .before in
     let x = a .before .before .before .before .args in
-    head-words + a .write-entry .result + c .write-entry2 .result + (linesOf true (x .k .k) (x .order .now) + linesOf false (x .k .k) (x .order .now)) * entry-words ≤ own-words
+    head-words + a .write-entry .result + c .write-entry2 .result + (partLines true (x .k .k) (x .order .now) + partLines false (x .k .k) (x .order .now)) * entry-words ≤ own-words
 lows-room c =
     let a = c .before .before .before .before .before in
     let b = a .before .before .before .before in
@@ -111,7 +111,7 @@ middles-room : (c : tie.After-list-parts) →
     let t = c .before .before .before .before in
     let a = t .before .before .before .before .before in
     let x = a .before .before .before .before .args in
-    head-words + a .write-entry .result + t .write-entry2 .result + c .list-parts .result .used + linesOf false (x .k .k) (x .order .now) * entry-words ≤ own-words
+    head-words + a .write-entry .result + t .write-entry2 .result + c .list-parts .result .used + partLines false (x .k .k) (x .order .now) * entry-words ≤ own-words
 middles-room c =
     let t = c .before .before .before .before in
     let b = t .before .before .before .before .before .before .before .before .before in

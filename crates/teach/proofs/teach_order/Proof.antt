@@ -5,7 +5,8 @@ use Rattle.figures.specs.Numbers.{done}
 use Rattle.order.specs.Reading.{causeOf}
 use Rattle.book.specs.Holding.{Holds}
 use Rattle.own.specs.Own.{own-words}
-use Rattle.teach.proofs.Outcomes.{all-zeros, told, cause-told, teach-refused, used-room, least, teach-full, own-holds, teach-overfull, teach-crowded, teach-ready, teach-done}
+use Rattle.teach.proofs.Outcomes.{all-zeros, told, teach-refused, used-room, least, teach-full, own-holds, teach-overfull, teach-crowded, teach-ready, teach-done}
+use Rattle.order.proofs.Causes.{cause-told}
 use Rattle.teach.proofs.teach_order.Statement.{statement}
 use Rattle.teach.proofs.teach_order.Tie as tie
 

@@ -5,7 +5,8 @@ use Rattle.figures.specs.Numbers.{done}
 use Rattle.order.specs.Reading.{causeOf}
 use Rattle.book.specs.Holding.{Holds}
 use Rattle.own.specs.Own.{own-words}
-use Rattle.teach.proofs.Outcomes.{all-zeros, told, cause-told, withdraw-refused, least, own-holds, withdraw-untaught, withdraw-ready, withdraw-disagrees, withdraw-done}
+use Rattle.teach.proofs.Outcomes.{all-zeros, told, withdraw-refused, least, own-holds, withdraw-untaught, withdraw-ready, withdraw-disagrees, withdraw-done}
+use Rattle.order.proofs.Causes.{cause-told}
 use Rattle.teach.proofs.withdraw_order.Statement.{statement}
 use Rattle.teach.proofs.withdraw_order.Tie as tie
 

@@ -4,7 +4,7 @@ use native.Mathlib.Omega.{arith}
 use borrow.Author.Needs.{needs}
 use Rattle.figures.specs.Numbers.{done}
 use Rattle.order.specs.Reading.{causeOf}
-use Rattle.order.proofs.Cuts.{no-room, has-room}
+use Rattle.order.proofs.Cuts.{no-output-room, has-room}
 use Rattle.form.proofs.Written.{checked, write-refused, write-lines}
 use Rattle.form.proofs.writing.write.Statement.{statement}
 use Rattle.form.proofs.writing.write.Tie as tie
@@ -29,7 +29,7 @@ wrote-requires-2 : tie.Need-wrote-requires-2
 wrote-requires-2 c κs = search needs
 
 returns-2 : tie.Need-returns-2
-returns-2 c = no-room _ _ _ (c .wrote2 .ensures) (omega arith) ∙ sym (write-lines _ _ (fine (c .before .before .before .before)))
+returns-2 c = no-output-room _ _ _ (c .wrote2 .ensures) (omega arith) ∙ sym (write-lines _ _ (fine (c .before .before .before .before)))
 
 put-lines-requires : tie.Need-put-lines-requires
 put-lines-requires c κs = (fine (c .before .before .before .before .before), c .before .before .before .levels-into .ensures .1, omega arith)
