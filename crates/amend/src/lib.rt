@@ -23,30 +23,6 @@ pub enum Change {
     Withdraw,
 }
 
-// Where a section starts.
-fn start(section: Section, places: Places) -> usize
-    ensures { λ r. ⌜ r ≡ startOf section places ⌝ }
-{
-    match section {
-        Section::Taught => limits::HEAD_WORDS,
-        Section::Tops => places.tops,
-        Section::Lows => places.lows,
-        Section::Middles => places.middles,
-    }
-}
-
-// The head's word with a section's number of entries.
-fn slot(section: Section) -> usize
-    ensures { λ r. ⌜ r ≡ slotOf section ⌝ }
-{
-    match section {
-        Section::Taught => limits::TAUGHT_WORD,
-        Section::Tops => limits::TOPS_WORD,
-        Section::Lows => limits::LOWS_WORD,
-        Section::Middles => limits::MIDDLES_WORD,
-    }
-}
-
 // What a section of the own book would do to the same section of the book.
 pub fn weigh_section(
     book: &[u16],
@@ -59,9 +35,9 @@ pub fn weigh_section(
     requires { ⌜ Holds (now own) owns ⌝ }
     ensures { λ r. ⌜ r ≡ weighedIn section (bookIn (now (own .entry))) (bookIn (now (book .entry))) ⌝ }
 {
-    let word = slot(section);
-    let at = start(section, places);
-    let from = start(section, owns);
+    let word = book::slot(section);
+    let at = book::start(section, places);
+    let from = book::start(section, owns);
     let many = book[word] as usize;
     let more = own[word] as usize;
     changes::weigh(&book[at..], many, &own[from..], more)
@@ -158,7 +134,7 @@ fn change_section(
     ensures came { λ r. ⌜ r ≡ used (changedIn change section (bookIn (now (own .entry))) (bookIn (now (book .entry)))) ⌝ }
     ensures wrote { λ _. ⌜ now (book .exit) ≡ lay (length (now (book .entry))) (changedIn change section (bookIn (now (own .entry))) (bookIn (now (book .entry)))) ⌝ }
 {
-    let word = slot(section);
+    let word = book::slot(section);
     let many = book[word] as usize;
     let more = own[word] as usize;
     let live = lives(

@@ -8,4 +8,3 @@ pub mod Holding
 pub mod Openings
 pub mod Sound
 pub mod Taught
-pub mod Rows

@@ -355,7 +355,7 @@ laid-read n b f = let p = form-proper b f in ap bookIn (is-x n b p) ∙ book-rea
 -- ---- the tests of a pass are the definition
 
 -- Two tests of which each passes where the other does are the same.
-either : (a b : Bool) → (a ≡ true → b ≡ true) → (b ≡ true → a ≡ true) → a ≡ b
+pub either : (a b : Bool) → (a ≡ true → b ≡ true) → (b ≡ true → a ≡ true) → a ≡ b
 either true b f g = sym (f refl)
 either false true f g = g refl
 either false false f g = refl

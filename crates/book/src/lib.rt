@@ -5,7 +5,7 @@ ghost use Prim.Native.Nat.{_≤_};
 ghost use lib.ListN.{length, drop};
 ghost use Rattle.words.specs.Base.{within};
 ghost use Rattle.figures.specs.Limits.{head-words, most-book-words};
-ghost use Rattle.book.specs.Decoding.{bookFormOf};
+ghost use Rattle.book.specs.Decoding.{startOf, slotOf, bookFormOf};
 ghost use Rattle.book.specs.Passes.{wholeAt, stretchOf, zeros, headOf};
 ghost use Rattle.book.specs.Opening.{outcome, openOf};
 use figures::Answer;
@@ -48,6 +48,30 @@ pub enum Whole {
 pub enum Stretch {
     Broken,
     InOrder(usize, usize),
+}
+
+// Where a section starts.
+pub fn start(section: Section, places: Places) -> usize
+    ensures { λ r. ⌜ r ≡ startOf section places ⌝ }
+{
+    match section {
+        Section::Taught => limits::HEAD_WORDS,
+        Section::Tops => places.tops,
+        Section::Lows => places.lows,
+        Section::Middles => places.middles,
+    }
+}
+
+// The head's word with a section's number of entries.
+pub fn slot(section: Section) -> usize
+    ensures { λ r. ⌜ r ≡ slotOf section ⌝ }
+{
+    match section {
+        Section::Taught => limits::TAUGHT_WORD,
+        Section::Tops => limits::TOPS_WORD,
+        Section::Lows => limits::LOWS_WORD,
+        Section::Middles => limits::MIDDLES_WORD,
+    }
 }
 
 // Whether a slice of so many words has the size of a book.

@@ -37,17 +37,17 @@ use Rattle.effects.proofs.Counted.{taught-parts}
 -- ---- the teachings that a T counts
 
 -- A section T in form: sorted, and each key the words of an order within limits.
-record Orders (es : List Entry) : Type 0 where
-  sorted : Sorted es
-  limits : (e : Entry) → e ∈ es → Fits 0 greatest-depth (e .key)
+pub record Orders (es : List Entry) : Type 0 where
+  pub sorted : Sorted es
+  pub limits : (e : Entry) → e ∈ es → Fits 0 greatest-depth (e .key)
 
 -- That of a book in form is.
-form-orders : (b : Book) → inForm b ≡ true → Orders (b .T)
+pub form-orders : (b : Book) → inForm b ≡ true → Orders (b .T)
 unfolding sectionOf
 form-orders b f = record { sorted = form-sorted b f Taught; limits = λ e m. form-sound b f .taught .entry e m .tree }
 
 -- So are the entries past the first.
-later : (e : Entry) (es : List Entry) → Orders (e ∷ es) → Orders es
+pub later : (e : Entry) (es : List Entry) → Orders (e ∷ es) → Orders es
 unfolding Sorted
 later e es o = record { sorted = o .sorted .2; limits = λ f m. o .limits f (there m) }
 
@@ -60,13 +60,13 @@ read-entry e es t q f =
     rw r
 
 -- The first entry of a T in form is the teachings of an order.
-record First (e : Entry) (es : List Entry) : Type 0 where
-  tree : Tree
-  spelt : e .key ≡ words tree
-  reads : teachingsIn (e ∷ es) ≡ record { order = tree; times = e .count } ∷ teachingsIn es
+pub record First (e : Entry) (es : List Entry) : Type 0 where
+  pub tree : Tree
+  pub spelt : e .key ≡ words tree
+  pub reads : teachingsIn (e ∷ es) ≡ record { order = tree; times = e .count } ∷ teachingsIn es
 
 -- It has one.
-first : (e : Entry) (es : List Entry) → Orders (e ∷ es) → First e es
+pub first : (e : Entry) (es : List Entry) → Orders (e ∷ es) → First e es
 first e es o =
     let f = o .limits e (here refl) in
     record { tree = f .tree; spelt = f .isOrder .spelt; reads = read-entry e es (f .tree) (f .isOrder .spelt) f }
@@ -82,7 +82,7 @@ teachings-live (e ∷ es) s o m = let f = first e es s in go (f .tree) (rw (f .r
     go t (there i) ih = ih i
 
 -- The sections of their book are sorted.
-teachings-sorted : (k : ℕ) (es : List Entry) → Orders es → (s : Section) → Sorted (sectionOf s (bookOf k (teachingsIn es)))
+pub teachings-sorted : (k : ℕ) (es : List Entry) → Orders es → (s : Section) → Sorted (sectionOf s (bookOf k (teachingsIn es)))
 teachings-sorted k es o s = taught-sorted k (teachingsIn es) (teachings-live es o) s
 
 -- Section T of their book is the T that counts them.

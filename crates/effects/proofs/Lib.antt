@@ -6,5 +6,4 @@ pub mod Conditions
 pub mod Whys
 pub mod Agreeing
 pub mod Sequences
-pub mod Rows
 pub mod Undoing

@@ -1,4 +1,3 @@
 -- The definitions of the crate.
 pub mod Conditions
-pub mod Heard
 pub mod Whys

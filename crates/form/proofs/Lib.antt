@@ -2,7 +2,7 @@
 pub mod Faults
 mod Spelling
 mod Steps
-mod Counts
+pub mod Counts
 pub mod TreeLines
 pub mod Digits
 pub mod Unique
@@ -12,7 +12,5 @@ pub mod Grow
 pub mod Trips
 pub mod Letters
 mod Turn
-mod LineBytes
-mod Rows
-mod Written
+pub mod LineBytes
 mod Answers

@@ -38,7 +38,7 @@ fn top_known(book: &[u16], places: Places, order: &[u16]) -> bool
     ensures { λ r. ⌜ r ≡ topKnown (bookIn (now (book .entry))) (now (order .entry)) ⌝ }
 {
     let mut cut = [0u16; limits::MOST_WORDS];
-    let laid = order::put(order, 0, places.k.of_tops(), &mut cut);
+    let laid = cuts::put(order, 0, places.k.of_tops(), &mut cut);
     let count = laid.count;
     let many = book[limits::TOPS_WORD] as usize;
     match section::find(book, places.tops, many, &cut[0..count]) {
@@ -56,7 +56,7 @@ fn seek(book: &[u16], places: Places, order: &[u16], line: usize, cut: &mut [u16
     ensures { λ r. ⌜ Seeks (bookIn (now (book .entry))) (now (book .entry)) (now (order .entry)) (line * 2) (now (cut .exit)) r ⌝ }
 {
     let from = line * 2;
-    match order::part_at(order, from, places.k) {
+    match parts::part_at(order, from, places.k) {
         // Never met: every line of an order has a part.
         PartAt::NoPart => Sought {
             low: true,
@@ -76,7 +76,7 @@ fn seek(book: &[u16], places: Places, order: &[u16], line: usize, cut: &mut [u16
             }
         }
         PartAt::MiddleTo { end: _, count } => {
-            order::put(order, from, places.k.of_middles(), cut);
+            cuts::put(order, from, places.k.of_middles(), cut);
             let many = book[limits::MIDDLES_WORD] as usize;
             Sought {
                 low: false,
@@ -143,7 +143,7 @@ fn line_answer(order: &[u16], k: Depth, line: usize) -> Answer
     if line == 0 {
         return answered(numbers::DONE);
     }
-    let number = match order::part_at(order, (line - 1) * 2, k) {
+    let number = match parts::part_at(order, (line - 1) * 2, k) {
         // Not met by a line of an order, which has a part.
         PartAt::NoPart => numbers::LOW_UNKNOWN,
         PartAt::LowTo { end: _ } => numbers::LOW_UNKNOWN,

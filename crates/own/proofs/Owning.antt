@@ -37,13 +37,18 @@ use Rattle.own.proofs.Listing.{enterEach, entered-all, partsIn, parts-n
 -- ---- how many words it takes
 
 -- A section of one entry has its words.
-one-words : (e : Entry) → sectionWords (e ∷ []) ≡ entryWords e
+pub one-words : (e : Entry) → sectionWords (e ∷ []) ≡ entryWords e
 unfolding sectionWords
 one-words e = append-nil (entryWords e)
 
 -- So it has two words more than its tree.
-one-long : (key : List ℕ) → length (sectionWords (counted key 1 ∷ [])) ≡ 2 + length key
+pub one-long : (key : List ℕ) → length (sectionWords (counted key 1 ∷ [])) ≡ 2 + length key
 one-long key = rw (one-words (counted key 1)) (omega arith)
+
+-- Words written over a slice of zeros stand at its front, and zeros behind them.
+pub over-zeros : (w out : List ℕ) → length w ≤ length out → out ≡ replicate (length out) 0 → over w out ≡ padded (length out) w
+unfolding padded
+over-zeros w out fits zeros = ap (over w) zeros ∙ ap (λ (l : List ℕ). w ++ l) (drop-zeros (length out) (length w) fits)
 
 -- Every subtree stands for a part of one kind.
 parts-both : (k : ℕ) (ss : List Tree) → least-k ≤ k → length (partsIn true k ss) + length (partsIn false k ss) ≡ length ss

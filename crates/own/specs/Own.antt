@@ -18,6 +18,10 @@ use Rattle.book.specs.Taught.{emptyBook, addEach, bookOf}
 abbrev pub entry-words : ℕ
 entry-words = 2 + most-words
 
+-- What one teaching of an order counts in a section takes no more words: an entry for each line, as long as the longest order's.
+abbrev pub list-words : ℕ
+list-words = most-nodes * entry-words
+
 -- No order's own book takes more words: its head, the order, its top, and a part for each line, each as long as the longest order.
 abbrev pub own-words : ℕ
 own-words = head-words + (2 + most-nodes) * entry-words

@@ -1,6 +1,7 @@
 // An order's own book: the book of one teaching of it, listed in a lent slice. Each part is entered once, where it belongs, so that the parts
 // ascend and a book can be weighed against them and changed by them in one pass. Assumes nothing beyond each function's `requires`.
 ghost use mathlib.Core.Path.{_≡_};
+ghost use mathlib.Core.List.{[], _∷_};
 ghost use Prim.Native.Nat.{_+_, _*_, _≤_};
 ghost use lib.ListN.{length, replicate};
 ghost use Rattle.words.specs.Base.{over};
@@ -10,10 +11,11 @@ ghost use Rattle.section.specs.Entries.{counted, entryWords, sectionWords};
 ghost use Rattle.changes.specs.Editing.{padded};
 ghost use Rattle.order.specs.Reading.{causeOf};
 ghost use Rattle.order.specs.Walks.{walkOf, cutOf, partAtOf, Room};
-ghost use Rattle.book.specs.Book.{lay};
+ghost use Rattle.book.specs.Book.{sectionOf, lay};
 ghost use Rattle.book.specs.Decoding.{placesOf};
-ghost use Rattle.own.specs.Own.{entry-words, own-words, ownOf, partLines, listOf, sizeOf, lowAt};
+ghost use Rattle.own.specs.Own.{entry-words, list-words, own-words, ownOf, partLines, listOf, sizeOf, lowAt};
 use book::Places;
+use book::Section;
 use changes::Size;
 use figures::Depth;
 use figures::limits;
@@ -21,6 +23,9 @@ use order::PartAt;
 
 // The most words that an entry takes.
 const ENTRY_WORDS: usize = 2 + limits::MOST_WORDS;
+
+// What one teaching of an order counts in a section takes no more words: an entry for each line, as long as the longest order's.
+pub const LIST_WORDS: usize = limits::MOST_NODES * ENTRY_WORDS;
 
 // No order's own book takes more words: its head, the order, its top, and a part for each line, each as long as the longest order.
 pub const OWN_WORDS: usize = limits::HEAD_WORDS + (2 + limits::MOST_NODES) * ENTRY_WORDS;
@@ -32,7 +37,7 @@ fn write_entry(order: &[u16], at: usize, d: usize, out: &mut [u16]) -> usize
     ensures came { λ r. ⌜ r ≡ 2 + length (cutOf (now (order .entry)) at d) ⌝ }
     ensures wrote { λ _. ⌜ now (out .exit) ≡ over (entryWords (counted (cutOf (now (order .entry)) at d) 1)) (now (out .entry)) ⌝ }
 {
-    let laid = order::put(order, at, d, &mut out[2..]);
+    let laid = cuts::put(order, at, d, &mut out[2..]);
     let count = laid.count;
     let nodes = count / 2;
     out[0] = nodes as u16;
@@ -44,7 +49,7 @@ fn write_entry(order: &[u16], at: usize, d: usize, out: &mut [u16]) -> usize
 fn is_low(order: &[u16], at: usize, k: Depth) -> bool
     ensures { λ r. ⌜ r ≡ lowAt (partAtOf (now (order .entry)) at (k .k)) ⌝ }
 {
-    match order::part_at(order, at, k) {
+    match parts::part_at(order, at, k) {
         PartAt::NoPart => false,
         PartAt::LowTo { end: _ } => true,
         PartAt::MiddleTo { end: _, count: _ } => false,
@@ -77,6 +82,35 @@ fn list_parts(order: &[u16], k: Depth, low: bool, out: &mut [u16]) -> Size
         line += 1;
     }
     Size { used, many }
+}
+
+// Lists the order's cut at d alone, at the front of `out`, whose words are zero: an entry of count 1.
+fn list_cut(order: &[u16], d: usize, out: &mut [u16]) -> Size
+    requires { ⌜ causeOf (now order) ≡ done ⌝ }
+    requires { ⌜ now out ≡ replicate (length (now out)) 0 ⌝ }
+    requires { ⌜ entry-words ≤ length (now out) ⌝ }
+    ensures came { λ r. ⌜ r ≡ sizeOf (counted (cutOf (now (order .entry)) 0 d) 1 ∷ []) ⌝ }
+    ensures wrote { λ _. ⌜ now (out .exit) ≡ padded (length (now (out .entry))) (sectionWords (counted (cutOf (now (order .entry)) 0 d) 1 ∷ [])) ⌝ }
+{
+    let used = write_entry(order, 0, d, out);
+    Size { used, many: 1 }
+}
+
+// Lists what one teaching of the order counts in a section, at the front of `out`, whose words are zero. Answers the size.
+pub fn list_section(order: &[u16], k: Depth, section: Section, out: &mut [u16]) -> Size
+    requires { ⌜ least-k ≤ k .k ⌝ }
+    requires { ⌜ causeOf (now order) ≡ done ⌝ }
+    requires { ⌜ now out ≡ replicate (length (now out)) 0 ⌝ }
+    requires { ⌜ length (now out) ≡ list-words ⌝ }
+    ensures came { λ r. ⌜ r ≡ sizeOf (sectionOf section (ownOf (k .k) (now (order .entry)))) ⌝ }
+    ensures wrote { λ _. ⌜ now (out .exit) ≡ padded (length (now (out .entry))) (sectionWords (sectionOf section (ownOf (k .k) (now (order .entry))))) ⌝ }
+{
+    match section {
+        Section::Taught => list_cut(order, limits::GREATEST_DEPTH, out),
+        Section::Tops => list_cut(order, k.of_tops(), out),
+        Section::Lows => list_parts(order, k, true, out),
+        Section::Middles => list_parts(order, k, false, out),
+    }
 }
 
 // Lists the order's own book in `own`, whose words are zero. Answers where its sections start.

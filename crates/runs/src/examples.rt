@@ -23,7 +23,7 @@ fn whole(name: &[u8], tree: &[u16], k: Depth) {
 // Says the top of a tree.
 fn top(name: &[u8], tree: &[u16], k: Depth) {
     let mut out = [0u16; 128];
-    let written = order::cut_into(tree, 1, k.of_tops(), &mut out);
+    let written = cuts::cut_into(tree, 1, k.of_tops(), &mut out);
     let count = written.count;
     head(name, k);
     say::text(b", the top: ");
@@ -43,7 +43,7 @@ fn kind(kind: Kind) {
 // Says the part that a line stands for.
 fn part(name: &[u8], tree: &[u16], line: usize, k: Depth) {
     let mut out = [0u16; 128];
-    let found = order::part_into(tree, line, k, &mut out);
+    let found = parts::part_into(tree, line, k, &mut out);
     let sort = found.kind;
     let written = found.written;
     let count = written.count;

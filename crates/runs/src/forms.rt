@@ -44,7 +44,7 @@ fn read(room: usize, rest: &[u8]) {
 
 // Writes an order to an output, and says the answer, the bytes written and the bytes behind them.
 fn write_to(order: &[u16], out: &mut [u8]) {
-    let written = form::write(order, out);
+    let written = print::write(order, out);
     let count = written.count;
     lent::answer(written);
     lent::bytes(out, count);

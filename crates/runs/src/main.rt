@@ -3,7 +3,7 @@
 mod books;
 mod calls;
 mod cases;
-mod cuts;
+mod depths;
 mod examples;
 mod forms;
 mod input;
@@ -29,8 +29,8 @@ fn orders() {
     examples::third();
     subtrees::lines();
     subtrees::refused();
-    cuts::depths();
-    cuts::short();
+    depths::all();
+    depths::short();
 }
 
 // Runs the cases of orders, and then those of forms and books, which stand on standard input.

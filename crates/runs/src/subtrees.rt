@@ -8,7 +8,7 @@ fn subtree(name: &[u8], order: &[u16], line: usize) {
     say::text(b", subtree of line ");
     say::count(line);
     say::text(b": ");
-    say::tree(order::subtree(order, line));
+    say::tree(cuts::subtree(order, line));
     say::end();
 }
 

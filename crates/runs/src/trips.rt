@@ -16,7 +16,7 @@ pub fn answer(same: bool) {
 // Whether an order is written, and its text is read, to the same words.
 pub fn words(order: &[u16]) -> bool {
     let mut text = [0u8; MOST];
-    let written = form::write(order, &mut text);
+    let written = print::write(order, &mut text);
     let bytes = written.count;
     if written.number != numbers::DONE {
         return false;
@@ -48,7 +48,7 @@ pub fn bytes(text: &[u8]) -> bool {
         return false;
     }
     let mut bytes = [0u8; MOST];
-    let written = form::write(&words[0..count], &mut bytes);
+    let written = print::write(&words[0..count], &mut bytes);
     let size = written.count;
     if written.number != numbers::DONE {
         return false;

@@ -1,0 +1,67 @@
+// The part that a line of an order stands for at k, by the depth of its uncut subtree. Assumes nothing.
+ghost use mathlib.Core.Path.{_≡_};
+ghost use Rattle.order.specs.Walks.{partAtOf, kindOf};
+ghost use Rattle.order.specs.Answers.{noPart, partWriting, partIntoOf};
+use figures::Depth;
+use figures::limits;
+use figures::numbers;
+use figures::wrote;
+use order::Kind;
+use order::PartAt;
+use order::PartWritten;
+use order::Place;
+use order::Walked;
+use order::walk;
+
+// A number, and no part.
+fn no_part(number: u16) -> PartWritten
+    ensures { λ r. ⌜ r ≡ noPart number ⌝ }
+{
+    PartWritten {
+        kind: Kind::Absent,
+        written: wrote(number, 0),
+    }
+}
+
+// The part that the tree at word `at` stands for at k, with nothing written; none in more words than an order has.
+pub fn part_at(order: &[u16], at: usize, k: Depth) -> PartAt
+    ensures { λ r. ⌜ r ≡ partAtOf (now (order .entry)) at (k .k) ⌝ }
+{
+    if limits::MOST_WORDS < order.len() {
+        return PartAt::NoPart;
+    }
+    let Walked::Whole { end, depth, cut } = walk(order, at, k.of_middles()) else {
+        return PartAt::NoPart;
+    };
+    if depth <= k.of_tops() {
+        return PartAt::LowTo { end };
+    }
+    PartAt::MiddleTo { end, count: cut }
+}
+
+// The kind of part that the tree at word `at` stands for at k.
+fn kind_at(order: &[u16], at: usize, k: Depth) -> Kind
+    ensures { λ r. ⌜ r ≡ kindOf (partAtOf (now (order .entry)) at (k .k)) ⌝ }
+{
+    match part_at(order, at, k) {
+        PartAt::NoPart => Kind::Absent,
+        PartAt::LowTo { end: _ } => Kind::Low,
+        PartAt::MiddleTo { end: _, count: _ } => Kind::Middle,
+    }
+}
+
+// The part that a line stands for at k: its kind, and its words to the front of `out`. The words of either kind are the cut at k-1, since
+// that of a low part is the subtree itself.
+pub fn part_into(order: &[u16], line: usize, k: Depth, out: &mut [u16]) -> PartWritten
+    ensures { λ r. ⌜ partWriting r (now (out .exit)) ≡ partIntoOf (now (order .entry)) line (k .k) (now (out .entry)) ⌝ }
+{
+    match cuts::find_line(order, line) {
+        Place::Refused(number) => no_part(number),
+        Place::Lacking => no_part(numbers::DONE),
+        Place::At(at) => {
+            let kind = kind_at(order, at, k);
+            let written = cuts::cut_at(order, at, k.of_middles(), out);
+            PartWritten { kind, written }
+        }
+    }
+}

@@ -1,0 +1,3 @@
+-- What the proofs of several functions use.
+mod Rows
+mod Written

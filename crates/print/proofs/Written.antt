@@ -1,0 +1,145 @@
+-- The lines of an order that passes, written one after the other, and what the call answers. Assumes nothing.
+use Prim.Native.Nat.{ℕ, suc, _+_, _*_, _-_, _/_, _≤_, _<_}
+use mathlib.Core.Path.{_≡_, refl, ap, sym, subst, _∙_}
+use mathlib.Core.List.{List, [], _∷_, _++_, append-assoc, append-nil}
+use native.Mathlib.Omega.{arith}
+use lib.ListN.{length, take, drop, getD, length-append}
+use lib.Seq.{getD-at, getD-take, getD-drop}
+use Rattle.words.specs.Base.{over}
+use Rattle.figures.specs.Limits.{most-nodes}
+use Rattle.figures.specs.Numbers.{done}
+use Rattle.figures.specs.declared.Answer.{Answer}
+use Rattle.figures.specs.declared.Written.{Written}
+use Rattle.figures.specs.Answers.{wrote}
+use Rattle.order.specs.Trees.{Tree}
+use Rattle.order.specs.Reading.{byOrder, causeOf}
+use Rattle.order.specs.Answers.{checkOf, writing, write}
+use Rattle.order.proofs.Orders.{size}
+use Rattle.order.proofs.Causes.{Passed, refused-by, has-tree}
+use Rattle.form.specs.Text.{Line, linesOf, lineText, spell, textOf}
+use Rattle.form.specs.Reading.{wordsOf}
+use Rattle.form.specs.Writing.{writeOf}
+use Rattle.form.specs.Turns.{linesIn, levelsOf}
+use Rattle.form.proofs.Counts.{length-words}
+use Rattle.form.proofs.TreeLines.{lines-words}
+use Rattle.form.proofs.LineBytes.{over-part, spell-append, spell-more, levels-append, levels-size}
+
+-- ---- the lines of an order that passes
+
+-- The lines of an order that passes are those of its tree.
+pub lines-in : (s : List ℕ) (t : Tree) → Passed s t → linesIn s ≡ linesOf t 0
+unfolding linesIn byOrder
+lines-in s t p = rw (p .is)
+
+-- The words of lines behind others stand behind theirs.
+words-behind : (xs ys : List Line) → drop (2 * length xs) (wordsOf (xs ++ ys)) ≡ wordsOf ys
+unfolding wordsOf
+words-behind [] ys = refl
+words-behind (x ∷ xs) ys = let z : 2 * suc (length xs) ≡ suc (suc (2 * length xs)) = omega arith in rw z (words-behind xs ys)
+
+-- What is known of the lines of an order that passes: it is their words, and they are not too many.
+pub record Known (s : List ℕ) (xs : List Line) : Type 0 where
+  pub spelt : s ≡ wordsOf xs
+  pub twice : length s ≡ 2 * length xs
+  pub few : length xs ≤ most-nodes
+
+-- `Known` holds of an order whose cause is 0.
+pub known : (s : List ℕ) → causeOf s ≡ done → Known s (linesIn s)
+known s e =
+    let p = has-tree s e .passes in
+    let t = has-tree s e .tree in
+    let w : s ≡ wordsOf (linesIn s) = p .spelt ∙ sym (lines-words t 0) ∙ ap wordsOf (sym (lines-in s t p)) in
+    let z : length s ≡ 2 * length (linesIn s) = ap length w ∙ length-words (linesIn s) in
+    record { spelt = w; twice = z; few = omega (arith, size t, ap length (p .spelt), p .nodes) }
+
+-- ---- one line after the other
+
+-- What the loop knows that writes the lines xs: those before are written, `at` bytes in all.
+pub record Put (xs : List Line) (out₀ out : List ℕ) (line at : ℕ) : Type 0 where
+  pub before : List Line
+  pub after : List Line
+  pub split : xs ≡ before ++ after
+  pub reached : length before ≡ line
+  pub bytes : at ≡ length (spell before)
+  pub is : out ≡ over (spell before) out₀
+
+-- Before the first line nothing is written.
+pub put-none : (xs : List Line) (out : List ℕ) → Put xs out out 0 0
+unfolding spell
+put-none xs out = record { before = []; after = xs; split = refl; reached = refl; bytes = refl; is = refl }
+
+-- What is known of the next line x: it has room, and once it is written the loop knows as much of the lines up to it.
+pub record PutNext (xs : List Line) (out₀ out : List ℕ) (line at : ℕ) (x : Line) : Type 0 where
+  pub room : at + length (lineText x) ≤ length out
+  pub turn : (last : List ℕ) (n : ℕ) → n ≡ length (lineText x) → last ≡ over (lineText x) (take (length out - at) (drop at out))
+      → Put xs out₀ (take at out ++ (last ++ drop (length out - at) (drop at out))) (line + 1) (at + n)
+
+-- `PutNext` holds of the line behind those before.
+next-of : (xs : List Line) (out₀ out : List ℕ) (line at : ℕ) (x : Line) (before after : List Line) → length (spell xs) ≤ length out₀ → length out ≡ length out₀
+    → xs ≡ before ++ (x ∷ after) → length before ≡ line → at ≡ length (spell before) → out ≡ over (spell before) out₀ → PutNext xs out₀ out line at x
+unfolding spell
+next-of xs out₀ out line at x before after room same e l b o =
+    let r : length (spell before) + length (lineText x) ≤ length out₀ =
+    omega (arith, ap (λ (ys : List Line). length (spell ys)) e, ap length (spell-append before (x ∷ after)), length-append (spell before) (lineText x ++ spell after), length-append (lineText x) (spell after)) in
+    record {
+      room = omega arith;
+      turn = λ last n i w. record {
+        before = before ++ (x ∷ []);
+        after = after;
+        split = e ∙ sym (append-assoc before (x ∷ []) after);
+        reached = length-append before (x ∷ []) ∙ ap (λ (m : ℕ). m + 1) l;
+        bytes = omega (arith, ap length (spell-more before x), length-append (spell before) (lineText x));
+        is = over-part (spell before) (lineText x) out₀ out last at r b o w ∙ ap (λ (w : List ℕ). over w out₀) (sym (spell-more before x));
+      };
+    }
+
+module _ (s levels : List ℕ) (fine : causeOf s ≡ done) (listed : take (length (linesIn s)) levels ≡ levelsOf (linesIn s)) (line : ℕ) where
+  -- The line behind those before is the one that is read.
+  this-line : (x : Line) (before after : List Line) → linesIn s ≡ before ++ (x ∷ after) → length before ≡ line → x ≡ record { level = getD levels line 0; code = getD s (2 * line) 0 }
+  unfolding levelsOf wordsOf
+  this-line x before after e l =
+      let n : length (linesIn s) ≡ line + suc (length after) = ap length e ∙ length-append before (x ∷ after) ∙ ap (λ (m : ℕ). m + suc (length after)) l in
+      let level : getD levels line 0 ≡ x .level =
+      sym (getD-take (length (linesIn s)) levels line 0 (omega arith)) ∙ ap (λ (r : List ℕ). getD r line 0) (listed ∙ ap levelsOf e ∙ levels-append before (x ∷ after)) ∙ getD-at (levelsOf before) (x .level) (levelsOf after) 0 line (levels-size before ∙ l) in
+      let m : 2 * length before + 0 ≡ 2 * line = omega arith in
+      let code : getD s (2 * line) 0 ≡ x .code =
+      ap (λ (i : ℕ). getD s i 0) (sym m) ∙ sym (getD-drop (2 * length before) s 0 0) ∙ ap (λ (r : List ℕ). getD (drop (2 * length before) r) 0 0) (known s fine .spelt ∙ ap wordsOf e) ∙ ap (λ (r : List ℕ). getD r 0 0) (words-behind before (x ∷ after)) in
+      let is : _≡_ {A = Line} (record { level = x .level; code = x .code }) (record { level = getD levels line 0; code = getD s (2 * line) 0 }) = cc in
+      is
+
+  -- `PutNext` holds of the line that is read while lines are left.
+  pub put-next : (out₀ out : List ℕ) (at : ℕ) → length (spell (linesIn s)) ≤ length out₀ → length out ≡ length out₀ → line < length s / 2 → Put (linesIn s) out₀ out line at
+      → PutNext (linesIn s) out₀ out line at (record { level = getD levels line 0; code = getD s (2 * line) 0 })
+  put-next out₀ out at room same h p = go (p .after) (p .split)
+    where
+      go : (ys : List Line) → linesIn s ≡ p .before ++ ys → PutNext (linesIn s) out₀ out line at (record { level = getD levels line 0; code = getD s (2 * line) 0 })
+      go [] e = absurd (omega (arith, known s fine .twice, ap length e, length-append (p .before) [], p .reached))
+      go (x ∷ ys) e = subst (PutNext (linesIn s) out₀ out line at) (this-line x (p .before) ys e (p .reached)) (next-of (linesIn s) out₀ out line at x (p .before) ys room same e (p .reached) (p .bytes) (p .is))
+
+-- After the last line all are written.
+pub put-all : (s out₀ out : List ℕ) (line at : ℕ) → causeOf s ≡ done → length s / 2 ≤ line → Put (linesIn s) out₀ out line at → out ≡ over (spell (linesIn s)) out₀
+put-all s out₀ out line at fine h p = go (p .after) (p .split)
+  where
+    go : (ys : List Line) → linesIn s ≡ p .before ++ ys → out ≡ over (spell (linesIn s)) out₀
+    go [] e = p .is ∙ ap (λ (xs : List Line). over (spell xs) out₀) (sym (e ∙ append-nil (p .before)))
+    go (x ∷ ys) e = absurd (omega (arith, known s fine .twice, ap length e, length-append (p .before) (x ∷ ys), p .reached))
+
+-- ---- the call
+
+-- The number of a check is the order's.
+pub checked : (s : List ℕ) (r : Answer) → r ≡ checkOf s → r .number ≡ causeOf s
+unfolding checkOf
+checked s r e = ap (λ (a : Answer). a .number) e
+
+-- A cause refuses the order, and nothing is written.
+pub write-refused : (s out : List ℕ) (n : ℕ) (r : Written) → n ≡ causeOf s → (n ≡ done → ⊥) → r ≡ wrote n 0 → writing r out ≡ writeOf s out
+unfolding writeOf byOrder
+write-refused s out n r e h a = rw (refused-by s (λ z. h (e ∙ z)), a, e)
+
+-- The text of an order that passes is the bytes of its lines.
+pub write-lines : (s out : List ℕ) → causeOf s ≡ done → writeOf s out ≡ write (spell (linesIn s)) out
+unfolding writeOf textOf byOrder
+write-lines s out e =
+    let p = has-tree s e .passes in
+    let t = has-tree s e .tree in
+    rw (lines-in s t p, p .is)

@@ -1,0 +1,75 @@
+-- The twelve numbered cases of 01 ("Forms on the desk"), computed as one table over the definitions that the contracts cite; and case 11 for any
+-- order. Assumes nothing.
+use Prim.Native.Nat.{ℕ, _≤_}
+use mathlib.Core.Path.{_≡_, refl}
+use mathlib.Core.List.{List, [], _∷_, _++_}
+use Rattle.form.specs.Reading.{readOf}
+use Rattle.promises.specs.Heard.{A, B, C, single, pair, three, opens, teaches, withdraws, judges, slice, heard, readAs}
+use Rattle.promises.proofs.Computed.{computes}
+
+-- What the definitions say: of each call "answer, line, words used", and of a text that is read answer, line, words written and the output.
+-- Each slice has no word more than it needs.
+unfoldable outcomes : List (List ℕ)
+outcomes =
+    heard (opens 3 ∷ teaches A ∷ teaches B ∷ withdraws A ∷ []) (slice 109)
+    ++ (heard (opens 2 ∷ teaches A ∷ []) (slice 51)
+    ++ (heard (opens 3 ∷ teaches A ∷ teaches B ∷ judges C ∷ []) (slice 109)
+    ++ (heard (opens 2 ∷ teaches A ∷ teaches B ∷ judges C ∷ []) (slice 87)
+    ++ (heard (opens 2 ∷ teaches single ∷ judges pair ∷ []) (slice 19)
+    ++ (heard (opens 2 ∷ teaches single ∷ []) (slice 18)
+    ++ (heard (opens 2 ∷ teaches pair ∷ judges single ∷ judges three ∷ []) (slice 27)
+    ++ (heard (opens 3 ∷ judges A ∷ []) (slice 7)
+    ++ (readAs (readOf (48 ∷ 32 ∷ 48 ∷ 48 ∷ 49 ∷ 48 ∷ 10 ∷ []) (9 ∷ 9 ∷ []))
+    ∷ readAs (readOf (48 ∷ 32 ∷ 48 ∷ 48 ∷ 65 ∷ 48 ∷ 10 ∷ []) (9 ∷ 9 ∷ []))
+    ∷ []))))))))
+
+-- What 01 says.
+unfoldable table : List (List ℕ)
+table =
+    -- 1. "Opened, k=3: 7 words used."
+    (0 ∷ 0 ∷ 7 ∷ [])
+    -- 2. "A taught, k=3: 59 words."
+    ∷ (0 ∷ 0 ∷ 59 ∷ [])
+    -- 3. "A, B taught, k=3: 109 words."
+    ∷ (0 ∷ 0 ∷ 109 ∷ [])
+    -- 4. "Then A withdrawn: 69 words."
+    ∷ (0 ∷ 0 ∷ 69 ∷ [])
+    -- 5. "A taught, k=2: 51 words."
+    ∷ (0 ∷ 0 ∷ 7 ∷ [])
+    ∷ (0 ∷ 0 ∷ 51 ∷ [])
+    -- 6. "A, B taught, k=3; judge C: 22, line 1."
+    ∷ (0 ∷ 0 ∷ 7 ∷ [])
+    ∷ (0 ∷ 0 ∷ 59 ∷ [])
+    ∷ (0 ∷ 0 ∷ 109 ∷ [])
+    ∷ (22 ∷ 1 ∷ 109 ∷ [])
+    -- 7. "A, B taught, k=2; judge C: 0."
+    ∷ (0 ∷ 0 ∷ 7 ∷ [])
+    ∷ (0 ∷ 0 ∷ 51 ∷ [])
+    ∷ (0 ∷ 0 ∷ 87 ∷ [])
+    ∷ (0 ∷ 0 ∷ 87 ∷ [])
+    -- 8. "Single node 1000 taught, k=2, in 19 words: 0"
+    ∷ (0 ∷ 0 ∷ 7 ∷ [])
+    ∷ (0 ∷ 0 ∷ 19 ∷ [])
+    -- 9. "That book judges 1000(1000): 22, line 1."
+    ∷ (22 ∷ 1 ∷ 19 ∷ [])
+    -- 8. "in 18: 6"
+    ∷ (0 ∷ 0 ∷ 7 ∷ [])
+    ∷ (6 ∷ 0 ∷ 7 ∷ [])
+    -- 10. "1000(1000) taught, k=2: judges 1000 as 0, and 1000(1000(1000)) as 0."
+    ∷ (0 ∷ 0 ∷ 7 ∷ [])
+    ∷ (0 ∷ 0 ∷ 27 ∷ [])
+    ∷ (0 ∷ 0 ∷ 27 ∷ [])
+    ∷ (0 ∷ 0 ∷ 27 ∷ [])
+    -- 11. "Empty book: any order within limits, 20, line 1." Here A; below any.
+    ∷ (0 ∷ 0 ∷ 7 ∷ [])
+    ∷ (20 ∷ 1 ∷ 7 ∷ [])
+    -- 12. "Text "0 0010" LF is code ten"
+    ∷ (0 ∷ 0 ∷ 2 ∷ 10 ∷ 0 ∷ [])
+    -- 12. ""0 00A0" LF is 10, line 1."
+    ∷ (10 ∷ 1 ∷ 0 ∷ 9 ∷ 9 ∷ [])
+    ∷ []
+
+-- They say the same.
+cases : outcomes ≡ table
+unfolding outcomes table computes
+cases = refl

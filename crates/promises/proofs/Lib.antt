@@ -1,0 +1,5 @@
+-- The demands, and the laws that they cite.
+pub mod Orders
+pub mod Remaining
+mod Computed
+pub mod Cases

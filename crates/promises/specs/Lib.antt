@@ -1,0 +1,3 @@
+-- The definitions that the demands are said with.
+pub mod Remaining
+pub mod Heard

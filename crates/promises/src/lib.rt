@@ -1,0 +1,1 @@
+// The three demands and the numbered cases, as theorems: no code.

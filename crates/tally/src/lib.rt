@@ -1,0 +1,110 @@
+// Counts tallied for the entries of a section: an index of their places, the entry of a key by halving, and how often each counts by other
+// sections. It knows nothing of trees, and assumes nothing beyond each function's `requires`.
+ghost use mathlib.Core.Path.{_≡_};
+ghost use mathlib.Core.Bool.{true};
+ghost use Prim.Native.Nat.{_+_, _≤_};
+ghost use lib.ListN.{length, drop};
+ghost use Rattle.words.specs.Base.{over};
+ghost use Rattle.figures.specs.Limits.{most-book-words};
+ghost use Rattle.section.specs.Entries.{entries, span, Sorted};
+ghost use Rattle.tally.specs.Tallying.{startsOf, listed, Indexed, soughtIn, hasAll, tallied, Few, sameCounts};
+use section::past;
+use words::Compared;
+
+// The number of the entry that has a key, counted from 0, if one has it.
+pub enum Sought {
+    Missing,
+    Number(usize),
+}
+
+// Writes where the n entries from word `from` on start, to the front of `starts`.
+pub fn index(book: &[u16], from: usize, n: usize, starts: &mut [u16])
+    requires { ⌜ from + span n (drop from (now book)) ≤ length (now book) ⌝ }
+    requires { ⌜ length (now book) ≤ most-book-words ⌝ }
+    requires { ⌜ n ≤ length (now starts) ⌝ }
+    ensures { λ _. ⌜ now (starts .exit) ≡ over (startsOf from n (drop from (now (book .entry)))) (now (starts .entry)) ⌝ }
+{
+    let mut at = from;
+    let mut i: usize = 0;
+    while i < n {
+        starts[i] = at as u16;
+        at = past(book, at);
+        i += 1;
+    }
+}
+
+// Which of the listed entries has the key: the range that it can stand in is halved until it is found or none is left.
+pub fn seek(book: &[u16], starts: &[u16], key: &[u16]) -> Sought
+    requires { ⌜ Indexed (now starts) (now book) ⌝ }
+    ensures { λ r. ⌜ r ≡ soughtIn (now (key .entry)) (listed (now (starts .entry)) (now (book .entry))) ⌝ }
+{
+    let mut low: usize = 0;
+    let mut high = starts.len();
+    while low < high {
+        let mid = low + (high - low) / 2;
+        let at = starts[mid] as usize;
+        let start = at + 2;
+        let end = past(book, at);
+        match words::compare(&book[start..end], key) {
+            Compared::Lower => {
+                low = mid + 1;
+            }
+            Compared::Equal => return Sought::Number(mid),
+            Compared::Higher => {
+                high = mid;
+            }
+        }
+    }
+    Sought::Missing
+}
+
+// Tallies `by` more for each listed entry whose key one of the first `many` entries of `list` has. Answers false where one of those has no
+// entry; what was tallied then is of no use.
+pub fn tally(
+    book: &[u16],
+    starts: &[u16],
+    counts: &mut [u16],
+    list: &[u16],
+    many: usize,
+    by: u16,
+) -> bool
+    requires { ⌜ Indexed (now starts) (now book) ⌝ }
+    requires { ⌜ (span many (now list) ≤ length (now list)) × Sorted (entries many (now list)) ⌝ }
+    requires { ⌜ (length (now counts) ≡ length (now starts)) × Few (tallied by (entries many (now list)) (listed (now starts) (now book)) (now counts)) ⌝ }
+    ensures known { λ r. ⌜ r ≡ hasAll (entries many (now (list .entry))) (listed (now (starts .entry)) (now (book .entry))) ⌝ }
+    ensures counted { λ r. ⌜ (r ≡ true → now (counts .exit) ≡ tallied by (entries many (now (list .entry))) (listed (now (starts .entry)) (now (book .entry))) (now (counts .entry))) ⌝ }
+{
+    let mut from: usize = 0;
+    let mut rest = many;
+    while 0 < rest {
+        let start = from + 2;
+        let end = past(list, from);
+        let Sought::Number(i) = seek(book, starts, &list[start..end]) else {
+            return false;
+        };
+        let count = counts[i];
+        counts[i] = count + by;
+        from = end;
+        rest -= 1;
+    }
+    true
+}
+
+// Whether each listed entry counts what was tallied for it.
+pub fn same_counts(book: &[u16], starts: &[u16], counts: &[u16]) -> bool
+    requires { ⌜ Indexed (now starts) (now book) ⌝ }
+    requires { ⌜ length (now counts) ≡ length (now starts) ⌝ }
+    ensures { λ r. ⌜ r ≡ sameCounts (listed (now (starts .entry)) (now (book .entry))) (now (counts .entry)) ⌝ }
+{
+    let mut i: usize = 0;
+    while i < starts.len() {
+        let at = starts[i] as usize;
+        let count = counts[i];
+        let says = book[at + 1];
+        if says != count {
+            return false;
+        }
+        i += 1;
+    }
+    true
+}
