@@ -3,3 +3,5 @@ pub mod Orders
 pub mod Remaining
 mod Computed
 pub mod Cases
+pub mod Demand2
+mod Rows

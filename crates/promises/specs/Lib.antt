@@ -1,3 +1,5 @@
 -- The definitions that the demands are said with.
 pub mod Remaining
 pub mod Heard
+pub mod Agreement
+pub mod Whys

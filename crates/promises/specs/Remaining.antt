@@ -5,7 +5,7 @@ use mathlib.Core.Path.{_≡_}
 use mathlib.Core.List.{List, [], _∷_}
 use lib.Dec.{eqb}
 use lib.ListN.{length}
-use Rattle.words.specs.Base.{if_then_else_, sameWords}
+use Rattle.words.specs.Base.{if_then_else_, sameWords, _∈_}
 use Rattle.figures.specs.Numbers.{done}
 use Rattle.figures.specs.Answers.{answered}
 use Rattle.section.specs.Entries.{countOf}
@@ -99,3 +99,18 @@ pub record ExactlyThese (k : ℕ) (orders : List (List ℕ)) (ws : List ℕ) : T
   pub tops : (u : Tree) → HowMany (HasPart (IsR (k - 1)) u) orders (countOf (words u) (book .R))
   pub lows : (u : Tree) → HowMany (HasPart (IsL (k - 1)) u) orders (countOf (words u) (book .L))
   pub middles : (u : Tree) → HowMany (HasPart (IsP k) u) orders (countOf (words u) (book .P))
+
+-- ---- an order by the orders that remain
+
+-- One of the orders has the part.
+pub record SomeHas (Part : Tree → Tree → Type 0) (u : Tree) (orders : List (List ℕ)) : Type 0 where
+  pub one : List ℕ
+  pub among : one ∈ orders
+  pub has : HasPart Part u one
+
+-- "A new order made only of parts the book has seen": its top is the top of one of the orders, each of its low parts a low part of one, and each
+-- of its middle parts a middle part of one.
+pub record MadeOf (k : ℕ) (orders : List (List ℕ)) (t : Tree) : Type 0 where
+  pub top : (u : Tree) → IsR (k - 1) t u → SomeHas (IsR (k - 1)) u orders
+  pub lows : (u : Tree) → IsL (k - 1) t u → SomeHas (IsL (k - 1)) u orders
+  pub middles : (u : Tree) → IsP k t u → SomeHas (IsP k) u orders

@@ -1,0 +1,306 @@
+-- `agree::section_agrees` meets its contract: the places listed are those of the section's entries, and the counts begin at 0. Assumes nothing.
+use Prim.Native.Nat.{ℕ, _+_, _-_, _≤_}
+use mathlib.Core.Path.{_≡_, refl, sym, ap, ap₂, subst, _∙_}
+use mathlib.Core.Bool.{Bool, true, false}
+use mathlib.Core.List.{List, _++_}
+use native.Mathlib.Omega.{arith}
+use lib.ListN.{length, getD, take, drop, replicate, length-append, length-replicate, replicate-append-replicate}
+use lib.Seq.{take-at}
+use borrow.Author.Needs.{needs}
+use borrow.Author.Tests.{not-true, not-false}
+use Rattle.words.specs.Base.{_and_, over}
+use Rattle.words.proofs.Tests.{fails-left}
+use Rattle.section.specs.Entries.{entries, span, Sorted}
+use Rattle.section.proofs.Words.{length-entries}
+use Rattle.tally.specs.Tallying.{startsOf, listed, Indexed, Few, sameCounts}
+use Rattle.tally.proofs.Starts.{length-starts, listed-starts, starts-indexed}
+use Rattle.book.specs.Book.{sectionOf}
+use Rattle.book.specs.Decoding.{bookIn, startOf, slotOf}
+use Rattle.book.specs.Holding.{Holds}
+use Rattle.book.specs.declared.Section.{Section}
+use Rattle.book.specs.declared.Places.{Places}
+use Rattle.book.proofs.Meaning.{used-fits}
+use Rattle.amend.proofs.Sections.{slot-small}
+use Rattle.amend.proofs.Weights.{slot-within}
+use Rattle.agree.specs.Tallies.{most-entries, allKnown, talliedAll, agreeingIn}
+use Rattle.agree.proofs.Counting.{tallied-few, agreeing-tallied, few-entries}
+use Rattle.agree.proofs.section_agrees.Statement.{statement}
+use Rattle.agree.proofs.section_agrees.Tie as tie
+
+-- ---- the section at its place
+
+-- The first n of m zeros are n zeros.
+zeros-front : (m n : ℕ) → n ≤ m → take (n - 0) (replicate {A = ℕ} m 0) ≡ replicate n 0
+zeros-front m n fits =
+    let o : ℕ = 0 in
+    let whole : m ≡ n + (m - n) = omega arith in
+    let same : length (replicate n o) ≡ n - 0 = length-replicate n o ∙ omega arith in
+    ap (λ (j : ℕ). take (n - 0) (replicate j o)) (whole ∙ refl)
+    ∙ ap (take (n - 0)) (sym (replicate-append-replicate n (m - n) o)) ∙ take-at (replicate n o) (replicate (m - n) o) (n - 0) same
+
+-- The words are a book in form, one section of which starts at `at`, and whose number of entries is word `word` of the head.
+module _ (ws : List ℕ) (p : Places) (h : Holds ws p) (s : Section) (at word : ℕ) (begins : at ≡ startOf s p) (slot : word ≡ slotOf s) where
+  -- As many entries as the word says.
+  abbrev many : ℕ
+  many = getD ws word 0
+
+  -- These are the section's.
+  are : entries many (drop at ws) ≡ sectionOf s (bookIn ws)
+  are = rw (begins, slot) (h .section s .are)
+
+  -- They end within the words.
+  ends-within : at + span many (drop at ws) ≤ length ws
+  ends-within = rw (begins, slot) (h .section s .within)
+
+  -- There are as many as the section has.
+  many-are : many ≡ length (sectionOf s (bookIn ws))
+  many-are = sym (length-entries many (drop at ws)) ∙ ap length are
+
+  -- The arrays have room for them.
+  many-fit : many ≤ most-entries
+  many-fit = omega (arith, many-are, few-entries (bookIn ws) (h .form) s (omega (arith, used-fits ws (bookIn ws) (h .laid), h .short)))
+
+  -- Their places are written over the front of an array.
+  module _ (starts old : List ℕ) (wrote : starts ≡ over (startsOf at many (drop at ws)) old) where
+    -- The front of the array has their places.
+    front-is : take (many - 0) starts ≡ startsOf at many (drop at ws)
+    front-is = ap (take (many - 0)) wrote ∙ take-at (startsOf at many (drop at ws)) (drop (length (startsOf at many (drop at ws))) old) (many - 0) (length-starts at many (drop at ws) ∙ omega arith)
+
+    -- There are as many as entries.
+    front-long : length (take (many - 0) starts) ≡ many
+    front-long = ap length front-is ∙ length-starts at many (drop at ws)
+
+    -- The entries listed are the section's.
+    front-lists : listed (take (many - 0) starts) ws ≡ sectionOf s (bookIn ws)
+    front-lists = ap (λ (l : List ℕ). listed l ws) front-is ∙ listed-starts ws at many ∙ are
+
+    -- They are indexed.
+    front-indexed : Indexed (take (many - 0) starts) ws
+    front-indexed = subst (λ (l : List ℕ). Indexed l ws) (sym front-is) (starts-indexed ws at many ends-within (subst Sorted (sym are) (h .section s .sorted)))
+
+    -- The counts begin at 0.
+    module _ (zeros : List ℕ) (none : zeros ≡ replicate most-entries 0) where
+      -- As many as the section has entries.
+      counts-are : take (many - 0) zeros ≡ replicate (length (sectionOf s (bookIn ws))) 0
+      counts-are = let o : ℕ = 0 in ap (take (many - 0)) none ∙ zeros-front most-entries many many-fit ∙ ap (λ (n : ℕ). replicate n o) many-are
+
+      -- There is one for each place.
+      counts-long : length (take (many - 0) zeros) ≡ length (take (many - 0) starts)
+      counts-long = ap length counts-are ∙ let o : ℕ = 0 in length-replicate (length (sectionOf s (bookIn ws))) o ∙ sym (front-long ∙ many-are)
+
+      -- What is tallied for the entries listed is what is tallied for the section.
+      all-tallied : talliedAll s (bookIn ws .k) (bookIn ws .T) (listed (take (many - 0) starts) ws) (take (many - 0) zeros)
+          ≡ talliedAll s (bookIn ws .k) (bookIn ws .T) (sectionOf s (bookIn ws)) (replicate (length (sectionOf s (bookIn ws))) 0)
+      all-tallied = ap₂ (talliedAll s (bookIn ws .k) (bookIn ws .T)) front-lists counts-are
+
+      -- It stays within the greatest count.
+      all-few : Few (talliedAll s (bookIn ws .k) (bookIn ws .T) (listed (take (many - 0) starts) ws) (take (many - 0) zeros))
+      all-few = subst Few (sym all-tallied) (tallied-few (bookIn ws) (h .form) s)
+
+      -- Where a part has no entry the section does not agree.
+      unknown-disagrees : allKnown s (bookIn ws .k) (bookIn ws .T) (listed (take (many - 0) starts) ws) ≡ false → false ≡ agreeingIn s (bookIn ws)
+      unknown-disagrees lacks =
+          let lacks′ = sym (ap (allKnown s (bookIn ws .k) (bookIn ws .T)) front-lists) ∙ lacks in
+          sym (agreeing-tallied (bookIn ws) (h .form) s ∙ fails-left _ _ lacks′)
+
+      -- Where all parts have one the section agrees if it counts what was tallied.
+      known-agrees : (r : Bool) (counts : List ℕ) → allKnown s (bookIn ws .k) (bookIn ws .T) (listed (take (many - 0) starts) ws) ≡ true
+          → counts ≡ talliedAll s (bookIn ws .k) (bookIn ws .T) (listed (take (many - 0) starts) ws) (take (many - 0) zeros)
+          → r ≡ sameCounts (listed (take (many - 0) starts) ws) counts → r ≡ agreeingIn s (bookIn ws)
+      unfolding _and_
+      known-agrees r counts all now same =
+          let all′ = sym (ap (allKnown s (bookIn ws .k) (bookIn ws .T)) front-lists) ∙ all in
+          let es = sectionOf s (bookIn ws) in
+          let sums = talliedAll s (bookIn ws .k) (bookIn ws .T) es (replicate (length es) 0) in
+          same ∙ ap₂ sameCounts front-lists (now ∙ all-tallied) ∙ sym (agreeing-tallied (bookIn ws) (h .form) s ∙ ap (λ (b : Bool). b and sameCounts es sums) all′)
+
+-- ---- at each place
+
+-- What the function was called with, seen from where the section's start is known.
+abbrev called : tie.After-start → tie.Start
+called a = a .before .before .before .before
+
+-- How many entries the section has by the head's word.
+abbrev told : tie.After-start → ℕ
+told a = getD (called a .args .book .now) (a .before .before .slot .result) 0
+
+-- The section ends within the book.
+within : (a : tie.After-start) → a .start .result + span (told a) (drop (a .start .result) (called a .args .book .now)) ≤ length (called a .args .book .now)
+within a = ends-within _ _ (called a .pre) (called a .args .section) _ _ (a .start .ensures) (a .before .before .slot .ensures)
+
+-- The arrays have room for its entries.
+fits : (a : tie.After-start) → told a ≤ most-entries
+fits a = many-fit _ _ (called a .pre) (called a .args .section) _ _ (a .start .ensures) (a .before .before .slot .ensures)
+
+-- The section's start, seen from where the places are written.
+abbrev begun : tie.After-index → tie.After-start
+begun i = i .before .before
+
+-- The array with the places.
+abbrev starts : tie.After-index → List ℕ
+starts i = i .index .last .1 .1 .1 .0
+
+-- It has room for them.
+starts-room : (i : tie.After-index) → told (begun i) ≤ length (starts i)
+starts-room i = omega (arith, i .index .kept .1 .1 .1 .0, fits (begun i))
+
+-- The places are those of the section's entries.
+indexed : (i : tie.After-index) → Indexed (take (told (begun i) - 0) (starts i)) (called (begun i) .args .book .now)
+indexed i =
+    let a = begun i in
+    front-indexed _ _ (called a .pre) (called a .args .section) _ _ (a .start .ensures) (a .before .before .slot .ensures) (starts i) _ (i .index .ensures)
+
+-- The counts as they begin.
+abbrev zeros : List ℕ
+zeros = replicate most-entries 0
+
+-- There is one for each place.
+long : (i : tie.After-index) → length (take (told (begun i) - 0) zeros) ≡ length (take (told (begun i) - 0) (starts i))
+long i =
+    let a = begun i in
+    counts-long _ _ (called a .pre) (called a .args .section) _ _ (a .start .ensures) (a .before .before .slot .ensures) (starts i) _ (i .index .ensures) zeros refl
+
+-- What is tallied stays within the greatest count.
+few : (i : tie.After-index) → let x = called (begun i) .args in
+    Few (talliedAll (x .section) (bookIn (x .book .now) .k) (bookIn (x .book .now) .T) (listed (take (told (begun i) - 0) (starts i)) (x .book .now)) (take (told (begun i) - 0) zeros))
+few i =
+    let a = begun i in
+    all-few _ _ (called a .pre) (called a .args .section) _ _ (a .start .ensures) (a .before .before .slot .ensures) (starts i) _ (i .index .ensures) zeros refl
+
+-- The places, seen from where the counts are tallied.
+abbrev listing : tie.After-tally-taught → tie.After-index
+listing t = t .before .before .before .before .before
+
+-- The counts tallied.
+abbrev counts : tie.After-tally-taught → List ℕ
+counts t = t .tally-taught .last .1 .1 .1 .1 .0
+
+-- There are as many as entries.
+counted : (t : tie.After-tally-taught) → length (counts t) ≡ told (begun (listing t))
+counted t =
+    let i = listing t in
+    let a = begun i in
+    t .tally-taught .kept .1 .1 .1 .1 .0 ∙ long i
+    ∙ front-long _ _ (called a .pre) (called a .args .section) _ _ (a .start .ensures) (a .before .before .slot .ensures) (starts i) _ (i .index .ensures)
+
+-- They are lent again from the front of their array.
+counts-lent : (t : tie.After-tally-taught) → take (told (begun (listing t)) - 0) (counts t ++ drop (told (begun (listing t)) - 0) zeros) ≡ counts t
+counts-lent t = take-at (counts t) (drop (told (begun (listing t)) - 0) zeros) (told (begun (listing t)) - 0) (counted t ∙ omega arith)
+
+-- Their array has room for them.
+counts-room : (t : tie.After-tally-taught) → told (begun (listing t)) ≤ length (counts t ++ drop (told (begun (listing t)) - 0) zeros)
+counts-room t = omega (arith, counted t, length-append (counts t) (drop (told (begun (listing t)) - 0) zeros))
+
+slot-requires : tie.Need-slot-requires
+slot-requires c κs = search needs
+
+mul-many : tie.Need-mul-many
+mul-many c = omega (arith, slot-small (c .before .before .args .section), c .slot .ensures)
+
+shared-slice-read-many : tie.Need-shared-slice-read-many
+shared-slice-read-many c = let b = c .before .before .before in slot-within _ _ (b .pre) (b .args .section) _ (c .before .slot .ensures)
+
+cast-many : tie.Need-cast-many
+cast-many c = omega (arith, c .shared-slice-known2 .given (c .before .slot .result))
+
+start-requires : tie.Need-start-requires
+start-requires c κs = search needs
+
+slice-aggregate-index : tie.Need-slice-aggregate-index
+slice-aggregate-index c = search needs
+
+index-requires : tie.Need-index-requires
+index-requires c κs =
+    let a = c .before in
+    (within a, (called a .pre .short, fits a))
+
+sub-tally-taught : tie.Need-sub-tally-taught
+sub-tally-taught c = search needs
+
+part-tally-taught-start : tie.Need-part-tally-taught-start
+part-tally-taught-start c = search needs
+
+part-tally-taught-end : tie.Need-part-tally-taught-end
+part-tally-taught-end c = starts-room (c .before .before)
+
+sub-tally-taught-2 : tie.Need-sub-tally-taught-2
+sub-tally-taught-2 c = search needs
+
+part-counts-start : tie.Need-part-counts-start
+part-counts-start c = search needs
+
+part-counts-end : tie.Need-part-counts-end
+part-counts-end c = fits (begun (c .before .before .before))
+
+tally-taught-requires : tie.Need-tally-taught-requires
+tally-taught-requires c κs =
+    let i = c .before .before .before .before in
+    (called (begun i) .pre, (indexed i, (long i, few i)))
+
+returns : tie.Need-returns
+returns c =
+    let t = c .before .before in
+    let i = listing t in
+    let a = begun i in
+    unknown-disagrees _ _ (called a .pre) (called a .args .section) _ _ (a .start .ensures) (a .before .before .slot .ensures) (starts i) _ (i .index .ensures) zeros refl
+    (sym (t .tally-taught .ensures .0) ∙ not-true _ (c .if1 .taken))
+
+sub-same-counts : tie.Need-sub-same-counts
+sub-same-counts c = search needs
+
+part-same-counts-start : tie.Need-part-same-counts-start
+part-same-counts-start c = search needs
+
+part-same-counts-end : tie.Need-part-same-counts-end
+part-same-counts-end c = starts-room (c .before .before .before .before .before .before .before .before)
+
+sub-same-counts-2 : tie.Need-sub-same-counts-2
+sub-same-counts-2 c = search needs
+
+part-same-counts-start-2 : tie.Need-part-same-counts-start-2
+part-same-counts-start-2 c = search needs
+
+part-same-counts-end-2 : tie.Need-part-same-counts-end-2
+part-same-counts-end-2 c = counts-room (c .before .before .before .before .before)
+
+same-counts-requires : tie.Need-same-counts-requires
+same-counts-requires c κs =
+    let t = c .before .before .before .before .before .before in
+    (indexed (listing t), ap length (counts-lent t) ∙ t .tally-taught .kept .1 .1 .1 .1 .0 ∙ long (listing t))
+
+returns-2 : tie.Need-returns-2
+returns-2 c =
+    let t = c .before .before .before .before .before .before .before in
+    let i = listing t in
+    let a = begun i in
+    let known = not-false _ (c .before .before .before .before .before .if1 .left) in
+    known-agrees _ _ (called a .pre) (called a .args .section) _ _ (a .start .ensures) (a .before .before .slot .ensures) (starts i) _ (i .index .ensures) zeros refl _ _
+    (sym (t .tally-taught .ensures .0) ∙ known) (counts-lent t ∙ t .tally-taught .ensures .1 known) (c .same-counts .ensures)
+
+pub section-agrees-spec : {M : Type 1} → statement M
+section-agrees-spec =
+    tie.close
+    (tie.spec
+    slot-requires
+    mul-many
+    shared-slice-read-many
+    cast-many
+    start-requires
+    slice-aggregate-index
+    index-requires
+    sub-tally-taught
+    part-tally-taught-start
+    part-tally-taught-end
+    sub-tally-taught-2
+    part-counts-start
+    part-counts-end
+    tally-taught-requires
+    returns
+    sub-same-counts
+    part-same-counts-start
+    part-same-counts-end
+    sub-same-counts-2
+    part-same-counts-start-2
+    part-same-counts-end-2
+    same-counts-requires
+    returns-2)

@@ -1,0 +1,246 @@
+-- `agree::tally_taught` meets its contract: at each entry of T what all orders count is what those left count. Assumes nothing.
+use Prim.Native.Nat.{ℕ, zero, suc, _+_, _*_, _-_, _<_, _≤_}
+use mathlib.Core.Path.{_≡_, refl, sym, ap, subst, _∙_}
+use mathlib.Core.Bool.{Bool, true, false}
+use mathlib.Core.List.{List, [], _∷_, List·Memᴰ·head as here, List·Memᴰ·tail as there}
+use native.Mathlib.Omega.{arith}
+use lib.ListN.{length, getD, drop, replicate}
+use borrow.Author.Needs.{needs}
+use borrow.Author.Tests.{not-true, not-false}
+use Rattle.words.specs.Base.{_and_, _∈_}
+use Rattle.words.proofs.Tests.{no-test, fails-left}
+use Rattle.figures.specs.Limits.{taught-word, head-words}
+use Rattle.figures.specs.Numbers.{done}
+use Rattle.section.specs.Entries.{Entry, width, firstEntry, entries, span}
+use Rattle.section.proofs.Words.{span-step, entries-step, past-at, span-at}
+use Rattle.tally.specs.Tallying.{listed, Few, hasAll, tallied}
+use Rattle.order.specs.Reading.{causeOf}
+use Rattle.book.specs.Decoding.{bookIn}
+use Rattle.book.specs.Holding.{Holds}
+use Rattle.book.specs.declared.Section.{Section}
+use Rattle.book.specs.declared.Section.the-variants.{Taught}
+use Rattle.book.specs.declared.Places.{Places}
+use Rattle.own.specs.Own.{list-words}
+use Rattle.teach.proofs.Outcomes.{all-zeros, least}
+use Rattle.agree.specs.Tallies.{partsIn, allKnown, talliedAll}
+use Rattle.agree.proofs.Counting.{taught-cause}
+use Rattle.agree.proofs.tally_taught.Statement.{statement}
+use Rattle.agree.proofs.tally_taught.Tie as tie
+
+-- ---- counts only grow
+
+-- No count is less than before.
+tallied-grows : (n : ℕ) (os es : List Entry) (cs : List ℕ) (i : ℕ) → getD cs i 0 ≤ getD (tallied n os es cs) i 0
+unfolding tallied
+tallied-grows n os [] cs i = omega arith
+tallied-grows n os (e ∷ es) [] i = omega arith
+tallied-grows n os (e ∷ es) (c ∷ cs) zero = omega arith
+tallied-grows n os (e ∷ es) (c ∷ cs) (suc i) = tallied-grows n os es cs i
+
+-- So it is for all orders.
+all-grow : (s : Section) (k : ℕ) (ts es : List Entry) (cs : List ℕ) (i : ℕ) → getD cs i 0 ≤ getD (talliedAll s k ts es cs) i 0
+unfolding talliedAll
+all-grow s k [] es cs i = omega arith
+all-grow s k (t ∷ ts) es cs i = omega (arith, tallied-grows (t .count) (partsIn s k (t .key)) es cs i, all-grow s k ts es (tallied (t .count) (partsIn s k (t .key)) es cs) i)
+
+-- ---- the orders left
+
+-- The entries left lie within the book and are of its T; what all orders count from the first counts on is what those left count from these.
+record Left (book starts : List ℕ) (s : Section) (counts₀ counts list : List ℕ) (at left : ℕ) : Type 0 where
+  within : at + span left (drop at book) ≤ length book
+  taught : (e : Entry) → e ∈ entries left (drop at book) → e ∈ bookIn book .T
+  known : allKnown s (bookIn book .k) (bookIn book .T) (listed starts book) ≡ allKnown s (bookIn book .k) (entries left (drop at book)) (listed starts book)
+  counted : talliedAll s (bookIn book .k) (bookIn book .T) (listed starts book) counts₀ ≡ talliedAll s (bookIn book .k) (entries left (drop at book)) (listed starts book) counts
+  long : length counts ≡ length starts
+  zeros : list ≡ replicate (length list) 0
+  room : length list ≡ list-words
+
+-- At first all entries of T are left.
+left-first : (book starts : List ℕ) (p : Places) (s : Section) (counts list : List ℕ) → Holds book p → length counts ≡ length starts → list ≡ replicate (length list) 0
+    → length list ≡ list-words → Left book starts s counts counts list head-words (getD book taught-word 0)
+unfolding bookIn
+left-first book starts p s counts list h long zeros room =
+    record { within = h .section Taught .within; taught = λ e m. m; known = refl; counted = refl; long = long; zeros = zeros; room = room }
+
+module _ (book starts : List ℕ) (s : Section) (counts₀ counts list : List ℕ) (at left : ℕ) (i : Left book starts s counts₀ counts list at left) where
+  -- With none left all that the orders count has an entry.
+  last-known : left ≤ 0 → true ≡ allKnown s (bookIn book .k) (bookIn book .T) (listed starts book)
+  unfolding allKnown entries
+  last-known none = let z : left ≡ 0 = omega arith in sym (i .known ∙ ap (λ (n : ℕ). allKnown s (bookIn book .k) (entries n (drop at book)) (listed starts book)) z)
+
+  -- With none left all is tallied.
+  last-counted : left ≤ 0 → counts ≡ talliedAll s (bookIn book .k) (bookIn book .T) (listed starts book) counts₀
+  unfolding talliedAll entries
+  last-counted none = let z : left ≡ 0 = omega arith in sym (i .counted ∙ ap (λ (n : ℕ). talliedAll s (bookIn book .k) (entries n (drop at book)) (listed starts book) counts) z)
+
+-- The entry at `at` is the first of those left, and ends at `end`; k is the book's.
+module _ (book starts : List ℕ) (s : Section) (k : ℕ) (deep : k ≡ bookIn book .k) (counts₀ counts list : List ℕ) (at left end : ℕ) (more : 0 < left)
+    (ends : end ≡ at + 2 + 2 * getD book at 0) (i : Left book starts s counts₀ counts list at left) where
+  -- The others start at its end.
+  first-apart : entries left (drop at book) ≡ firstEntry (drop at book) ∷ entries (left - 1) (drop end book)
+  first-apart = entries-step (drop at book) left more ∙ ap (λ (ws : List ℕ). firstEntry (drop at book) ∷ entries (left - 1) ws) (past-at book at left end more ends)
+
+  -- It is an entry of T.
+  first-taught : firstEntry (drop at book) ∈ bookIn book .T
+  first-taught = i .taught _ (subst (λ (es : List Entry). firstEntry (drop at book) ∈ es) (sym first-apart) (here refl))
+
+  -- All is known if what it counts is, and what the others count.
+  first-known : allKnown s (bookIn book .k) (bookIn book .T) (listed starts book)
+      ≡ (hasAll (partsIn s k (firstEntry (drop at book) .key)) (listed starts book) and allKnown s (bookIn book .k) (entries (left - 1) (drop end book)) (listed starts book))
+  unfolding allKnown
+  first-known = rw deep (i .known ∙ ap (λ (es : List Entry). allKnown s (bookIn book .k) es (listed starts book)) first-apart)
+
+  -- All is tallied by tallying what it counts, and then what the others count.
+  first-counted : talliedAll s (bookIn book .k) (bookIn book .T) (listed starts book) counts₀
+      ≡ talliedAll s (bookIn book .k) (entries (left - 1) (drop end book)) (listed starts book) (tallied (firstEntry (drop at book) .count) (partsIn s k (firstEntry (drop at book) .key)) (listed starts book) counts)
+  unfolding talliedAll
+  first-counted = rw deep (i .counted ∙ ap (λ (es : List Entry). talliedAll s (bookIn book .k) es (listed starts book) counts) first-apart)
+
+  -- If no count passes 65,535 in the end, none does by it.
+  first-few : Few (talliedAll s (bookIn book .k) (bookIn book .T) (listed starts book) counts₀)
+      → Few (tallied (firstEntry (drop at book) .count) (partsIn s k (firstEntry (drop at book) .key)) (listed starts book) counts)
+  first-few few j =
+      let cs = tallied (firstEntry (drop at book) .count) (partsIn s k (firstEntry (drop at book) .key)) (listed starts book) counts in
+      omega (arith, all-grow s (bookIn book .k) (entries (left - 1) (drop end book)) (listed starts book) cs j, subst Few first-counted few j)
+
+  -- If what it counts lacks an entry, not all is known.
+  first-unknown : hasAll (partsIn s k (firstEntry (drop at book) .key)) (listed starts book) ≡ false → false ≡ allKnown s (bookIn book .k) (bookIn book .T) (listed starts book)
+  first-unknown lacks = sym (first-known ∙ fails-left _ _ lacks)
+
+  -- Once it is tallied those behind it are left.
+  left-next : (counts′ list′ : List ℕ) → hasAll (partsIn s k (firstEntry (drop at book) .key)) (listed starts book) ≡ true
+      → counts′ ≡ tallied (firstEntry (drop at book) .count) (partsIn s k (firstEntry (drop at book) .key)) (listed starts book) counts
+      → length counts′ ≡ length counts → list′ ≡ list → Left book starts s counts₀ counts′ list′ end (left - 1)
+  unfolding _and_
+  left-next counts′ list′ all now same cleared =
+      record {
+        within = omega (arith, i .within, span-at book at left end more ends);
+        taught = λ e m. i .taught e (subst (λ (es : List Entry). e ∈ es) (sym first-apart) (there m));
+        known = first-known ∙ ap (λ (b : Bool). b and allKnown s (bookIn book .k) (entries (left - 1) (drop end book)) (listed starts book)) all;
+        counted = first-counted ∙ ap (talliedAll s (bookIn book .k) (entries (left - 1) (drop end book)) (listed starts book)) (sym now);
+        long = same ∙ i .long;
+        zeros = subst (λ (l : List ℕ). l ≡ replicate (length l) 0) (sym cleared) (i .zeros);
+        room = ap length cleared ∙ i .room;
+      }
+
+-- ---- the loop
+
+-- At each turn this is left.
+abbrev Inv-loop : tie.InvT-loop
+Inv-loop book places section starts counts₀ list₀ at₀ left₀ counts list at left = Left book starts section counts₀ counts list at left
+
+-- Each turn leaves one entry fewer.
+abbrev μ-loop : tie.MeasureT-loop
+μ-loop book places section starts counts₀ list₀ at₀ left₀ counts list at left = left
+
+-- What the function was called with, seen from the loop.
+abbrev called : tie.At-loop Inv-loop μ-loop → tie.Start Inv-loop μ-loop
+called l = l .before .before .before .before .before
+
+-- The words of the book, seen from the loop.
+abbrev book : tie.At-loop Inv-loop μ-loop → List ℕ
+book l = called l .args .book .now
+
+-- What the turn's order counts stays within the greatest count.
+turn-few : (c : tie.In-loop Inv-loop μ-loop) → let l = c .before in let x = called l .args in let e = firstEntry (drop (l .loop .at) (book l)) in
+    Few (tallied (e .count) (partsIn (x .section) (x .places .k .k) (e .key)) (listed (x .starts .now) (book l)) (l .loop .counts))
+turn-few c =
+    let l = c .before in
+    let b = called l in
+    first-few _ _ _ _ (b .pre .0 .depth) _ _ _ _ _ _ (c .loop-test .taken) refl (l .loop .inv) (b .pre .1 .1 .1)
+
+-- The turn's entry is that of an order.
+turn-order : (c : tie.In-loop Inv-loop μ-loop) → causeOf (firstEntry (drop (c .before .loop .at) (book (c .before))) .key) ≡ done
+turn-order c =
+    let l = c .before in
+    let b = called l in
+    taught-cause (bookIn (book l)) (b .pre .0 .form) _
+    (first-taught _ _ _ _ (b .pre .0 .depth) _ _ _ _ _ _ (c .loop-test .taken) refl (l .loop .inv))
+
+-- The turn's entry lies within the book, by its width.
+turn-within : (c : tie.In-loop Inv-loop μ-loop) → c .before .loop .at + width (drop (c .before .loop .at) (book (c .before))) ≤ length (book (c .before))
+turn-within c = let l = c .before in omega (arith, l .loop .inv .within, span-step (drop (l .loop .at) (book l)) (l .loop .left) (c .loop-test .taken))
+
+-- The turn's entry lies within the book, by its end.
+turn-ends : (c : tie.In-loop Inv-loop μ-loop) → c .before .loop .at + 2 + 2 * getD (book (c .before)) (c .before .loop .at) 0 ≤ length (book (c .before))
+turn-ends c = let l = c .before in omega (arith, l .loop .inv .within, span-at (book l) (l .loop .at) (l .loop .left) _ (c .loop-test .taken) refl)
+
+shared-slice-read-left : tie.Need-shared-slice-read-left Inv-loop μ-loop
+shared-slice-read-left c = omega (arith, c .before .before .before .before .pre .0 .long)
+
+loop-holds : tie.Need-loop-holds Inv-loop μ-loop
+loop-holds c =
+    let b = c .before .before .before .before in
+    left-first (b .args .book .now) (b .args .starts .now) _ (b .args .section) (b .args .counts .now) _ (b .pre .0) (b .pre .1 .1 .0) (all-zeros list-words) refl
+
+slice-aggregate-tally-order : tie.Need-slice-aggregate-tally-order Inv-loop μ-loop
+slice-aggregate-tally-order c = sym (c .before .before .before .loop .inv .room)
+
+tally-order-requires : tie.Need-tally-order-requires Inv-loop μ-loop
+tally-order-requires c κs =
+    let t = c .before .before in
+    let b = called (t .before) in
+    let i = t .before .loop .inv in
+    ((turn-within t, turn-order t), (least _ _ (b .pre .0), (b .pre .1 .0, ((i .long, turn-few t), (i .zeros, i .room)))))
+
+same-length : tie.Need-same-length Inv-loop μ-loop
+same-length c =
+    let l = c .before .before .before .before .before .before .before .before in
+    c .before .before .before .before .tally-order .kept .1 .1 .1 .1 .1 .0 ∙ l .loop .inv .long ∙ sym (called l .pre .1 .1 .0)
+
+returns : tie.Need-returns Inv-loop μ-loop
+returns c =
+    let a = c .before .before .before .before in
+    let t = a .before .before .before in
+    let l = t .before in
+    let b = called l in (
+      first-unknown _ _ _ _ (b .pre .0 .depth) _ _ _ _ _ _ (t .loop-test .taken) refl (l .loop .inv)
+          (sym (a .tally-order .ensures .0) ∙ not-true _ (c .if1 .taken)),
+      λ e. no-test e,
+    )
+
+past-requires : tie.Need-past-requires Inv-loop μ-loop
+past-requires c κs = turn-ends (c .before .before .before .before .before .before .before)
+
+sub-left : tie.Need-sub-left Inv-loop μ-loop
+sub-left c = search needs
+
+loop-less : tie.Need-loop-less Inv-loop μ-loop
+loop-less c = search needs
+
+loop-again : tie.Need-loop-again Inv-loop μ-loop
+loop-again c =
+    let a = c .before .before .before .before .before in
+    let t = a .before .before .before in
+    let l = t .before in
+    let b = called l in
+    let known = not-false _ (c .before .if1 .left) in
+    left-next _ _ _ _ (b .pre .0 .depth) _ _ _ _ _ _ (t .loop-test .taken) (c .past .ensures) (l .loop .inv)
+    _ _ (sym (a .tally-order .ensures .0) ∙ known) (a .tally-order .ensures .1 .0 known) (a .tally-order .kept .1 .1 .1 .1 .1 .0) (a .tally-order .ensures .1 .1)
+
+same-length-2 : tie.Need-same-length-2 Inv-loop μ-loop
+same-length-2 c = c .before .loop .inv .long ∙ sym (called (c .before) .pre .1 .1 .0)
+
+returns-2 : tie.Need-returns-2 Inv-loop μ-loop
+returns-2 c =
+    let l = c .before in
+    (last-known _ _ _ _ _ _ _ _ (l .loop .inv) (c .loop-test .left), λ e. last-counted _ _ _ _ _ _ _ _ (l .loop .inv) (c .loop-test .left))
+
+pub tally-taught-spec : {M : Type 1} → statement M
+tally-taught-spec =
+    tie.close
+    (tie.spec
+    Inv-loop
+    μ-loop
+    shared-slice-read-left
+    loop-holds
+    slice-aggregate-tally-order
+    tally-order-requires
+    same-length
+    returns
+    past-requires
+    sub-left
+    loop-less
+    loop-again
+    same-length-2
+    returns-2)

@@ -1,0 +1,133 @@
+// Whether a book agrees with itself: for each entry of R, L and P the counts of the taught orders that have it are tallied, and held to its own.
+// Assumes nothing beyond each inner function's `requires`.
+ghost use mathlib.Core.Path.{_≡_};
+ghost use mathlib.Core.Bool.{true};
+ghost use Prim.Native.Nat.{_+_, _≤_};
+ghost use lib.ListN.{length, getD, take, drop, replicate};
+ghost use Rattle.figures.specs.Limits.{least-k};
+ghost use Rattle.figures.specs.Numbers.{done};
+ghost use Rattle.section.specs.Entries.{width, firstEntry};
+ghost use Rattle.tally.specs.Tallying.{listed, Indexed, hasAll, tallied, Few};
+ghost use Rattle.order.specs.Reading.{causeOf};
+ghost use Rattle.book.specs.Decoding.{bookIn};
+ghost use Rattle.book.specs.Holding.{Holds};
+ghost use Rattle.own.specs.Own.{list-words};
+ghost use Rattle.agree.specs.Checking.{checkOf};
+ghost use Rattle.agree.specs.Tallies.{partsIn, allKnown, talliedAll, agreeingIn};
+use book::BookForm;
+use book::Places;
+use book::Section;
+use figures::Answer;
+use figures::Depth;
+use figures::answered;
+use figures::limits;
+use figures::numbers;
+use section::past;
+
+// No section has more entries: the shortest, that of a single node, takes four words.
+const MOST_ENTRIES: usize = (limits::MOST_BOOK_WORDS - limits::HEAD_WORDS) / 4;
+
+// Tallies what the taught order at word `at` counts in a section, for the section's listed entries, by way of a scratch of zeros. Answers
+// false where a part has no entry.
+fn tally_order(
+    book: &[u16],
+    at: usize,
+    k: Depth,
+    section: Section,
+    starts: &[u16],
+    counts: &mut [u16],
+    list: &mut [u16],
+) -> bool
+    requires { ⌜ (at + width (drop at (now book)) ≤ length (now book)) × (causeOf (firstEntry (drop at (now book)) .key) ≡ done) ⌝ }
+    requires { ⌜ least-k ≤ k .k ⌝ }
+    requires { ⌜ Indexed (now starts) (now book) ⌝ }
+    requires { ⌜ (length (now counts) ≡ length (now starts)) × Few (tallied (firstEntry (drop at (now book)) .count) (partsIn section (k .k) (firstEntry (drop at (now book)) .key)) (listed (now starts) (now book)) (now counts)) ⌝ }
+    requires { ⌜ (now list ≡ replicate (length (now list)) 0) × (length (now list) ≡ list-words) ⌝ }
+    ensures known { λ r. ⌜ r ≡ hasAll (partsIn section (k .k) (firstEntry (drop at (now (book .entry))) .key)) (listed (now (starts .entry)) (now (book .entry))) ⌝ }
+    ensures counted { λ r. ⌜ (r ≡ true → now (counts .exit) ≡ tallied (firstEntry (drop at (now (book .entry))) .count) (partsIn section (k .k) (firstEntry (drop at (now (book .entry))) .key)) (listed (now (starts .entry)) (now (book .entry))) (now (counts .entry))) ⌝ }
+    ensures cleared { λ _. ⌜ now (list .exit) ≡ now (list .entry) ⌝ }
+{
+    let start = at + 2;
+    let end = past(book, at);
+    let by = book[at + 1];
+    let size = own::list_section(&book[start..end], k, section, list);
+    let known = tally::tally(book, starts, counts, list, size.many, by);
+    let used = size.used;
+    words::clear(&mut list[0..used]);
+    known
+}
+
+// Tallies what all taught orders count in a section. Answers false where a part has no entry; what was tallied then is of no use.
+fn tally_taught(
+    book: &[u16],
+    places: Places,
+    section: Section,
+    starts: &[u16],
+    counts: &mut [u16],
+) -> bool
+    requires { ⌜ Holds (now book) places ⌝ }
+    requires { ⌜ Indexed (now starts) (now book) ⌝ }
+    requires { ⌜ (length (now counts) ≡ length (now starts)) × Few (talliedAll section (bookIn (now book) .k) (bookIn (now book) .T) (listed (now starts) (now book)) (now counts)) ⌝ }
+    ensures known { λ r. ⌜ r ≡ allKnown section (bookIn (now (book .entry)) .k) (bookIn (now (book .entry)) .T) (listed (now (starts .entry)) (now (book .entry))) ⌝ }
+    ensures counted { λ r. ⌜ (r ≡ true → now (counts .exit) ≡ talliedAll section (bookIn (now (book .entry)) .k) (bookIn (now (book .entry)) .T) (listed (now (starts .entry)) (now (book .entry))) (now (counts .entry))) ⌝ }
+{
+    let mut list = [0u16; own::LIST_WORDS];
+    let mut at = limits::HEAD_WORDS;
+    let mut left = book[limits::TAUGHT_WORD];
+    while 0 < left {
+        if !tally_order(book, at, places.k, section, starts, counts, &mut list) {
+            return false;
+        }
+        at = past(book, at);
+        left -= 1;
+    }
+    true
+}
+
+// Whether a section of a book in form is that of its T, trees and counts.
+fn section_agrees(book: &[u16], places: Places, section: Section) -> bool
+    requires { ⌜ Holds (now book) places ⌝ }
+    ensures { λ r. ⌜ r ≡ agreeingIn section (bookIn (now (book .entry))) ⌝ }
+{
+    let many = book[book::slot(section)] as usize;
+    let mut starts = [0u16; MOST_ENTRIES];
+    let mut counts = [0u16; MOST_ENTRIES];
+    tally::index(book, book::start(section, places), many, &mut starts);
+    if !tally_taught(
+        book,
+        places,
+        section,
+        &starts[0..many],
+        &mut counts[0..many],
+    ) {
+        return false;
+    }
+    tally::same_counts(book, &starts[0..many], &counts[0..many])
+}
+
+// Whether the three sections of a book in form are those of its T: 9, or 0.
+fn check_sections(book: &[u16], places: Places) -> Answer
+    requires { ⌜ Holds (now book) places ⌝ }
+    ensures { λ r. ⌜ r ≡ checkOf (now (book .entry)) ⌝ }
+{
+    if !section_agrees(book, places, Section::Tops) {
+        return answered(numbers::NOT_AGREEING);
+    }
+    if !section_agrees(book, places, Section::Lows) {
+        return answered(numbers::NOT_AGREEING);
+    }
+    if !section_agrees(book, places, Section::Middles) {
+        return answered(numbers::NOT_AGREEING);
+    }
+    answered(numbers::DONE)
+}
+
+// Whether the words are a book that agrees with itself: 4, 5, 9, or 0.
+pub fn check(book: &[u16]) -> Answer
+    ensures { λ r. ⌜ r ≡ checkOf (now (book .entry)) ⌝ }
+{
+    match book::in_form(book) {
+        BookForm::Refused(number) => answered(number),
+        BookForm::InForm(places) => check_sections(book, places),
+    }
+}

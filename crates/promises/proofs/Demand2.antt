@@ -1,0 +1,67 @@
+-- Demand 2: "An order passes exactly when its top, its low parts and its middle parts are all in the book, as García's paper (document 000) defines
+-- them. Codes are decimal. A sound form goes to text and back unchanged".
+--
+-- Document 000's r, l and p are `IsR`, `IsL` and `IsP` (order/specs/Paper.antt), said by positions and labels. A tree is in a section if one of its
+-- entries has the tree's words (`In`, judge/specs/Verdicts.antt). Assumes nothing.
+use Prim.Native.Nat.{ℕ, suc, _+_, _*_, _≤_, _<_}
+use mathlib.Core.Path.{_≡_, ap}
+use mathlib.Core.Bool.{false}
+use mathlib.Core.List.{List, [], _∷_, _++_}
+use lib.ListN.{length, take}
+use Rattle.figures.specs.Limits.{least-code, most-nodes}
+use Rattle.figures.specs.Numbers.{done, no-form}
+use Rattle.figures.specs.Answers.{answered, refusedAt}
+use Rattle.figures.specs.declared.Answer.{Answer}
+use Rattle.order.specs.Answers.{writing, write}
+use Rattle.form.specs.Text.{Line, digit-0, space, line-feed, code-size, levelText}
+use Rattle.form.specs.Reading.{isDigit, speltOf, form, readLines, readOf}
+use Rattle.form.specs.Faults.{greatest-level}
+use Rattle.form.specs.Writing.{writeOf}
+use Rattle.form.specs.declared.reading.LineRead.the-variants.{Node}
+use Rattle.form.proofs.Letters.{NotFour, NotRead, code-decimal, decimal-read, code-refused, byte-refused}
+use Rattle.form.proofs.Trips.{written-read, read-written}
+use Rattle.judge.specs.Judging.{judgeOf}
+use Rattle.judge.specs.Verdicts.{PassesBy}
+use Rattle.judge.proofs.Demand2.{answered-passes, passes-answered}
+use Rattle.effects.specs.Conditions.{_exactly-when_}
+
+-- ---- passing
+
+-- "An order passes exactly when its top, its low parts and its middle parts are all in the book": `judge` answers 0 exactly if the words are a book
+-- in form and an order within limits, its r of index k-1 is in R, each of its l of index k-1 is in L and each of its p of index k is in P. For all
+-- words; so no answer but 0 is given to an order that passes, and 0 to no other.
+pub passes-exactly : (ws os : List ℕ) → (judgeOf ws os ≡ answered done) exactly-when PassesBy ws os
+passes-exactly ws os = (λ e. answered-passes ws os (ap (λ (a : Answer). a .number) e), passes-answered ws os)
+
+-- ---- "Codes are decimal."
+
+-- On a line of any level four digits are read as the number that they are in tens.
+pub read-in-tens : (l a b c d : ℕ) (rest : List ℕ) → l ≤ greatest-level → a < 10 → b < 10 → c < 10 → d < 10
+    → speltOf (levelText l ++ (space ∷ (digit-0 + a) ∷ (digit-0 + b) ∷ (digit-0 + c) ∷ (digit-0 + d) ∷ line-feed ∷ rest)) ≡ Node l (a * 1000 + b * 100 + c * 10 + d) (length (levelText l) + code-size)
+read-in-tens = code-decimal
+
+-- "0 0010" is ten: a form of one line is the node whose code is its digits in tens.
+pub one-line-in-tens : (a b c d : ℕ) → a < 10 → b < 10 → c < 10 → d < 10 → least-code ≤ a * 1000 + b * 100 + c * 10 + d → (out : List ℕ)
+    → readOf (digit-0 ∷ space ∷ (digit-0 + a) ∷ (digit-0 + b) ∷ (digit-0 + c) ∷ (digit-0 + d) ∷ line-feed ∷ []) out ≡ write ((a * 1000 + b * 100 + c * 10 + d) ∷ 0 ∷ []) out
+one-line-in-tens = decimal-read
+
+-- A code with any byte that is no decimal digit is refused by 10 at its own line, whatever lines stand before it and whatever follows.
+pub no-other-base : (front : List ℕ) (xs : List Line) (l a b c d : ℕ) (rest : List ℕ) → readLines most-nodes [] front ≡ form xs → length xs < most-nodes → l ≤ greatest-level → NotFour a b c d → (out : List ℕ)
+    → readOf (front ++ (levelText l ++ (space ∷ a ∷ b ∷ c ∷ d ∷ rest))) out ≡ writing (refusedAt no-form (suc (length xs))) out
+no-other-base = code-refused
+
+-- No text with a byte that is no digit, space or LF is read, wherever the byte stands.
+pub no-letter : (front rest : List ℕ) (b : ℕ) → isDigit b ≡ false → (b ≡ space → ⊥) → (b ≡ line-feed → ⊥) → NotRead (front ++ (b ∷ rest))
+no-letter = byte-refused
+
+-- ---- "A sound form goes to text and back unchanged"
+
+-- The text of an order that was written is read back to the order's words, in any output that has room for them.
+pub to-text-and-back : (os out : List ℕ) → writeOf os out .answer .number ≡ done → (later : List ℕ)
+    → readOf (take (writeOf os out .answer .count) (writeOf os out .out)) later ≡ write os later
+to-text-and-back = written-read
+
+-- And back: the words of a text that was read are written to the same bytes.
+pub to-words-and-back : (text out : List ℕ) → readOf text out .answer .number ≡ done → (later : List ℕ)
+    → writeOf (take (readOf text out .answer .count) (readOf text out .out)) later ≡ write text later
+to-words-and-back = read-written

@@ -1,0 +1,145 @@
+-- Rows that are computed beside the twelve cases: books in form and books that miss it by one damage, books that agree with themselves and books
+-- that do not, and refusals by 6, 7, 8 and 9. Assumes nothing.
+use Prim.Native.Nat.{ℕ, _+_}
+use mathlib.Core.Path.{_≡_, refl}
+use mathlib.Core.Bool.{true, false}
+use mathlib.Core.List.{List, [], _∷_}
+use lib.ListN.{set}
+use Rattle.section.specs.Entries.{Entry, counted}
+use Rattle.order.specs.Trees.{Tree, node, bare, cons, words}
+use Rattle.book.specs.Book.{Book, lay, inForm}
+use Rattle.book.specs.Decoding.{formed}
+use Rattle.book.specs.Taught.{Teaching, bookOf, agreeing}
+use Rattle.teach.specs.Calls.{hasParts}
+use Rattle.figures.specs.Answers.{answered}
+use Rattle.agree.specs.Checking.{checkOf}
+use Rattle.promises.specs.Heard.{A, B, C, single, opens, teaches, withdraws, slice, heard}
+use Rattle.promises.proofs.Computed.{computes}
+
+-- An order taught so many times.
+abbrev times : ℕ → Tree → Teaching
+times n t = record { order = t; times = n }
+
+-- A taught, k = 3: the words of the head, T, R, L and P, in a slice of 60 words.
+abbrev taughtA : List ℕ
+taughtA =
+    3 ∷ 59 ∷ 1 ∷ 1 ∷ 1 ∷ 4 ∷ 1
+    ∷ 5 ∷ 1 ∷ 1000 ∷ 2 ∷ 2000 ∷ 1 ∷ 10 ∷ 0 ∷ 3000 ∷ 1 ∷ 3001 ∷ 0
+    ∷ 3 ∷ 1 ∷ 1000 ∷ 2 ∷ 2000 ∷ 0 ∷ 3000 ∷ 0
+    ∷ 1 ∷ 1 ∷ 10 ∷ 0 ∷ 2 ∷ 1 ∷ 2000 ∷ 1 ∷ 10 ∷ 0 ∷ 2 ∷ 1 ∷ 3000 ∷ 1 ∷ 3001 ∷ 0 ∷ 1 ∷ 1 ∷ 3001 ∷ 0
+    ∷ 5 ∷ 1 ∷ 1000 ∷ 2 ∷ 2000 ∷ 1 ∷ 10 ∷ 0 ∷ 3000 ∷ 1 ∷ 3001 ∷ 0
+    ∷ 0 ∷ []
+
+-- These are its words, and they are in form.
+in-form : (lay 60 (bookOf 3 (times 1 A ∷ [])) ≡ taughtA) × (formed taughtA ≡ true) × (formed (lay 60 (bookOf 3 (times 1 A ∷ []))) ≡ true)
+unfolding computes
+in-form = (refl, refl, refl)
+
+-- One damage each: a k of 7, a word used less, a live teaching more, a count of 0 in L, and a word past those used that is not zero. A count
+-- of 2 in L is none.
+damaged : (formed (set taughtA 0 7) ≡ false)
+    × (formed (set taughtA 1 58) ≡ false)
+    × (formed (set taughtA 2 2) ≡ false)
+    × (formed (set taughtA 28 0) ≡ false)
+    × (formed (set taughtA 59 1) ≡ false)
+    × (formed (set taughtA 28 2) ≡ true)
+unfolding computes
+damaged = (refl, refl, refl, refl, refl, refl)
+
+-- The book of A and B, k = 3.
+abbrev bookAB : Book
+bookAB = bookOf 3 (times 1 A ∷ times 1 B ∷ [])
+
+-- The first two entries exchanged.
+abbrev exchanged : List Entry → List Entry
+exchanged [] = []
+exchanged (e ∷ []) = e ∷ []
+exchanged (e ∷ f ∷ es) = f ∷ e ∷ es
+
+-- A book with another section T.
+abbrev withT : Book → List Entry → Book
+withT b es = record { k = b .k; T = es; R = b .R; L = b .L; P = b .P }
+
+-- A book with another section R.
+abbrev withR : Book → List Entry → Book
+withR b es = record { k = b .k; T = b .T; R = es; L = b .L; P = b .P }
+
+-- A book with another section L.
+abbrev withL : Book → List Entry → Book
+withL b es = record { k = b .k; T = b .T; R = b .R; L = es; P = b .P }
+
+-- A book with another section P.
+abbrev withP : Book → List Entry → Book
+withP b es = record { k = b .k; T = b .T; R = b .R; L = b .L; P = es }
+
+-- The book of A and B is in form; with two entries of T exchanged, a tree too deep in R or L, or one not deep enough in P, it is not.
+sections : (formed (lay 110 bookAB) ≡ true)
+    × (formed (lay 110 (withT bookAB (exchanged (bookAB .T)))) ≡ false)
+    × (formed (lay 140 (withR bookAB (bookAB .T))) ≡ false)
+    × (formed (lay 140 (withL bookAB (bookAB .T))) ≡ false)
+    × (formed (lay 110 (withP bookAB (bookAB .R))) ≡ false)
+unfolding computes
+sections = (refl, refl, refl, refl, refl)
+
+-- The book of A taught once and B taught twice, k = 3.
+abbrev bookABB : Book
+bookABB = bookOf 3 (times 1 A ∷ times 2 B ∷ [])
+
+-- The first entry counts one more.
+abbrev raised : List Entry → List Entry
+raised [] = []
+raised (e ∷ es) = counted (e .key) (e .count + 1) ∷ es
+
+-- The first entry is taken out.
+abbrev lacking : List Entry → List Entry
+lacking [] = []
+lacking (e ∷ es) = es
+
+-- It agrees with itself; with one count of L changed, or an entry of P taken out, it does not.
+agreement : (agreeing bookABB ≡ true) × (agreeing (withL bookABB (raised (bookABB .L))) ≡ false) × (agreeing (withP bookABB (lacking (bookABB .P))) ≡ false)
+unfolding computes
+agreement = (refl, refl, refl)
+
+-- With 65,535 live teachings in all a book is in form; with one more it is not, though each count is at most 65,535.
+sums : (inForm (bookOf 2 (times 65534 single ∷ times 1 (node 2000 bare) ∷ [])) ≡ true)
+    × (inForm (bookOf 2 (times 65534 single ∷ times 2 (node 2000 bare) ∷ [])) ≡ false)
+unfolding computes
+sums = (refl, refl)
+
+-- A part that occurs twice in an order counts once: 1(2,2) at k = 2, taught 3 times.
+once : bookOf 2 (times 3 (node 1 (cons (node 2 bare) (cons (node 2 bare) bare))) ∷ []) .L ≡ counted (2 ∷ 0 ∷ []) 3 ∷ []
+unfolding computes
+once = refl
+
+-- ---- refusals
+
+-- In one word less than case 3 needs, B is refused by 6, and A, withdrawn then, leaves the opened book; and case 5 in one word less.
+one-word-short : (heard (opens 3 ∷ teaches A ∷ teaches B ∷ withdraws A ∷ []) (slice 108) ≡ (0 ∷ 0 ∷ 7 ∷ []) ∷ (0 ∷ 0 ∷ 59 ∷ []) ∷ (6 ∷ 0 ∷ 59 ∷ []) ∷ (0 ∷ 0 ∷ 7 ∷ []) ∷ [])
+    × (heard (opens 2 ∷ teaches A ∷ []) (slice 50) ≡ (0 ∷ 0 ∷ 7 ∷ []) ∷ (6 ∷ 0 ∷ 7 ∷ []) ∷ [])
+unfolding computes
+one-word-short = (refl, refl)
+
+-- "Withdrawing any order whose parts are all present: C in case 7 passes but was never taught, so 8."
+never-taught : (hasParts C (bookOf 2 (times 1 A ∷ times 1 B ∷ [])) ≡ true)
+    × (heard (opens 2 ∷ teaches A ∷ teaches B ∷ withdraws C ∷ []) (slice 87) ≡ (0 ∷ 0 ∷ 7 ∷ []) ∷ (0 ∷ 0 ∷ 51 ∷ []) ∷ (0 ∷ 0 ∷ 87 ∷ []) ∷ (8 ∷ 0 ∷ 87 ∷ []) ∷ [])
+unfolding computes
+never-taught = (refl, refl)
+
+-- With 65,534 live teachings one more is taught; with 65,535, in word 2, another order is refused by 7, though there is room.
+word-2-full : heard (teaches single ∷ teaches A ∷ []) (lay 60 (bookOf 2 (times 65534 single ∷ []))) ≡ (0 ∷ 0 ∷ 19 ∷ []) ∷ (7 ∷ 0 ∷ 19 ∷ []) ∷ []
+unfolding computes
+word-2-full = refl
+
+-- A part that counts 65,535 in L is "a touched count": its order is refused by 7 with one live teaching.
+count-full : heard (teaches single ∷ []) (lay 19 (withL (bookOf 2 (times 1 single ∷ [])) (counted (words single) 65535 ∷ []))) ≡ (7 ∷ 0 ∷ 19 ∷ []) ∷ []
+unfolding computes
+count-full = refl
+
+-- The book of A, k = 3, without its middle part.
+abbrev lacksMiddle : Book
+lacksMiddle = withP (bookOf 3 (times 1 A ∷ [])) []
+
+-- It is in form and does not agree with itself, so that checking it answers 9, and withdrawing A is refused by 9.
+missing-part : (inForm lacksMiddle ≡ true) × (checkOf (lay 60 lacksMiddle) ≡ answered 9) × (heard (withdraws A ∷ []) (lay 60 lacksMiddle) ≡ (9 ∷ 0 ∷ 47 ∷ []) ∷ [])
+unfolding computes
+missing-part = (refl, refl, refl)
