@@ -32,7 +32,7 @@ use Rattle.effects.specs.Conditions.{WouldPass, lives, touched}
 use Rattle.effects.proofs.Undoing.{commute, times-counted, times-other, count-after-taught}
 use Rattle.effects.proofs.Reasons.{none-passes}
 use Rattle.effects.proofs.Counted.{after-sorted, taught-uses}
-use Rattle.promises.specs.Remaining.{without, timesOf, SameOrders, HowMany, none-left, one-more, not-this, HasPart}
+use Rattle.promises.specs.Remaining.{without, timesOf, SameOrders, booked, HowMany, none-left, one-more, not-this, HasPart}
 
 -- ---- orders within limits
 
@@ -99,11 +99,6 @@ pub same-fit : (qs orders : List (List ℕ)) → SameOrders qs orders → Orders
 same-fit qs orders same all os m = all os (times-in os orders (omega (arith, same os, in-times os m)))
 
 -- ---- the book of orders
-
--- The book of orders, each taught once, the last of them first.
-unfoldable pub booked : ℕ → List (List ℕ) → Book
-booked k [] = bookOf k []
-booked k (os ∷ rest) = byFound (treeOf os) (booked k rest) (λ t. taught 1 t (booked k rest))
 
 -- With one order more it is the book with one teaching more.
 pub booked-first : (k : ℕ) (os : List ℕ) (rest : List (List ℕ)) (t : Tree) → IsOrder os t → booked k (os ∷ rest) ≡ taught 1 t (booked k rest)
@@ -189,8 +184,35 @@ module _ (k : ℕ) (s : Section) (u : Tree) where
           go false e = omega (arith, times-other s k 1 t u (λ m. no-test (sym e ∙ in-any u m)))
 
 -- An order's words are of one tree.
-one-tree : {os : List ℕ} {t u : Tree} → IsOrder os t → IsOrder os u → t ≡ u
+pub one-tree : {os : List ℕ} {t u : Tree} → IsOrder os t → IsOrder os u → t ≡ u
 one-tree {os} {t} {u} o p = words-unique t u (sym (o .spelt) ∙ p .spelt)
+
+-- What a teaching of an order counts in R, L and P is what the order has by document 000.
+module _ (k : ℕ) (u : Tree) (two : 2 ≤ k) (os : List ℕ) (t : Tree) (o : IsOrder os t) where
+  -- What it counts in R is the order's r,
+  pub top-part : u ∈ top k t ∷ [] → HasPart (IsR (k - 1)) u os
+  top-part (here e) = record { tree = t; isOrder = o; part = rw e (top-is-r k t two) }
+  top-part (there m) = absurd (List·Memᴰ·not-nil m)
+
+  -- and the order's r is counted there.
+  pub part-top : HasPart (IsR (k - 1)) u os → u ∈ top k t ∷ []
+  part-top h = here (r-only (k - 1) (omega arith) (rw (one-tree (h .isOrder) o) at (h .part)) (top-is-r k t two))
+
+  -- What it counts in L is in the order's l,
+  pub low-part : u ∈ lowParts k t → HasPart (IsL (k - 1)) u os
+  low-part m = record { tree = t; isOrder = o; part = low-is-l k two m }
+
+  -- and what is in the order's l is counted there.
+  pub part-low : HasPart (IsL (k - 1)) u os → u ∈ lowParts k t
+  part-low h = l-is-low k two (rw (one-tree (h .isOrder) o) at (h .part))
+
+  -- What it counts in P is in the order's p,
+  pub middle-part : u ∈ middleParts k t → HasPart (IsP k) u os
+  middle-part m = record { tree = t; isOrder = o; part = middle-is-p k two m }
+
+  -- and what is in the order's p is counted there.
+  pub part-middle : HasPart (IsP k) u os → u ∈ middleParts k t
+  part-middle h = p-is-middle k two (rw (one-tree (h .isOrder) o) at (h .part))
 
 module _ (k : ℕ) (orders : List (List ℕ)) (all : Orders orders) (u : Tree) where
   -- T counts each order as often as it stands among the orders.
@@ -209,36 +231,17 @@ module _ (k : ℕ) (orders : List (List ℕ)) (all : Orders orders) (u : Tree) w
     -- R counts each tree by how many of the orders have it as r.
     pub counts-tops : HowMany (HasPart (IsR (k - 1)) u) orders (countOf (words u) (booked k orders .R))
     unfolding sectionOf
-    counts-tops = how-many k Tops u (HasPart (IsR (k - 1)) u) from to orders all
-      where
-        from : (os : List ℕ) (t : Tree) → IsOrder os t → u ∈ top k t ∷ [] → HasPart (IsR (k - 1)) u os
-        from os t o (here e) = record { tree = t; isOrder = o; part = rw e (top-is-r k t two) }
-        from os t o (there m) = absurd (List·Memᴰ·not-nil m)
-
-        to : (os : List ℕ) (t : Tree) → IsOrder os t → HasPart (IsR (k - 1)) u os → u ∈ top k t ∷ []
-        to os t o h = here (r-only (k - 1) (omega arith) (rw (one-tree (h .isOrder) o) at (h .part)) (top-is-r k t two))
+    counts-tops = how-many k Tops u (HasPart (IsR (k - 1)) u) (top-part k u two) (part-top k u two) orders all
 
     -- L counts each tree by how many of the orders have it in l.
     pub counts-lows : HowMany (HasPart (IsL (k - 1)) u) orders (countOf (words u) (booked k orders .L))
     unfolding sectionOf
-    counts-lows = how-many k Lows u (HasPart (IsL (k - 1)) u) from to orders all
-      where
-        from : (os : List ℕ) (t : Tree) → IsOrder os t → u ∈ lowParts k t → HasPart (IsL (k - 1)) u os
-        from os t o m = record { tree = t; isOrder = o; part = low-is-l k two m }
-
-        to : (os : List ℕ) (t : Tree) → IsOrder os t → HasPart (IsL (k - 1)) u os → u ∈ lowParts k t
-        to os t o h = l-is-low k two (rw (one-tree (h .isOrder) o) at (h .part))
+    counts-lows = how-many k Lows u (HasPart (IsL (k - 1)) u) (low-part k u two) (part-low k u two) orders all
 
     -- P counts each tree by how many of the orders have it in p.
     pub counts-middles : HowMany (HasPart (IsP k) u) orders (countOf (words u) (booked k orders .P))
     unfolding sectionOf
-    counts-middles = how-many k Middles u (HasPart (IsP k) u) from to orders all
-      where
-        from : (os : List ℕ) (t : Tree) → IsOrder os t → u ∈ middleParts k t → HasPart (IsP k) u os
-        from os t o m = record { tree = t; isOrder = o; part = middle-is-p k two m }
-
-        to : (os : List ℕ) (t : Tree) → IsOrder os t → HasPart (IsP k) u os → u ∈ middleParts k t
-        to os t o h = p-is-middle k two (rw (one-tree (h .isOrder) o) at (h .part))
+    counts-middles = how-many k Middles u (HasPart (IsP k) u) (middle-part k u two) (part-middle k u two) orders all
 
 -- T counts any words as often as they stand among the orders.
 pub count-times : (k : ℕ) (ps : List ℕ) (orders : List (List ℕ)) → Orders orders → countOf ps (booked k orders .T) ≡ timesOf ps orders

@@ -40,8 +40,8 @@ use Rattle.effects.proofs.Conditions.{teach-0, teach-writes, teach-refusal-leav
 use Rattle.effects.proofs.Counted.{taught-uses}
 use Rattle.effects.proofs.Undoing.{undo}
 use Rattle.effects.proofs.Sequences.{teach-agrees, withdraw-agrees}
-use Rattle.promises.specs.Remaining.{Call, teach, withdraw, after, without, remainBy, remaining, timesOf, SameOrders, taughtAll, NoneRefused, ExactlyThese}
-use Rattle.promises.proofs.Orders.{Orders, later, order-fits, one-order-more, without-in, booked, booked-first, booked-k, booked-sorted, booked-live, booked-uses, counts-taught, counts-tops, counts-lows, counts-middles, count-times, more-within, booked-form, booked-without, same-fit, same-book}
+use Rattle.promises.specs.Remaining.{Call, teach, withdraw, after, without, remainBy, remaining, timesOf, SameOrders, taughtAll, NoneRefused, ExactlyThese, booked}
+use Rattle.promises.proofs.Orders.{Orders, later, order-fits, one-order-more, without-in, booked-first, booked-k, booked-sorted, booked-live, booked-uses, counts-taught, counts-tops, counts-lows, counts-middles, count-times, more-within, booked-form, booked-without, same-fit, same-book}
 
 -- ---- what calls keep
 

@@ -10,10 +10,12 @@ use Rattle.figures.specs.Numbers.{done}
 use Rattle.figures.specs.Answers.{answered}
 use Rattle.section.specs.Entries.{countOf}
 use Rattle.order.specs.Trees.{Tree, words}
+use Rattle.order.specs.Reading.{byFound, treeOf}
 use Rattle.order.specs.Fits.{IsOrder}
 use Rattle.order.specs.Paper.{IsR, IsL, IsP}
 use Rattle.book.specs.Book.{Book, live}
 use Rattle.book.specs.Sound.{IsBook}
+use Rattle.book.specs.Taught.{taught, bookOf}
 use Rattle.book.specs.Opening.{Outcome}
 use Rattle.teach.specs.Calls.{teachOf, withdrawOf}
 
@@ -72,6 +74,11 @@ taughtAll (os ∷ rest) ws = taughtAll rest (teachOf ws os .words)
 unfoldable pub NoneRefused : List (List ℕ) → List ℕ → Type 0
 NoneRefused [] ws = Unit {0}
 NoneRefused (os ∷ rest) ws = (teachOf ws os .answer ≡ answered done) × NoneRefused rest (teachOf ws os .words)
+
+-- The book of these orders, each taught as often as it stands there: what `bookOf` makes of them.
+unfoldable pub booked : ℕ → List (List ℕ) → Book
+booked k [] = bookOf k []
+booked k (os ∷ rest) = byFound (treeOf os) (booked k rest) (λ t. taught 1 t (booked k rest))
 
 -- ---- parts and counts
 

@@ -1,0 +1,123 @@
+-- By a book of exactly the orders that remain, judging answers 0 for an order exactly if it is made only of parts of these. Assumes nothing.
+use Prim.Native.Nat.{ℕ, _-_, _≤_}
+use mathlib.Core.Path.{_≡_, refl, sym, ap, subst, _∙_}
+use mathlib.Core.List.{List, List·Memᴰ·head as here, List·Memᴰ·tail as there}
+use native.Mathlib.Omega.{arith}
+use borrow.Author.Tests.{ltb-true, lt-ltb}
+use Rattle.words.specs.Base.{_∈_}
+use Rattle.figures.specs.Numbers.{done}
+use Rattle.figures.specs.Answers.{answered}
+use Rattle.figures.specs.declared.Answer.{Answer}
+use Rattle.section.specs.Entries.{Entry, countOf, Sorted}
+use Rattle.section.proofs.Counts.{has-count, has-entry, entry-has}
+use Rattle.order.specs.Trees.{Tree, words}
+use Rattle.order.specs.Fits.{IsOrder}
+use Rattle.order.specs.Paper.{IsR, IsL, IsP}
+use Rattle.book.specs.Book.{Book, sectionOf}
+use Rattle.book.specs.declared.Section.{Section}
+use Rattle.book.specs.declared.Section.the-variants.{Tops, Lows, Middles}
+use Rattle.book.proofs.Sound.{sound-form, book-only}
+use Rattle.judge.specs.Judging.{judgeOf}
+use Rattle.judge.specs.Verdicts.{In, Passes, PassesBy}
+use Rattle.judge.proofs.Demand2.{answered-passes, passes-answered}
+use Rattle.amend.proofs.Sections.{form-sorted}
+use Rattle.effects.specs.Conditions.{_exactly-when_}
+use Rattle.promises.specs.Remaining.{HowMany, none-left, one-more, not-this, HasPart, ExactlyThese, SomeHas, MadeOf}
+use Rattle.promises.proofs.Orders.{one-tree}
+
+-- ---- how many, and whether some
+
+-- Where at least one member has a property, some member has it.
+many-some : {A : Type 0} {Q : A → Type 0} {l : List A} {n : ℕ} → HowMany Q l n → 1 ≤ n → (a : A) × (a ∈ l) × Q a
+many-some none-left h = absurd (omega arith)
+many-some (one-more {a} q m) h = (a, here refl, q)
+many-some (not-this x m) h = let r = many-some m h in (r .0, there (r .1), r .2)
+
+-- Where some member has it, at least one does.
+some-many : {A : Type 0} {Q : A → Type 0} {a : A} {l : List A} {n : ℕ} → a ∈ l → Q a → HowMany Q l n → 1 ≤ n
+some-many i q (one-more p m) = omega arith
+some-many {Q} (here e) q (not-this x m) = absurd (x (subst Q e q))
+some-many (there i) q (not-this x m) = some-many i q m
+
+-- ---- in a section
+
+module _ (es : List Entry) (u : Tree) (sorted : Sorted es) where
+  -- A tree in a sorted section counts there.
+  in-counts : In es u → 1 ≤ countOf (words u) es
+  in-counts i = ltb-true 0 (countOf (words u) es) (sym (has-count (words u) es sorted) ∙ entry-has (words u) (i .there) (i .spelt))
+
+  -- A tree that counts there is in it.
+  counted-in : 1 ≤ countOf (words u) es → In es u
+  counted-in h =
+      let x = has-entry (words u) es (has-count (words u) es sorted ∙ lt-ltb 0 (countOf (words u) es) h) in
+      record { entry = x .0; there = x .1; spelt = x .2 }
+
+  -- If it counts there by how many orders have it as a part, it is in the section exactly if one of the orders has it.
+  in-some : (Part : Tree → Tree → Type 0) (orders : List (List ℕ)) → HowMany (HasPart Part u) orders (countOf (words u) es) → In es u exactly-when SomeHas Part u orders
+  in-some Part orders m = (from, to)
+    where
+      -- An entry counts at least one of the orders.
+      from : In es u → SomeHas Part u orders
+      from i = let r = many-some m (in-counts i) in record { one = r .0; among = r .1; has = r .2 }
+
+      -- One of the orders counts in the section.
+      to : SomeHas Part u orders → In es u
+      to x = counted-in (some-many (x .among) (x .has) m)
+
+-- ---- by the book of the orders that remain
+
+module _ (k : ℕ) (orders : List (List ℕ)) (ws : List ℕ) (x : ExactlyThese k orders ws) where
+  -- The sections of the book are sorted.
+  sorted-in : (s : Section) → Sorted (sectionOf s (x .book))
+  sorted-in = form-sorted (x .book) (sound-form (x .book) (x .isBook .sound))
+
+  -- R has just the tops of the orders.
+  in-tops : (u : Tree) → In (x .book .R) u exactly-when SomeHas (IsR (k - 1)) u orders
+  unfolding sectionOf
+  in-tops u = in-some (x .book .R) u (sorted-in Tops) (IsR (k - 1)) orders (x .tops u)
+
+  -- L has just their low parts.
+  in-lows : (u : Tree) → In (x .book .L) u exactly-when SomeHas (IsL (k - 1)) u orders
+  unfolding sectionOf
+  in-lows u = in-some (x .book .L) u (sorted-in Lows) (IsL (k - 1)) orders (x .lows u)
+
+  -- P has just their middle parts.
+  in-middles : (u : Tree) → In (x .book .P) u exactly-when SomeHas (IsP k) u orders
+  unfolding sectionOf
+  in-middles u = in-some (x .book .P) u (sorted-in Middles) (IsP k) orders (x .middles u)
+
+  module _ (t : Tree) where
+    -- An order that passes by the book is made of parts of the orders.
+    passing-made : Passes (x .book) t → MadeOf k orders t
+    passing-made p = record {
+      top = λ u r. in-tops u .0 (p .top u (subst (λ (j : ℕ). IsR (j - 1) t u) (sym (x .depth)) r));
+      lows = λ u l. in-lows u .0 (p .lows u (subst (λ (j : ℕ). IsL (j - 1) t u) (sym (x .depth)) l));
+      middles = λ u m. in-middles u .0 (p .middles u (subst (λ (j : ℕ). IsP j t u) (sym (x .depth)) m));
+    }
+
+    -- An order that is made of such parts passes.
+    made-passes : MadeOf k orders t → Passes (x .book) t
+    made-passes g = record {
+      top = λ u r. in-tops u .1 (g .top u (subst (λ (j : ℕ). IsR (j - 1) t u) (x .depth) r));
+      lows = λ u l. in-lows u .1 (g .lows u (subst (λ (j : ℕ). IsL (j - 1) t u) (x .depth) l));
+      middles = λ u m. in-middles u .1 (g .middles u (subst (λ (j : ℕ). IsP j t u) (x .depth) m));
+    }
+
+-- Where the words are exactly the book of the orders that remain, judging an order answers 0 exactly if it is "made only of parts the book has
+-- seen".
+pub passes-made : (k : ℕ) (orders : List (List ℕ)) (ws os : List ℕ) (t : Tree) → ExactlyThese k orders ws → IsOrder os t → (judgeOf ws os ≡ answered done) exactly-when MadeOf k orders t
+passes-made k orders ws os t x o = (from, to)
+  where
+    -- What passes by a book and an order passes by this book and this order.
+    passes-this : PassesBy ws os → Passes (x .book) t
+    passes-this p =
+        subst (λ (b : Book). Passes b t) (book-only ws (p .lent .book) (x .book) (p .lent .isBook) (x .isBook))
+        (subst (Passes (p .lent .book)) (one-tree (p .lent .isOrder) o) (p .passes))
+
+    -- What is answered by 0 is made of parts of the orders,
+    from : judgeOf ws os ≡ answered done → MadeOf k orders t
+    from e = passing-made k orders ws x t (passes-this (answered-passes ws os (ap (λ (a : Answer). a .number) e)))
+
+    -- and what is made of them is answered by 0.
+    to : MadeOf k orders t → judgeOf ws os ≡ answered done
+    to g = passes-answered ws os (record { lent = record { book = x .book; tree = t; isBook = x .isBook; isOrder = o }; passes = made-passes k orders ws x t g })
