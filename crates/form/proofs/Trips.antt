@@ -67,7 +67,7 @@ written w new out = go (leb (length new) (length out))
     go false q e = let z : short-output ≡ done = sym (ap (λ (w : Writing). w .answer .number) q) ∙ e in absurd (omega arith)
 
 -- Of an order the text is written.
-order-write : (ws : List ℕ) (t : Tree) (out : List ℕ) → orderOf ws ≡ order t → writeOf ws out ≡ write (textOf t) out
+pub order-write : (ws : List ℕ) (t : Tree) (out : List ℕ) → orderOf ws ≡ order t → writeOf ws out ≡ write (textOf t) out
 unfolding writeOf byOrder
 order-write ws t out e = rw e
 

@@ -6,4 +6,4 @@ pub mod LineAnswers
 pub mod Rounds
 pub mod Judgements
 pub mod Verdicts
-pub mod Demand2
+pub mod Answers

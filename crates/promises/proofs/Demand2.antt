@@ -22,7 +22,7 @@ use Rattle.form.proofs.Letters.{NotFour, NotRead, code-decimal, decimal-read, c
 use Rattle.form.proofs.Trips.{written-read, read-written}
 use Rattle.judge.specs.Judging.{judgeOf}
 use Rattle.judge.specs.Verdicts.{PassesBy}
-use Rattle.judge.proofs.Demand2.{answered-passes, passes-answered}
+use Rattle.judge.proofs.Answers.{answered-passes, passes-answered}
 use Rattle.effects.specs.Conditions.{_exactly-when_}
 
 -- ---- passing

@@ -3,7 +3,14 @@ pub mod Orders
 pub mod Remaining
 pub mod Agreement
 pub mod Passing
+pub mod Refusals
+pub mod Whys
+pub mod Conditions
+pub mod Checks
+pub mod Contracts
 mod Computed
 pub mod Cases
+pub mod Demand1
 pub mod Demand2
+pub mod Demand3
 mod Rows

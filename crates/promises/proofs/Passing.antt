@@ -19,7 +19,7 @@ use Rattle.book.specs.declared.Section.the-variants.{Tops, Lows, Middles}
 use Rattle.book.proofs.Sound.{sound-form, book-only}
 use Rattle.judge.specs.Judging.{judgeOf}
 use Rattle.judge.specs.Verdicts.{In, Passes, PassesBy}
-use Rattle.judge.proofs.Demand2.{answered-passes, passes-answered}
+use Rattle.judge.proofs.Answers.{answered-passes, passes-answered}
 use Rattle.amend.proofs.Sections.{form-sorted}
 use Rattle.effects.specs.Conditions.{_exactly-when_}
 use Rattle.promises.specs.Remaining.{HowMany, none-left, one-more, not-this, HasPart, ExactlyThese, SomeHas, MadeOf}

@@ -46,11 +46,11 @@ use Rattle.promises.proofs.Orders.{Orders, later, order-fits, one-order
 -- ---- what calls keep
 
 -- The words are, in a slice of n words, the book at k of orders within limits, of which there are at most 65,535.
-record Kept (n k : ℕ) (orders : List (List ℕ)) (ws : List ℕ) : Type 0 where
-  limits : Orders orders
-  few : length orders ≤ greatest-count
-  room : used (booked k orders) ≤ n
-  laid : ws ≡ lay n (booked k orders)
+pub record Kept (n k : ℕ) (orders : List (List ℕ)) (ws : List ℕ) : Type 0 where
+  pub limits : Orders orders
+  pub few : length orders ≤ greatest-count
+  pub room : used (booked k orders) ≤ n
+  pub laid : ws ≡ lay n (booked k orders)
 
 module _ (slice : List ℕ) (k : ℕ) (long : head-words ≤ length slice) (short : length slice ≤ most-book-words) (least : least-k ≤ k) (greatest : k ≤ greatest-k) where
   -- The opened book is the book of no orders.
@@ -65,15 +65,15 @@ module _ (slice : List ℕ) (k : ℕ) (long : head-words ≤ length slice) (shor
 
   module _ (orders : List (List ℕ)) (ws : List ℕ) (kept : Kept (length slice) k orders ws) where
     -- The book is in form.
-    kept-form : inForm (booked k orders) ≡ true
+    pub kept-form : inForm (booked k orders) ≡ true
     kept-form = booked-form k least greatest orders (kept .limits) (kept .few)
 
     -- The words are as many as in the slice.
-    kept-long : length ws ≡ length slice
+    pub kept-long : length ws ≡ length slice
     kept-long = ap length (kept .laid) ∙ lay-long (length slice) (booked k orders) (kept .room)
 
     -- With an order they are met as that book and that order.
-    kept-met : (os : List ℕ) (t : Tree) → orderOf os ≡ order t → BookAndOrder ws os (booked k orders) t
+    pub kept-met : (os : List ℕ) (t : Tree) → orderOf os ≡ order t → BookAndOrder ws os (booked k orders) t
     kept-met os t o = rw (kept .laid) (written-met slice os (booked k orders) t (is-sized slice long short) kept-form (kept .room) o)
 
     -- They are words of that book.
@@ -240,7 +240,7 @@ module _ (slice : List ℕ) (k : ℕ) (long : head-words ≤ length slice) (shor
 
   module _ (cs : List Call) where
     -- After the calls the book is that of the orders that remain.
-    after-kept : Kept (length slice) k (remaining cs opened []) (after cs opened)
+    pub after-kept : Kept (length slice) k (remaining cs opened []) (after cs opened)
     after-kept = calls-keep slice k long short least greatest cs [] opened (opened-kept slice k long short least greatest)
 
     -- "Its parts and counts are exactly those of the orders that remain."

@@ -1,0 +1,101 @@
+-- Checking answers exactly by the rows of 01's table, as specs/Whys.antt states them, for any words; and it answers 0 for a book grown from an
+-- opened one. Assumes nothing.
+use Prim.Native.Nat.{ℕ, _≤_}
+use mathlib.Core.Path.{_≡_, refl, sym, ap, _∙_}
+use mathlib.Core.Bool.{Bool, true, false}
+use mathlib.Core.List.{List}
+use lib.ListN.{length}
+use Rattle.words.specs.Base.{if_then_else_}
+use Rattle.words.proofs.Tests.{no-test}
+use Rattle.figures.specs.Limits.{least-k, greatest-k, head-words, most-book-words}
+use Rattle.figures.specs.Numbers.{done, book-size, not-in-form, not-agreeing}
+use Rattle.figures.specs.Answers.{answered}
+use Rattle.figures.specs.declared.Answer.{Answer}
+use Rattle.book.specs.Book.{Book}
+use Rattle.book.specs.Decoding.{bookFormOf}
+use Rattle.book.specs.Sound.{IsBook, WhyForm, shorter, longer, formless, book}
+use Rattle.book.specs.Taught.{agreeing}
+use Rattle.book.specs.Opening.{openOf}
+use Rattle.book.specs.declared.BookForm.the-variants.{Refused}
+use Rattle.book.proofs.Holding.{refused-book}
+use Rattle.book.proofs.Sound.{sound-form, decode-book, on-any, why-is, why-only}
+use Rattle.agree.specs.Checking.{checkOf}
+use Rattle.effects.specs.Conditions.{_exactly-when_}
+use Rattle.promises.specs.Remaining.{Call, after}
+use Rattle.promises.specs.Agreement.{Agrees}
+use Rattle.promises.specs.Whys.{WhyChecked, check-no-book, disagrees, agrees}
+use Rattle.promises.proofs.Agreement.{agreeing-exactly}
+use Rattle.promises.proofs.Remaining.{holds-exactly, agrees as agrees-after}
+
+module _ (ws : List ℕ) where
+  -- What is answered by a book that passes the test of agreeing or does not.
+  abbrev by-test : Bool → Answer
+  by-test x = answered (if x then done else not-agreeing)
+
+  -- Checking refuses by 4 or 5 where the words have such a reason.
+  unbooked : (n : ℕ) → WhyForm ws (Refused n) → checkOf ws ≡ answered n
+  unfolding checkOf
+  unbooked n w = refused-book ws n (why-only ws (Refused n) w) answered (λ b. by-test (agreeing b))
+
+  module _ (b : Book) (i : IsBook ws b) where
+    -- The words of a book are answered by whether it passes the test.
+    tested : checkOf ws ≡ by-test (agreeing b)
+    unfolding checkOf
+    tested = on-any ws b i answered (λ c. by-test (agreeing c))
+
+    -- The book passes the test exactly if it agrees with itself.
+    test-exact : (agreeing b ≡ true) exactly-when Agrees b
+    test-exact = agreeing-exactly b (sound-form b (i .sound))
+
+    -- One that passes is answered by 0,
+    passed-0 : agreeing b ≡ true → checkOf ws ≡ answered done
+    unfolding if_then_else_
+    passed-0 e = tested ∙ ap by-test e
+
+    -- and one that does not by 9.
+    failed-9 : agreeing b ≡ false → checkOf ws ≡ answered not-agreeing
+    unfolding if_then_else_
+    failed-9 e = tested ∙ ap by-test e
+
+  -- What checking answers has a row of 01's table.
+  pub checked-why : WhyChecked ws (checkOf ws)
+  checked-why = go (why-is ws)
+    where
+      -- By whether the book passes the test.
+      by-book : (b : Book) → IsBook ws b → (x : Bool) → agreeing b ≡ x → WhyChecked ws (checkOf ws)
+      by-book b i true e = agrees b (passed-0 b i e) i (test-exact b i .0 e)
+      by-book b i false e = disagrees b (failed-9 b i e) i (λ g. no-test (sym e ∙ test-exact b i .1 g))
+
+      -- A reason of the words' form.
+      no-book : (n : ℕ) → WhyForm ws (Refused n) → WhyChecked ws (checkOf ws)
+      no-book n w = check-no-book n (unbooked n w) w
+
+      -- By what the words are.
+      go : WhyForm ws (bookFormOf ws) → WhyChecked ws (checkOf ws)
+      go (shorter r l) = no-book book-size (shorter refl l)
+      go (longer r l) = no-book book-size (longer refl l)
+      go (formless r l m n) = no-book not-in-form (formless refl l m n)
+      go (book b r i) = by-book b i (agreeing b) refl
+
+  -- What has a row is what checking answers.
+  pub checked-only : (a : Answer) → WhyChecked ws a → checkOf ws ≡ a
+  checked-only a (check-no-book n e w) = unbooked n w ∙ sym e
+  checked-only a (disagrees b e i x) = fails (agreeing b) refl ∙ sym e
+    where
+      -- A book that does not agree with itself fails the test.
+      fails : (y : Bool) → agreeing b ≡ y → checkOf ws ≡ answered not-agreeing
+      fails true p = absurd (x (test-exact b i .0 p))
+      fails false p = failed-9 b i p
+  checked-only a (agrees b e i g) = passed-0 b i (test-exact b i .1 g) ∙ sym e
+
+module _ (slice : List ℕ) (k : ℕ) (long : head-words ≤ length slice) (short : length slice ≤ most-book-words) (least : least-k ≤ k) (greatest : k ≤ greatest-k) where
+  -- The words of the slice once a book is opened in it.
+  abbrev opened : List ℕ
+  opened = openOf slice k .words
+
+  -- After any calls the book is checked with 0.
+  pub grown-agrees : (cs : List Call) → checkOf (after cs opened) ≡ answered done
+  grown-agrees cs =
+      let a = agrees-after slice k long short least greatest cs in
+      let i = holds-exactly slice k long short least greatest cs .isBook in
+      passed-0 (after cs opened) (a .0) (decode-book (after cs opened) (a .0) (i .long) (i .short) (a .1)) (a .2)

@@ -1,0 +1,150 @@
+-- When teaching and withdrawing are refused in a book grown from an opened one, by the orders that remain: 7 where there are 65,535 of them, 6
+-- where their book with one order more has no room, and 8 where the order does not stand among them. Assumes nothing.
+use Prim.Native.Nat.{ℕ, _≤_, _<_}
+use mathlib.Core.Path.{_≡_, sym, ap, _∙_}
+use mathlib.Core.List.{List, [], _∷_}
+use native.Mathlib.Decide.{decLt}
+use native.Mathlib.Omega.{arith}
+use borrow.Author.Tests.{le-ltb, ltb-false}
+use lib.Dec.{ltb}
+use lib.ListN.{length}
+use Rattle.figures.specs.Limits.{least-k, greatest-k, greatest-count, head-words, most-book-words}
+use Rattle.figures.specs.Numbers.{done, no-room, too-many, not-taught}
+use Rattle.section.specs.Entries.{has}
+use Rattle.section.proofs.Counts.{has-count}
+use Rattle.order.specs.Trees.{Tree, words}
+use Rattle.order.specs.Fits.{IsOrder}
+use Rattle.order.proofs.Fitting.{order-read}
+use Rattle.book.specs.Book.{sectionOf, used}
+use Rattle.book.specs.Taught.{taught}
+use Rattle.book.specs.Opening.{openOf}
+use Rattle.book.specs.declared.Section.the-variants.{Taught}
+use Rattle.teach.specs.Calls.{teachOf, withdrawOf}
+use Rattle.effects.specs.Conditions.{_exactly-when_, BookAndOrder, WouldPass, lives}
+use Rattle.effects.proofs.Conditions.{teach-7, teach-6, teach-0, withdraw-8}
+use Rattle.effects.proofs.Reasons.{within-none}
+use Rattle.promises.specs.Remaining.{Call, after, remaining, timesOf, booked}
+use Rattle.promises.proofs.Orders.{booked-first, booked-sorted, booked-live, count-times, more-within}
+use Rattle.promises.proofs.Remaining.{Kept, kept-form, kept-long, kept-met, after-kept}
+
+-- ---- in the book of orders
+
+module _ (slice : List ℕ) (k : ℕ) (long : head-words ≤ length slice) (short : length slice ≤ most-book-words) (least : least-k ≤ k) (greatest : k ≤ greatest-k)
+    (orders : List (List ℕ)) (ws : List ℕ) (kept : Kept (length slice) k orders ws) (os : List ℕ) (t : Tree) (o : IsOrder os t) where
+  -- The words and the order are met as the book of the orders and the order's tree.
+  both-met : BookAndOrder ws os (booked k orders) t
+  both-met = kept-met slice k long short least greatest orders ws kept os t (order-read os t o)
+
+  -- With fewer than 65,535 orders no count would pass that.
+  none-would : length orders < greatest-count → WouldPass t (booked k orders) → ⊥
+  none-would h =
+      let form = kept-form slice k long short least greatest orders ws kept in
+      within-none t (booked k orders) form (more-within k t orders (kept .limits) (omega arith) form)
+
+  -- With 65,535 orders one more live teaching would pass.
+  full-would : length orders ≡ greatest-count → WouldPass t (booked k orders)
+  full-would e = lives (booked-live k orders (kept .limits) ∙ e)
+
+  -- Where a count would pass there are 65,535 orders.
+  would-full : WouldPass t (booked k orders) → length orders ≡ greatest-count
+  would-full p = go (decLt (length orders) greatest-count)
+    where
+      -- By whether there are fewer.
+      go : Dec (length orders < greatest-count) → length orders ≡ greatest-count
+      go (yes h) = absurd (none-would h p)
+      go (no h) = omega (arith, kept .few)
+
+  -- Where none would there are fewer.
+  none-fewer : (WouldPass t (booked k orders) → ⊥) → length orders < greatest-count
+  none-fewer x = go (decLt (length orders) greatest-count)
+    where
+      -- By whether there are fewer.
+      go : Dec (length orders < greatest-count) → length orders < greatest-count
+      go (yes h) = h
+      go (no h) = absurd (x (full-would (omega (arith, kept .few))))
+
+  -- The book with this order taught uses as many words as the book of one order more.
+  same-used : used (booked k (os ∷ orders)) ≡ used (taught 1 t (booked k orders))
+  same-used = ap used (booked-first k os orders t o)
+
+  -- The words are as many as in the slice.
+  same-long : length ws ≡ length slice
+  same-long = kept-long slice k long short least greatest orders ws kept
+
+  -- Teaching the order answers 7 exactly with 65,535 orders.
+  kept-7 : (teachOf ws os .answer .number ≡ too-many) exactly-when (length orders ≡ greatest-count)
+  kept-7 = let x = teach-7 ws os (booked k orders) t both-met in (λ e. would-full (x .0 e), λ e. x .1 (full-would e))
+
+  -- It answers 6 exactly with fewer, where the book of one order more needs more words than the slice has.
+  kept-6 : (teachOf ws os .answer .number ≡ no-room) exactly-when ((length orders < greatest-count) × (length slice < used (booked k (os ∷ orders))))
+  kept-6 = (from, to)
+    where
+      -- What is refused by 6 has no room,
+      from : teachOf ws os .answer .number ≡ no-room → (length orders < greatest-count) × (length slice < used (booked k (os ∷ orders)))
+      from e = let x = teach-6 ws os (booked k orders) t both-met .0 e in (none-fewer (x .0), omega (arith, x .1, same-used, same-long))
+
+      -- and what has none is refused by it.
+      to : (length orders < greatest-count) × (length slice < used (booked k (os ∷ orders))) → teachOf ws os .answer .number ≡ no-room
+      to p = teach-6 ws os (booked k orders) t both-met .1 (none-would (p .0), omega (arith, p .1, same-used, same-long))
+
+  -- It is done exactly with fewer, where the slice has room for that book.
+  kept-0 : (teachOf ws os .answer .number ≡ done) exactly-when ((length orders < greatest-count) × (used (booked k (os ∷ orders)) ≤ length slice))
+  kept-0 = (from, to)
+    where
+      -- What is done has room,
+      from : teachOf ws os .answer .number ≡ done → (length orders < greatest-count) × (used (booked k (os ∷ orders)) ≤ length slice)
+      from e = let x = teach-0 ws os (booked k orders) t both-met .0 e in (none-fewer (x .0), omega (arith, x .1, same-used, same-long))
+
+      -- and what has room is done.
+      to : (length orders < greatest-count) × (used (booked k (os ∷ orders)) ≤ length slice) → teachOf ws os .answer .number ≡ done
+      to p = teach-0 ws os (booked k orders) t both-met .1 (none-would (p .0), omega (arith, p .1, same-used, same-long))
+
+  -- T has an entry of the order's words if they count there, and counts them as often as the order stands among the orders.
+  entry-test : has (words t) (booked k orders .T) ≡ ltb 0 (timesOf os orders)
+  unfolding sectionOf
+  entry-test =
+      ap (λ (x : List ℕ). has x (booked k orders .T)) (sym (o .spelt))
+      ∙ has-count os (booked k orders .T) (booked-sorted k orders (kept .limits) Taught)
+      ∙ ap (ltb 0) (count-times k os orders (kept .limits))
+
+  -- Withdrawing the order answers 8 exactly if it does not stand among the orders.
+  kept-8 : (withdrawOf ws os .answer .number ≡ not-taught) exactly-when (timesOf os orders ≡ 0)
+  kept-8 = (from, to)
+    where
+      -- What is refused by 8 has no entry in T,
+      from : withdrawOf ws os .answer .number ≡ not-taught → timesOf os orders ≡ 0
+      from e = omega (arith, ltb-false 0 (timesOf os orders) (sym entry-test ∙ withdraw-8 ws os (booked k orders) t both-met .0 e))
+
+      -- and what stands nowhere among the orders has none.
+      to : timesOf os orders ≡ 0 → withdrawOf ws os .answer .number ≡ not-taught
+      to e = withdraw-8 ws os (booked k orders) t both-met .1 (entry-test ∙ le-ltb 0 (timesOf os orders) (omega arith))
+
+-- ---- in a book grown from an opened one
+
+module _ (slice : List ℕ) (k : ℕ) (long : head-words ≤ length slice) (short : length slice ≤ most-book-words) (least : least-k ≤ k) (greatest : k ≤ greatest-k) where
+  -- The words of the slice once a book is opened in it.
+  abbrev opened : List ℕ
+  opened = openOf slice k .words
+
+  module _ (cs : List Call) where
+    -- After the calls the book is that of the orders that remain.
+    grown : Kept (length slice) k (remaining cs opened []) (after cs opened)
+    grown = after-kept slice k long short least greatest cs
+
+    -- 7, "live teachings or a touched count would pass 65,535", is answered exactly where 65,535 orders remain.
+    pub teaching-7 : (os : List ℕ) (t : Tree) → IsOrder os t → (teachOf (after cs opened) os .answer .number ≡ too-many) exactly-when (length (remaining cs opened []) ≡ greatest-count)
+    teaching-7 os t o = kept-7 slice k long short least greatest _ _ grown os t o
+
+    -- 6, "the result needs more words than the book slice has", exactly where fewer remain and the book of these and the order uses more.
+    pub teaching-6 : (os : List ℕ) (t : Tree) → IsOrder os t
+        → (teachOf (after cs opened) os .answer .number ≡ no-room) exactly-when ((length (remaining cs opened []) < greatest-count) × (length slice < used (booked k (os ∷ remaining cs opened []))))
+    teaching-6 os t o = kept-6 slice k long short least greatest _ _ grown os t o
+
+    -- 0, "done", exactly where fewer remain and that book uses no more.
+    pub teaching-0 : (os : List ℕ) (t : Tree) → IsOrder os t
+        → (teachOf (after cs opened) os .answer .number ≡ done) exactly-when ((length (remaining cs opened []) < greatest-count) × (used (booked k (os ∷ remaining cs opened [])) ≤ length slice))
+    teaching-0 os t o = kept-0 slice k long short least greatest _ _ grown os t o
+
+    -- 8, "order has no entry in T", exactly where the order is none of those that remain.
+    pub withdrawing-8 : (os : List ℕ) (t : Tree) → IsOrder os t → (withdrawOf (after cs opened) os .answer .number ≡ not-taught) exactly-when (timesOf os (remaining cs opened []) ≡ 0)
+    withdrawing-8 os t o = kept-8 slice k long short least greatest _ _ grown os t o

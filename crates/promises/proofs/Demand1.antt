@@ -1,0 +1,181 @@
+-- Demand 1: "Every call ends and touches only what it was lent, for any order, text or book. Bad input gets the refusal number listed for it, and a
+-- refusal changes nothing lent to the call."
+--
+-- That a call ends, reads and writes only within what it was lent and wraps no sum is no statement of this file: it is in the theorem of each
+-- function, which the prover checks before it passes a crate (`statement` of the function's module; a crate with a function that lacks it does not
+-- pass). What is lent by `&` comes back as it was, by the same theorem: so `order::check`, `cuts::subtree`, `book::in_form`, `judge::judge` and
+-- `agree::check`, which are lent nothing to write, change nothing. Of the others this file speaks. That the equations here are those of the
+-- contracts, which ask nothing of their callers, is proofs/Contracts.antt. Assumes nothing.
+use Prim.Native.Nat.{ℕ}
+use mathlib.Core.Path.{_≡_, sym, ap, _∙_}
+use mathlib.Core.List.{List}
+use Rattle.figures.specs.Numbers.{done}
+use Rattle.figures.specs.declared.Answer.{Answer}
+use Rattle.figures.specs.declared.Written.{Written}
+use Rattle.order.specs.Causes.{Cause}
+use Rattle.order.specs.Answers.{checkOf, subtreeOf, Writing, writing, cutIntoOf, PartWriting, partWriting, partIntoOf}
+use Rattle.order.specs.Reading.{causeOf}
+use Rattle.order.specs.declared.PartWritten.{PartWritten}
+use Rattle.order.proofs.Causes.{cause-is, cause-only}
+use Rattle.form.specs.Reading.{readOf}
+use Rattle.form.specs.Writing.{writeOf}
+use Rattle.book.specs.Sound.{WhyForm}
+use Rattle.book.specs.Decoding.{bookFormOf}
+use Rattle.book.specs.Opening.{Outcome, outcome, openOf}
+use Rattle.book.specs.declared.BookForm.{BookForm}
+use Rattle.book.proofs.Sound.{why-is, why-only}
+use Rattle.judge.specs.Judging.{judgeOf}
+use Rattle.judge.specs.Verdicts.{Judged}
+use Rattle.judge.proofs.Answers.{judged-is, judged-only}
+use Rattle.teach.specs.Calls.{teachOf, withdrawOf}
+use Rattle.effects.specs.Whys.{WhyTaught, WhyWithdrawn}
+use Rattle.effects.proofs.Whys.{teach-why, teach-only, withdraw-why, withdraw-only}
+use Rattle.effects.proofs.Conditions.{teach-refusal-leaves, withdraw-refusal-leaves}
+use Rattle.agree.specs.Checking.{checkOf as agreesOf}
+use Rattle.promises.specs.Whys.{WhyOpened, WhyChecked, WhyPrinted, WhyRead}
+use Rattle.promises.proofs.Whys.{opened-why, opened-only, printed-why, printed-only, read-why, read-only}
+use Rattle.promises.proofs.Checks.{checked-why, checked-only}
+use Rattle.promises.proofs.Refusals.{read-refusal-leaves, print-refusal-leaves, cut-refusal-leaves, part-refusal-leaves, open-refusal-leaves}
+
+-- ---- "the refusal number listed for it"
+
+-- The answer is one that the rows allow, and the rows allow no other.
+abbrev pub Exactly : {A : Type 0} → (A → Type 0) → A → Type 0
+Exactly {A} Row a = Row a × ((b : A) → Row b → a ≡ b)
+
+-- The rows of 01's table for each call, in their order of checks: every answer, with its line, its count and all that was lent, has its row, and a
+-- row has no other answer. So two calls on the same input answer the same.
+module _ (ws os text out : List ℕ) (k : ℕ) where
+  -- "Within an order: empty or odd length, over 128 words, the other causes of 1, depth."
+  pub order-rows : Exactly (Cause os) (causeOf os)
+  order-rows = (cause-is os, cause-only os)
+
+  -- 4 and 5
+  pub form-rows : Exactly (WhyForm ws) (bookFormOf ws)
+  form-rows = (why-is ws, why-only ws)
+
+  -- "Open: 4, 3."
+  pub open-rows : Exactly (WhyOpened ws k) (openOf ws k)
+  open-rows = (opened-why ws k, opened-only ws k)
+
+  -- "Teach: 4, 5, 1, 2, 7, 6."
+  pub teach-rows : Exactly (WhyTaught ws os) (teachOf ws os)
+  teach-rows = (teach-why ws os, teach-only ws os)
+
+  -- "Withdraw: 4, 5, 1, 2, 8, 9."
+  pub withdraw-rows : Exactly (WhyWithdrawn ws os) (withdrawOf ws os)
+  withdraw-rows = (withdraw-why ws os, withdraw-only ws os)
+
+  -- "Judge: 4, 5, 1, 2, verdict."
+  pub judge-rows : Exactly (Judged ws os) (judgeOf ws os)
+  judge-rows = (judged-is ws os, judged-only ws os)
+
+  -- "Check: 4, 5, 9."
+  pub check-rows : Exactly (WhyChecked ws) (agreesOf ws)
+  check-rows = (checked-why ws, checked-only ws)
+
+  -- "Write text: 1, 2, 11."
+  pub write-rows : Exactly (WhyPrinted os out) (writeOf os out)
+  write-rows = (printed-why os out, printed-only os out)
+
+  -- "Text: the first line at fault", "11 last. No bytes is line 1."
+  pub read-rows : Exactly (WhyRead text out) (readOf text out)
+  read-rows = (read-why text out, read-only text out)
+
+-- ---- one outcome for each input
+
+-- Two values that are both equal to a third are equal.
+same : {A : Type 0} {a b c : A} → a ≡ c → b ≡ c → a ≡ b
+same e f = e ∙ sym f
+
+-- Two outcomes of a call on a book have the same answer and the same words.
+two-outcomes : {r s : Answer} {ws vs : List ℕ} {o : Outcome} → outcome r ws ≡ o → outcome s vs ≡ o → (r ≡ s) × (ws ≡ vs)
+two-outcomes e f = (ap (λ (o : Outcome). o .answer) (same e f), ap (λ (o : Outcome). o .words) (same e f))
+
+-- Two outcomes of a call that writes have the same answer and the same output.
+two-writings : {r s : Written} {ws vs : List ℕ} {o : Writing} → writing r ws ≡ o → writing s vs ≡ o → (r ≡ s) × (ws ≡ vs)
+two-writings e f = (ap (λ (o : Writing). o .answer) (same e f), ap (λ (o : Writing). o .out) (same e f))
+
+-- "Two outcomes allowed by one promise are shown equal": r and s are two answers that the contract allows, and what stands beside them what was lent
+-- to be written, right after each call.
+module _ (ws os text out : List ℕ) (k line d : ℕ) where
+  -- `order::check`
+  pub one-check : {r s : Answer} → r ≡ checkOf os → s ≡ checkOf os → r ≡ s
+  one-check = same
+
+  -- `cuts::subtree`: the words that are handed out. Where in the order they stand the contract leaves open.
+  pub one-subtree : {r s : List ℕ} → r ≡ subtreeOf os line → s ≡ subtreeOf os line → r ≡ s
+  one-subtree = same
+
+  -- `cuts::cut_into`
+  pub one-cut : {r s : Written} {u v : List ℕ} → writing r u ≡ cutIntoOf os line d out → writing s v ≡ cutIntoOf os line d out → (r ≡ s) × (u ≡ v)
+  one-cut = two-writings
+
+  -- `parts::part_into`
+  pub one-part : {r s : PartWritten} {u v : List ℕ} → partWriting r u ≡ partIntoOf os line k out → partWriting s v ≡ partIntoOf os line k out → (r ≡ s) × (u ≡ v)
+  one-part e f = (ap (λ (o : PartWriting). o .answer) (same e f), ap (λ (o : PartWriting). o .out) (same e f))
+
+  -- `form::read`
+  pub one-read : {r s : Written} {u v : List ℕ} → writing r u ≡ readOf text out → writing s v ≡ readOf text out → (r ≡ s) × (u ≡ v)
+  one-read = two-writings
+
+  -- `print::write`
+  pub one-write : {r s : Written} {u v : List ℕ} → writing r u ≡ writeOf os out → writing s v ≡ writeOf os out → (r ≡ s) × (u ≡ v)
+  one-write = two-writings
+
+  -- `book::in_form`
+  pub one-form : {r s : BookForm} → r ≡ bookFormOf ws → s ≡ bookFormOf ws → r ≡ s
+  one-form = same
+
+  -- `book::open`
+  pub one-open : {r s : Answer} {u v : List ℕ} → outcome r u ≡ openOf ws k → outcome s v ≡ openOf ws k → (r ≡ s) × (u ≡ v)
+  one-open = two-outcomes
+
+  -- `judge::judge`
+  pub one-judgement : {r s : Answer} → r ≡ judgeOf ws os → s ≡ judgeOf ws os → r ≡ s
+  one-judgement = same
+
+  -- `teach::teach`
+  pub one-teaching : {r s : Answer} {u v : List ℕ} → outcome r u ≡ teachOf ws os → outcome s v ≡ teachOf ws os → (r ≡ s) × (u ≡ v)
+  one-teaching = two-outcomes
+
+  -- `teach::withdraw`
+  pub one-withdrawal : {r s : Answer} {u v : List ℕ} → outcome r u ≡ withdrawOf ws os → outcome s v ≡ withdrawOf ws os → (r ≡ s) × (u ≡ v)
+  one-withdrawal = two-outcomes
+
+  -- `agree::check`
+  pub one-agreement : {r s : Answer} → r ≡ agreesOf ws → s ≡ agreesOf ws → r ≡ s
+  one-agreement = same
+
+-- ---- "a refusal changes nothing lent to the call"
+
+-- A refusal leaves all words and bytes that were lent to be written as they came, and counts none as written.
+module _ (ws os text out : List ℕ) (k line d : ℕ) where
+  -- `book::open`
+  pub open-leaves : (openOf ws k .answer .number ≡ done → ⊥) → openOf ws k .words ≡ ws
+  open-leaves = open-refusal-leaves ws k
+
+  -- `teach::teach`
+  pub teach-leaves : (teachOf ws os .answer .number ≡ done → ⊥) → teachOf ws os .words ≡ ws
+  teach-leaves = teach-refusal-leaves ws os
+
+  -- `teach::withdraw`
+  pub withdraw-leaves : (withdrawOf ws os .answer .number ≡ done → ⊥) → withdrawOf ws os .words ≡ ws
+  withdraw-leaves = withdraw-refusal-leaves ws os
+
+  -- `form::read`
+  pub read-leaves : (readOf text out .answer .number ≡ done → ⊥) → (readOf text out .out ≡ out) × (readOf text out .answer .count ≡ 0)
+  read-leaves = read-refusal-leaves text out
+
+  -- `print::write`
+  pub write-leaves : (writeOf os out .answer .number ≡ done → ⊥) → (writeOf os out .out ≡ out) × (writeOf os out .answer .count ≡ 0)
+  write-leaves = print-refusal-leaves os out
+
+  -- `cuts::cut_into`
+  pub cut-leaves : (cutIntoOf os line d out .answer .number ≡ done → ⊥) → (cutIntoOf os line d out .out ≡ out) × (cutIntoOf os line d out .answer .count ≡ 0)
+  cut-leaves = cut-refusal-leaves os out line d
+
+  -- `parts::part_into`
+  pub part-leaves : (partIntoOf os line k out .answer .written .number ≡ done → ⊥)
+      → (partIntoOf os line k out .out ≡ out) × (partIntoOf os line k out .answer .written .count ≡ 0)
+  part-leaves = part-refusal-leaves os out line k

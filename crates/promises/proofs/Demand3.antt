@@ -1,0 +1,76 @@
+-- Demand 3: "Open an empty book of an allowed k and size, then teach and withdraw in any sequence, refused calls included. Its parts and counts are
+-- exactly those of the orders that remain. In every word it is the book you get by teaching just the remaining orders, each as often as it remains,
+-- in whichever order, and none of those teachings is refused."
+--
+-- A call has any words as its order; `after` is the slice after a list of calls, and `remaining` the orders that remain of them by the calls' own
+-- answers (specs/Remaining.antt). Assumes nothing.
+use Prim.Native.Nat.{ℕ, _≤_, _<_}
+use mathlib.Core.Path.{_≡_}
+use mathlib.Core.List.{List, [], _∷_}
+use lib.ListN.{length}
+use Rattle.figures.specs.Limits.{head-words, most-book-words, least-k, greatest-k, greatest-count}
+use Rattle.figures.specs.Numbers.{done, no-room, too-many}
+use Rattle.figures.specs.Answers.{answered}
+use Rattle.order.specs.Trees.{Tree}
+use Rattle.order.specs.Fits.{IsOrder}
+use Rattle.book.specs.Book.{used}
+use Rattle.book.specs.Opening.{openOf}
+use Rattle.judge.specs.Judging.{judgeOf}
+use Rattle.teach.specs.Calls.{teachOf}
+use Rattle.effects.specs.Conditions.{_exactly-when_}
+use Rattle.agree.specs.Checking.{checkOf}
+use Rattle.promises.specs.Remaining.{Call, after, remaining, SameOrders, taughtAll, NoneRefused, booked, ExactlyThese, MadeOf}
+use Rattle.promises.proofs.Remaining.{opens, holds-exactly, taught-alone}
+use Rattle.promises.proofs.Passing.{passes-made}
+use Rattle.promises.proofs.Conditions.{teaching-7, teaching-6, teaching-0}
+use Rattle.promises.proofs.Checks.{grown-agrees}
+
+-- "Open an empty book of an allowed k and size"
+module _ (slice : List ℕ) (k : ℕ) (long : head-words ≤ length slice) (short : length slice ≤ most-book-words) (least : least-k ≤ k) (greatest : k ≤ greatest-k) where
+  -- Opening is done.
+  pub opening-done : openOf slice k .answer ≡ answered done
+  opening-done = opens slice k long short least greatest
+
+  -- "then teach and withdraw in any sequence, refused calls included"
+  module _ (cs : List Call) where
+    -- The slice then.
+    abbrev pub book : List ℕ
+    book = after cs (openOf slice k .words)
+
+    -- The orders that remain, each as often as it remains.
+    abbrev pub orders : List (List ℕ)
+    orders = remaining cs (openOf slice k .words) []
+
+    -- "Its parts and counts are exactly those of the orders that remain": by document 000's r, l and p, as demand 2 has them. So it is in form, of
+    -- this k, and word 2 is how many orders remain.
+    pub parts-and-counts : ExactlyThese k orders book
+    parts-and-counts = holds-exactly slice k long short least greatest cs
+
+    -- "In every word it is the book you get by teaching just the remaining orders, each as often as it remains, in whichever order, and none of those
+    -- teachings is refused": in any slice of the same length, whatever stood in it before it was opened.
+    pub in-every-word : (other : List ℕ) → length other ≡ length slice → (qs : List (List ℕ)) → SameOrders qs orders
+        → NoneRefused qs (openOf other k .words) × (taughtAll qs (openOf other k .words) ≡ book)
+    in-every-word = taught-alone slice k long short least greatest cs
+
+    -- It "agrees with itself": `agree::check` answers 0.
+    pub agrees-with-itself : checkOf book ≡ answered done
+    agrees-with-itself = grown-agrees slice k long short least greatest cs
+
+    -- Demands 2 and 3 together: "A new order made only of parts the book has seen passes" and no other does. `judge::judge` answers 0 exactly if the
+    -- order's r is the r of an order that remains, each of its l an l of one, and each of its p a p of one.
+    pub passes-by-remaining : (os : List ℕ) (t : Tree) → IsOrder os t → (judgeOf book os ≡ answered done) exactly-when MadeOf k orders t
+    passes-by-remaining os t = passes-made k orders book os t parts-and-counts
+
+    -- Not all of this could be met by refusing everything: an order within limits is refused by 7 exactly if 65,535 orders remain,
+    pub refused-by-7 : (os : List ℕ) (t : Tree) → IsOrder os t → (teachOf book os .answer .number ≡ too-many) exactly-when (length orders ≡ greatest-count)
+    refused-by-7 = teaching-7 slice k long short least greatest cs
+
+    -- by 6 exactly if fewer remain and the book of these with this one more needs more words than the slice has,
+    pub refused-by-6 : (os : List ℕ) (t : Tree) → IsOrder os t
+        → (teachOf book os .answer .number ≡ no-room) exactly-when ((length orders < greatest-count) × (length slice < used (booked k (os ∷ orders))))
+    refused-by-6 = teaching-6 slice k long short least greatest cs
+
+    -- and is taught exactly if fewer remain and that book has room.
+    pub taught-exactly : (os : List ℕ) (t : Tree) → IsOrder os t
+        → (teachOf book os .answer .number ≡ done) exactly-when ((length orders < greatest-count) × (used (booked k (os ∷ orders)) ≤ length slice))
+    taught-exactly = teaching-0 slice k long short least greatest cs

@@ -1,0 +1,142 @@
+-- For all inputs: a refusal "leaves all lent words and bytes as they came" and counts 0, and what a call writes stands at the front of the
+-- output, with the words behind it as they came. Assumes nothing.
+use Prim.Native.Nat.{ℕ, _+_, _-_, _≤_, _<_}
+use mathlib.Core.Path.{_≡_, refl, sym, ap, _∙_}
+use mathlib.Core.Bool.{Bool, true, false}
+use mathlib.Core.List.{List, []}
+use native.Mathlib.Decide.{decLt}
+use native.Mathlib.Omega.{arith}
+use lib.ListN.{length, drop, getD}
+use lib.Seq.{getD-append-add, getD-drop}
+use Rattle.words.specs.Base.{if_then_else_, within, over}
+use Rattle.figures.specs.Limits.{least-k, greatest-k}
+use Rattle.figures.specs.Numbers.{done, k-outside, book-size, short-output}
+use Rattle.figures.specs.Answers.{wrote, refusedAt}
+use Rattle.order.specs.Trees.{Tree, words, cut, subtrees}
+use Rattle.order.specs.Reading.{Found, missing, found, byFound, Order, refused, order, byOrder, orderOf}
+use Rattle.order.specs.Parts.{partOf}
+use Rattle.order.specs.Answers.{lineOf, Writing, writing, refuse, write, cutIntoOf, PartWriting, partWriting, noPart, ofKind, partIntoOf}
+use Rattle.order.proofs.Cuts.{no-output-room, has-room}
+use Rattle.form.specs.Text.{textOf}
+use Rattle.form.specs.Reading.{Form, fault, form, byForm, formOf, wordsOf, readOf}
+use Rattle.form.specs.Writing.{writeOf}
+use Rattle.book.specs.Decoding.{sized}
+use Rattle.book.specs.Taught.{bookOf}
+use Rattle.book.specs.Opening.{Outcome, leave, writeBook, openOf}
+use Rattle.effects.specs.Conditions.{_exactly-when_}
+
+-- ---- words written to the front of a lent output
+
+module _ (new out : List ℕ) where
+  -- Words that the output is too short for are refused by 11.
+  pub write-refuses : length out < length new → write new out ≡ refuse short-output out
+  write-refuses h = sym (no-output-room new out (wrote short-output 0) refl h)
+
+  -- Words that it has room for stand at its front, and are counted.
+  pub write-writes : length new ≤ length out → write new out ≡ writing (wrote done (length new)) (over new out)
+  write-writes h = sym (has-room new out (wrote done (length new)) (length new) (over new out) refl refl h refl)
+
+  -- A refusal to write them leaves the output and counts 0.
+  write-leaves : (write new out .answer .number ≡ done → ⊥) → (write new out .out ≡ out) × (write new out .answer .count ≡ 0)
+  write-leaves x = go (decLt (length out) (length new))
+    where
+      go : Dec (length out < length new) → (write new out .out ≡ out) × (write new out .answer .count ≡ 0)
+      go (yes h) = (ap (λ (w : Writing). w .out) (write-refuses h), ap (λ (w : Writing). w .answer .count) (write-refuses h))
+      go (no h) = absurd (x (ap (λ (w : Writing). w .answer .number) (write-writes (omega arith))))
+
+  -- 11, "lent output too short": exactly when it has fewer words than are to be written.
+  pub write-short : (write new out .answer .number ≡ short-output) exactly-when (length out < length new)
+  write-short = (λ e. go e (decLt (length out) (length new)), λ h. ap (λ (w : Writing). w .answer .number) (write-refuses h))
+    where
+      go : write new out .answer .number ≡ short-output → Dec (length out < length new) → length out < length new
+      go e (yes h) = h
+      go e (no h) = absurd (omega (arith, ap (λ (w : Writing). w .answer .number) (write-writes (omega arith))))
+
+  -- A word behind those written over the front is the one that stood there.
+  over-stays : (i : ℕ) → length new ≤ i → getD (over new out) i 0 ≡ getD out i 0
+  over-stays i h =
+      let e : length new + (i - length new) ≡ i = omega arith in
+      ap (λ (j : ℕ). getD (over new out) j 0) (sym e)
+      ∙ getD-append-add new (drop (length new) out) (i - length new) 0
+      ∙ getD-drop (length new) out (i - length new) 0
+      ∙ ap (λ (j : ℕ). getD out j 0) e
+
+  -- "later output words stay"
+  pub later-words-stay : (i : ℕ) → length new ≤ i → getD (write new out .out) i 0 ≡ getD out i 0
+  later-words-stay i l = go (decLt (length out) (length new))
+    where
+      go : Dec (length out < length new) → getD (write new out .out) i 0 ≡ getD out i 0
+      go (yes h) = ap (λ (w : Writing). getD (w .out) i 0) (write-refuses h)
+      go (no h) = ap (λ (w : Writing). getD (w .out) i 0) (write-writes (omega arith)) ∙ over-stays i l
+
+-- ---- the calls that write
+
+-- A call that writes words of an order leaves the output where it refuses, be it for the order or for want of room.
+order-leaves : (o : Order) (out : List ℕ) (new : Tree → List ℕ) (w : Writing) → w ≡ byOrder o (λ n. refuse n out) (λ t. write (new t) out)
+    → (w .answer .number ≡ done → ⊥) → (w .out ≡ out) × (w .answer .count ≡ 0)
+unfolding byOrder
+order-leaves (refused n) out new w e x = rw e (refl, refl)
+order-leaves (order t) out new w e x = rw e (write-leaves (new t) out (rw e at x))
+
+-- Writing a form leaves the output where it refuses.
+pub print-refusal-leaves : (os out : List ℕ) → (writeOf os out .answer .number ≡ done → ⊥) → (writeOf os out .out ≡ out) × (writeOf os out .answer .count ≡ 0)
+unfolding writeOf
+print-refusal-leaves os out x = order-leaves (orderOf os) out textOf (writeOf os out) refl x
+
+-- Cutting into an output leaves it where it refuses.
+pub cut-refusal-leaves : (os out : List ℕ) (line d : ℕ) → (cutIntoOf os line d out .answer .number ≡ done → ⊥)
+    → (cutIntoOf os line d out .out ≡ out) × (cutIntoOf os line d out .answer .count ≡ 0)
+unfolding cutIntoOf
+cut-refusal-leaves os out line d x =
+    order-leaves (orderOf os) out (λ t. byFound (lineOf line (subtrees t)) [] (λ s. words (cut s d))) (cutIntoOf os line d out) refl x
+
+-- Writing the part of a line leaves the output where it refuses.
+pub part-refusal-leaves : (os out : List ℕ) (line k : ℕ) → (partIntoOf os line k out .answer .written .number ≡ done → ⊥)
+    → (partIntoOf os line k out .out ≡ out) × (partIntoOf os line k out .answer .written .count ≡ 0)
+unfolding partIntoOf byOrder byFound
+part-refusal-leaves os out line k = by-order (orderOf os)
+  where
+    -- What the call does with the tree of the line, if there is one.
+    part : Found → PartWriting
+    part s = byFound s (partWriting (noPart done) out) (λ s. ofKind (partOf k s .kind) (write (words (partOf k s .tree)) out))
+
+    by-line : (s : Found) → (part s .answer .written .number ≡ done → ⊥) → (part s .out ≡ out) × (part s .answer .written .count ≡ 0)
+    by-line missing x = absurd (x refl)
+    by-line (found s) x = write-leaves (words (partOf k s .tree)) out x
+
+    -- What the call does with the order.
+    whole : Order → PartWriting
+    whole o = byOrder o (λ n. partWriting (noPart n) out) (λ t. part (lineOf line (subtrees t)))
+
+    by-order : (o : Order) → (whole o .answer .written .number ≡ done → ⊥) → (whole o .out ≡ out) × (whole o .answer .written .count ≡ 0)
+    by-order (refused n) x = (refl, refl)
+    by-order (order t) x = by-line (lineOf line (subtrees t)) x
+
+-- Reading a form leaves the output where it refuses.
+pub read-refusal-leaves : (text out : List ℕ) → (readOf text out .answer .number ≡ done → ⊥) → (readOf text out .out ≡ out) × (readOf text out .answer .count ≡ 0)
+unfolding readOf byForm
+read-refusal-leaves text out = go (formOf text)
+  where
+    -- What the call does with the form.
+    whole : Form → Writing
+    whole f = byForm f (λ n line. writing (refusedAt n line) out) (λ xs. write (wordsOf xs) out)
+
+    go : (f : Form) → (whole f .answer .number ≡ done → ⊥) → (whole f .out ≡ out) × (whole f .answer .count ≡ 0)
+    go (fault n line) x = (refl, refl)
+    go (form xs) x = write-leaves (wordsOf xs) out x
+
+-- ---- opening
+
+-- Opening leaves the slice where it refuses.
+pub open-refusal-leaves : (ws : List ℕ) (k : ℕ) → (openOf ws k .answer .number ≡ done → ⊥) → openOf ws k .words ≡ ws
+unfolding openOf if_then_else_
+open-refusal-leaves ws k = go (sized ws) (within least-k greatest-k k)
+  where
+    -- What opening does, by the tests of the size and of k.
+    whole : Bool → Bool → Outcome
+    whole a b = if a then (if b then writeBook ws (bookOf k []) else leave ws k-outside) else leave ws book-size
+
+    go : (a b : Bool) → (whole a b .answer .number ≡ done → ⊥) → whole a b .words ≡ ws
+    go true true x = absurd (x refl)
+    go true false x = refl
+    go false b x = refl

@@ -1,0 +1,154 @@
+-- Opening, and reading and writing a form, answer exactly by the rows of 01's table, as specs/Whys.antt states them, for any words: every answer
+-- has its row, and what has a row is the answer. Assumes nothing.
+use Prim.Native.Nat.{ℕ, _≤_, _<_}
+use mathlib.Core.Path.{_≡_, refl, sym, ap, subst, _∙_}
+use mathlib.Core.List.{List, [], _∷_}
+use native.Mathlib.Decide.{decLt}
+use native.Mathlib.Omega.{arith}
+use borrow.Author.Tests.{lt-leb}
+use lib.ListN.{length}
+use Rattle.words.proofs.Tests.{fails-left, fails-right}
+use Rattle.figures.specs.Limits.{head-words, most-book-words, least-k, greatest-k}
+use Rattle.figures.specs.Numbers.{done, k-outside, book-size}
+use Rattle.figures.specs.Answers.{answered}
+use Rattle.order.specs.Trees.{Tree, words}
+use Rattle.order.specs.Reading.{byOrder, causeOf}
+use Rattle.order.specs.Causes.{Cause}
+use Rattle.order.specs.Fits.{IsOrder}
+use Rattle.order.specs.Answers.{Writing, refuse, write}
+use Rattle.order.proofs.Causes.{cause-is, cause-only, Seen, stopped, passed, seen, refused-by, order-passed}
+use Rattle.order.proofs.Fitting.{passed-order, order-read}
+use Rattle.form.specs.Text.{Line, linesOf, textOf}
+use Rattle.form.specs.Reading.{Form, fault, form, formOf, wordsOf, readOf}
+use Rattle.form.specs.Writing.{writeOf}
+use Rattle.form.proofs.FirstFault.{first-fault, fault-first, no-bytes as none-read}
+use Rattle.form.proofs.Trips.{order-text, form-order, order-write, form-write, fault-write}
+use Rattle.book.specs.Taught.{emptyBook, bookOf}
+use Rattle.book.specs.Opening.{Outcome, leave, writeBook, openOf}
+use Rattle.book.proofs.Heads.{too-short, too-long, is-sized}
+use Rattle.book.proofs.Openings.{open-unsized, no-depth, opened as opening}
+use Rattle.promises.specs.Whys.{WhyOpened, slice-short, slice-long, k-below, k-above, opened, WhyPrinted, print-no-order, print-short, printed, WhyRead, no-bytes, at-fault, read-short, read}
+use Rattle.promises.proofs.Refusals.{write-refuses, write-writes}
+
+-- ---- opening
+
+module _ (ws : List ℕ) (k : ℕ) where
+  -- A slice that is too short is refused by 4.
+  opens-short : length ws < head-words → openOf ws k ≡ leave ws book-size
+  opens-short h = open-unsized ws k (answered book-size) refl (too-short ws h)
+
+  -- So is one that is too long.
+  opens-long : most-book-words < length ws → openOf ws k ≡ leave ws book-size
+  opens-long h = open-unsized ws k (answered book-size) refl (too-long ws h)
+
+  module _ (l : head-words ≤ length ws) (s : length ws ≤ most-book-words) where
+    -- In any other a k that is too low is refused by 3.
+    opens-below : k < least-k → openOf ws k ≡ leave ws k-outside
+    opens-below h = no-depth ws k (answered k-outside) refl (is-sized ws l s) (fails-left _ _ (lt-leb least-k k h))
+
+    -- So is one that is too high.
+    opens-above : greatest-k < k → openOf ws k ≡ leave ws k-outside
+    opens-above h = no-depth ws k (answered k-outside) refl (is-sized ws l s) (fails-right _ _ (lt-leb k greatest-k h))
+
+    -- At any other k the book of no orders is written.
+    opens-empty : least-k ≤ k → k ≤ greatest-k → openOf ws k ≡ writeBook ws (emptyBook k)
+    unfolding bookOf
+    opens-empty a z = opening ws k l s a z
+
+  -- Opening answers by a row of 01's table.
+  pub opened-why : WhyOpened ws k (openOf ws k)
+  opened-why = by-size (decLt (length ws) head-words) (decLt most-book-words (length ws))
+    where
+      by-depth : head-words ≤ length ws → length ws ≤ most-book-words → Dec (k < least-k) → Dec (greatest-k < k) → WhyOpened ws k (openOf ws k)
+      by-depth l s (yes h) d = k-below (opens-below l s h) l s h
+      by-depth l s (no h) (yes g) = k-above (opens-above l s g) l s g
+      by-depth l s (no h) (no g) = opened (opens-empty l s (omega arith) (omega arith)) l s (omega arith) (omega arith)
+
+      by-size : Dec (length ws < head-words) → Dec (most-book-words < length ws) → WhyOpened ws k (openOf ws k)
+      by-size (yes h) d = slice-short (opens-short h) h
+      by-size (no h) (yes g) = slice-long (opens-long g) g
+      by-size (no h) (no g) = by-depth (omega arith) (omega arith) (decLt k least-k) (decLt greatest-k k)
+
+  -- Opening answers by no other row: what has one is what it does.
+  pub opened-only : (o : Outcome) → WhyOpened ws k o → openOf ws k ≡ o
+  opened-only o (slice-short e h) = opens-short h ∙ sym e
+  opened-only o (slice-long e h) = opens-long h ∙ sym e
+  opened-only o (k-below e l s h) = opens-below l s h ∙ sym e
+  opened-only o (k-above e l s h) = opens-above l s h ∙ sym e
+  opened-only o (opened e l s a z) = opens-empty l s a z ∙ sym e
+
+-- ---- writing a form
+
+module _ (os out : List ℕ) where
+  -- Words with a cause of 1 or 2 are refused by it.
+  prints-none : (n : ℕ) → Cause os n → (n ≡ done → ⊥) → writeOf os out ≡ refuse n out
+  unfolding writeOf byOrder
+  prints-none n c x =
+      let q : causeOf os ≡ n = cause-only os n c in
+      rw (refused-by os (λ z. x (sym q ∙ z))) (ap (λ (m : ℕ). refuse m out) q)
+
+  -- Of an order the text is written, if there is room.
+  prints-text : (t : Tree) → IsOrder os t → writeOf os out ≡ write (textOf t) out
+  prints-text t q = order-write os t out (order-read os t q)
+
+  -- Writing a form answers by a row of 01's table.
+  pub printed-why : WhyPrinted os out (writeOf os out)
+  printed-why = go (seen os)
+    where
+      by-room : (t : Tree) → IsOrder os t → Dec (length out < length (textOf t)) → WhyPrinted os out (writeOf os out)
+      by-room t q (yes h) = print-short t (prints-text t q ∙ write-refuses (textOf t) out h) q h
+      by-room t q (no h) = let l : length (textOf t) ≤ length out = omega arith in printed t (prints-text t q ∙ write-writes (textOf t) out l) q l
+
+      go : Seen os → WhyPrinted os out (writeOf os out)
+      go (stopped h r) = print-no-order (causeOf os) (prints-none (causeOf os) (cause-is os) h) (cause-is os) h
+      go (passed t h p) = by-room t (passed-order os t p) (decLt (length out) (length (textOf t)))
+
+  -- It answers by no other row: what has one is what it does.
+  pub printed-only : (w : Writing) → WhyPrinted os out w → writeOf os out ≡ w
+  printed-only w (print-no-order n e c x) = prints-none n c x ∙ sym e
+  printed-only w (print-short t e q h) = prints-text t q ∙ write-refuses (textOf t) out h ∙ sym e
+  printed-only w (printed t e q l) = prints-text t q ∙ write-writes (textOf t) out l ∙ sym e
+
+-- ---- reading a form
+
+-- Of the text of an order the order's words are written, if there is room.
+reads-words : (text out : List ℕ) (t : Tree) → text ≡ textOf t → IsOrder (words t) t → readOf text out ≡ write (words t) out
+reads-words text out t x q =
+    let f = order-text (words t) t (order-read (words t) t q) in
+    form-write text (linesOf t 0) out (ap formOf x ∙ f .0) ∙ ap (λ (v : List ℕ). write v out) (f .1)
+
+-- The order whose text a text is.
+record TextOf (text : List ℕ) : Type 0 where
+  tree : Tree
+  spelt : text ≡ textOf tree
+  isOrder : IsOrder (words tree) tree
+
+-- A text that is a form is the text of an order.
+form-is : (text : List ℕ) (xs : List Line) → formOf text ≡ form xs → TextOf text
+form-is text xs e =
+    let f = form-order text xs e in
+    let q : IsOrder (wordsOf xs) (f .0) = passed-order (wordsOf xs) (f .0) (order-passed (wordsOf xs) (f .0) (f .1)) in
+    record { tree = f .0; spelt = sym (f .3); isOrder = subst (λ (v : List ℕ). IsOrder v (f .0)) (q .spelt) q }
+
+-- Reading a form answers by a row of 01's table.
+pub read-why : (text out : List ℕ) → WhyRead text out (readOf text out)
+read-why [] out = no-bytes (none-read out) refl
+read-why (b ∷ bs) out = go (formOf (b ∷ bs)) refl
+  where
+    by-room : (f : TextOf (b ∷ bs)) → Dec (length out < length (words (f .tree))) → WhyRead (b ∷ bs) out (readOf (b ∷ bs) out)
+    by-room f (yes h) =
+        read-short (f .tree) (reads-words (b ∷ bs) out (f .tree) (f .spelt) (f .isOrder) ∙ write-refuses (words (f .tree)) out h) (f .spelt) (f .isOrder) h
+    by-room f (no h) =
+        let l : length (words (f .tree)) ≤ length out = omega arith in
+        read (f .tree) (reads-words (b ∷ bs) out (f .tree) (f .spelt) (f .isOrder) ∙ write-writes (words (f .tree)) out l) (f .spelt) (f .isOrder) l
+
+    go : (f : Form) → formOf (b ∷ bs) ≡ f → WhyRead (b ∷ bs) out (readOf (b ∷ bs) out)
+    go (fault n line) e = let o : 0 < length (b ∷ bs) = omega arith in at-fault n line (fault-write (b ∷ bs) out e) o (first-fault (b ∷ bs) n line o e)
+    go (form xs) e = let f = form-is (b ∷ bs) xs e in by-room f (decLt (length out) (length (words (f .tree))))
+
+-- It answers by no other row: what has one is what it does.
+pub read-only : (text out : List ℕ) (w : Writing) → WhyRead text out w → readOf text out ≡ w
+read-only text out w (no-bytes e z) = ap (λ (s : List ℕ). readOf s out) z ∙ none-read out ∙ sym e
+read-only text out w (at-fault n line e o f) = fault-write text out (fault-first text n line f) ∙ sym e
+read-only text out w (read-short t e x q h) = reads-words text out t x q ∙ write-refuses (words t) out h ∙ sym e
+read-only text out w (read t e x q l) = reads-words text out t x q ∙ write-writes (words t) out l ∙ sym e
