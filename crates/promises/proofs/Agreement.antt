@@ -17,6 +17,7 @@ use Rattle.order.specs.Fits.{IsOrder}
 use Rattle.order.specs.Paper.{IsR, IsL, IsP}
 use Rattle.order.proofs.Unique.{words-unique}
 use Rattle.book.specs.Book.{Book, sectionOf, inForm}
+use Rattle.book.specs.Sound.{SoundBook}
 use Rattle.book.specs.Taught.{Teaching, bookOf, teachingsIn, anyTree, sameSection, agreeing}
 use Rattle.book.specs.declared.Section.{Section}
 use Rattle.book.specs.declared.Section.the-variants.{Tops, Lows, Middles}
@@ -99,7 +100,7 @@ module _ (k : ℕ) (s : Section) where
 -- ---- sections with the same counts of every tree
 
 -- Two sorted sections whose keys are words of trees, with equal counts of every tree, are equal.
-same-trees : (a c : List Entry) → Sorted a → Sorted c → ((e : Entry) → e ∈ a → (u : Tree) × (e .key ≡ words u)) → ((e : Entry) → e ∈ c → (u : Tree) × (e .key ≡ words u))
+pub same-trees : (a c : List Entry) → Sorted a → Sorted c → ((e : Entry) → e ∈ a → (u : Tree) × (e .key ≡ words u)) → ((e : Entry) → e ∈ c → (u : Tree) × (e .key ≡ words u))
     → ((u : Tree) → countOf (words u) a ≡ countOf (words u) c) → a ≡ c
 same-trees a c sa sc ta tc same = same-counts a c sa sc (λ z. go z (has z a) refl (has z c) refl)
   where
@@ -116,6 +117,10 @@ same-trees a c sa sc ta tc same = same-counts a c sa sc (λ z. go z (has z a) re
     go z true h q i = let x = has-entry z a h in by-tree z (x .0) (x .2) (ta (x .0) (x .1))
     go z false h true i = let x = has-entry z c i in by-tree z (x .0) (x .2) (tc (x .0) (x .1))
     go z false h false i = absent z a sa h ∙ sym (absent z c sc i)
+
+-- Each key of a sound book is the words of a tree.
+pub sound-trees : (b : Book) → SoundBook b → (s : Section) (e : Entry) → e ∈ sectionOf s b → (u : Tree) × (e .key ≡ words u)
+sound-trees b x s e m = let f = sound-section b x s .entry e m .tree in (f .tree, f .isOrder .spelt)
 
 -- ---- agreeing
 
@@ -147,7 +152,7 @@ module _ (b : Book) (form : inForm b ≡ true) where
   own-section : (s : Section) → ((u : Tree) → countOf (words u) (sectionOf s b) ≡ countOf (words u) (sectionOf s own)) → sectionOf s b ≡ sectionOf s own
   own-section s same =
       same-trees (sectionOf s b) (sectionOf s own) (form-sorted b form s) (teachings-sorted (b .k) (b .T) (form-orders b form) s)
-      (λ e m. let f = sound-section b (form-sound b form) s .entry e m .tree in (f .tree, f .isOrder .spelt))
+      (sound-trees b (form-sound b form) s)
       (keys-trees (b .k) s (teachingsIn (b .T)))
       same
 

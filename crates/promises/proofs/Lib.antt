@@ -13,4 +13,6 @@ pub mod Cases
 pub mod Demand1
 pub mod Demand2
 pub mod Demand3
+pub mod Uniqueness
+pub mod Impostors
 mod Rows

@@ -1,8 +1,9 @@
-// What `teach`, `withdraw` and `judge` answer on one book that is kept from line to line:
+// What `teach`, `withdraw`, `judge` and `check` answer on one book that is kept from line to line:
 //   lay W W ..        the kept book is these words from now on
 //   teach W W ..      the order of these words is taught to the kept book
 //   withdraw W W ..   the order of these words is withdrawn from it
 //   ask W W ..        the order of these words is judged by it
+//   agrees            it is checked to agree with itself
 //   show              says every word of it
 // *N behind a word lets it stand N times in all. Each call says its answer, word 1 of the book and a mark of 32 bits of all the words of its
 // slice: where a mark differs a word changed, and where it is the same it is all but certain that none did.
@@ -73,6 +74,17 @@ fn with_order(call: Call, book: &mut [u16], list: &[u8]) {
     state(book);
 }
 
+// Says whether a book agrees with itself, and how it stands.
+fn agrees(book: &[u16], rest: &[u8]) {
+    if rest.len() != 0 {
+        say::not_understood();
+        return;
+    }
+    books::answer(agree::check(book));
+    say::text(b", ");
+    state(book);
+}
+
 // Says every word of a book.
 fn show(book: &[u16], rest: &[u8]) {
     if rest.len() != 0 {
@@ -98,6 +110,10 @@ fn on(kind: &[u8], behind: &[u8], book: &mut [u16]) {
     }
     if same::bytes(kind, b"ask") {
         with_order(Call::Ask, book, behind);
+        return;
+    }
+    if same::bytes(kind, b"agrees") {
+        agrees(book, behind);
         return;
     }
     if same::bytes(kind, b"show") {

@@ -43,9 +43,9 @@ fn withdraw_order(book: &mut [u16], places: Places, order: &[u16]) -> Answer
     requires { ⌜ Holds (now book) places ⌝ }
     ensures { λ r. ⌜ outcome r (now (book .exit)) ≡ withdrawOf (now (book .entry)) (now (order .entry)) ⌝ }
 {
-    let checked = order::check(order);
-    if checked.number != numbers::DONE {
-        return checked;
+    let cause = order::check(order);
+    if cause.number != numbers::DONE {
+        return cause;
     }
     let mut own = [0u16; own::OWN_WORDS];
     let owns = own::list_own(order, places.k, &mut own);
