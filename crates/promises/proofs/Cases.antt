@@ -2,14 +2,25 @@
 -- order. Assumes nothing.
 use Prim.Native.Nat.{ℕ, _≤_}
 use mathlib.Core.Path.{_≡_, refl}
-use mathlib.Core.List.{List, [], _∷_, _++_}
+use mathlib.Core.List.{List, [], _∷_, _++_, List·Memᴰ·not-nil}
+use lib.ListN.{length}
+use Rattle.figures.specs.Limits.{head-words, most-book-words, least-k, greatest-k}
+use Rattle.figures.specs.Numbers.{top-unknown}
+use Rattle.order.specs.Trees.{Tree}
+use Rattle.order.specs.Fits.{IsOrder}
 use Rattle.form.specs.Reading.{readOf}
+use Rattle.book.specs.Taught.{bookOf}
+use Rattle.book.specs.Opening.{openOf}
+use Rattle.judge.specs.Judging.{judgeOf}
+use Rattle.judge.specs.Verdicts.{In}
+use Rattle.judge.proofs.Answers.{top-answered}
+use Rattle.book.proofs.Openings.{opened-book}
 use Rattle.promises.specs.Heard.{A, B, C, single, pair, three, opens, teaches, withdraws, judges, slice, heard, readAs}
 use Rattle.promises.proofs.Computed.{computes}
 
 -- What the definitions say: of each call "answer, line, words used", and of a text that is read answer, line, words written and the output.
 -- Each slice has no word more than it needs.
-unfoldable outcomes : List (List ℕ)
+unfoldable pub outcomes : List (List ℕ)
 outcomes =
     heard (opens 3 ∷ teaches A ∷ teaches B ∷ withdraws A ∷ []) (slice 109)
     ++ (heard (opens 2 ∷ teaches A ∷ []) (slice 51)
@@ -24,7 +35,7 @@ outcomes =
     ∷ []))))))))
 
 -- What 01 says.
-unfoldable table : List (List ℕ)
+unfoldable pub table : List (List ℕ)
 table =
     -- 1. "Opened, k=3: 7 words used."
     (0 ∷ 0 ∷ 7 ∷ [])
@@ -70,6 +81,21 @@ table =
     ∷ []
 
 -- They say the same.
-cases : outcomes ≡ table
+pub cases : outcomes ≡ table
 unfolding outcomes table computes
 cases = refl
+
+-- Nothing is in the R of the book of no orders.
+none-in : (k : ℕ) (u : Tree) → In (bookOf k [] .R) u → ⊥
+unfolding bookOf
+none-in k u i = List·Memᴰ·not-nil (i .there)
+
+-- Case 11: "Empty book: any order within limits, 20, line 1", of any allowed k and size.
+pub case-11 : (slice : List ℕ) (k : ℕ) → head-words ≤ length slice → length slice ≤ most-book-words → least-k ≤ k → k ≤ greatest-k
+    → (os : List ℕ) (t : Tree) → IsOrder os t → judgeOf (openOf slice k .words) os ≡ record { number = top-unknown; line = 1 }
+case-11 slice k long short least greatest os t o =
+    top-answered _ os 1 (record {
+      lent = record { book = bookOf k []; tree = t; isBook = opened-book slice k long short least greatest; isOrder = o };
+      first = refl;
+      unknown = λ u r i. none-in k u i;
+    })
