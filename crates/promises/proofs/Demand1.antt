@@ -1,11 +1,11 @@
 -- Demand 1: "Every call ends and touches only what it was lent, for any order, text or book. Bad input gets the refusal number listed for it, and a
 -- refusal changes nothing lent to the call."
 --
--- That a call ends, reads and writes only within what it was lent and wraps no sum is no statement of this file: it is in the theorem of each
--- function, which the prover checks before it passes a crate (`statement` of the function's module; a crate with a function that lacks it does not
--- pass). What is lent by `&` comes back as it was, by the same theorem: so `order::check`, `cuts::subtree`, `book::in_form`, `judge::judge` and
--- `agree::check`, which are lent nothing to write, change nothing. Of the others this file speaks. That the equations here are those of the
--- contracts, which ask nothing of their callers, is proofs/Contracts.antt. Assumes nothing.
+-- That a call ends, reads and writes only within what it was lent and wraps no sum is the theorem of each function, which the prover checks before it
+-- passes a crate: proofs/Contracts.antt cites those of the public functions (`teach-meets` and the like), and shows that their contracts ask nothing
+-- and say just the equations that stand here (`teach-says` and the like). What is lent by `&` comes back as it was, by the same theorem: so
+-- `order::check`, `cuts::subtree`, `book::in_form`, `judge::judge` and `agree::check`, which are lent nothing to write, change nothing. Of what the others
+-- leave this file speaks. Assumes nothing.
 use Prim.Native.Nat.{ℕ}
 use mathlib.Core.Path.{_≡_, sym, ap, _∙_}
 use mathlib.Core.List.{List}
