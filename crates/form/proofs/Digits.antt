@@ -49,7 +49,7 @@ first-figure : (c a b d m₀ m₁ m₂ : ℕ) → 10 * a + m₀ ≡ c → 10 * b
 first-figure c a b d m₀ m₁ m₂ p q r h = omega arith
 
 -- The four digits of a code have its value.
-value-digits : (c : ℕ) → c ≤ greatest-code → value (digit (c / 1000)) (digit (c / 100)) (digit (c / 10)) (digit c) ≡ c
+pub value-digits : (c : ℕ) → c ≤ greatest-code → value (digit (c / 1000)) (digit (c / 100)) (digit (c / 10)) (digit c) ≡ c
 unfolding value
 value-digits c h =
     let e : c / 10 / 10 ≡ c / 100 = div-div-eq-div-mul c 10 10 in

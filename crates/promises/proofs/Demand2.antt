@@ -3,22 +3,24 @@
 --
 -- Document 000's r, l and p are `IsR`, `IsL` and `IsP` (order/specs/Paper.antt), said by positions and labels. A tree is in a section if one of its
 -- entries has the tree's words (`In`, judge/specs/Verdicts.antt). Assumes nothing.
-use Prim.Native.Nat.{ℕ, suc, _+_, _*_, _≤_, _<_}
-use mathlib.Core.Path.{_≡_, ap}
+use Prim.Native.Nat.{ℕ, suc, _+_, _*_, _/_, _%_, _≤_, _<_}
+use mathlib.Core.Path.{_≡_, refl, sym, ap, _∙_}
 use mathlib.Core.Bool.{false}
 use mathlib.Core.List.{List, [], _∷_, _++_}
+use native.Mathlib.Omega.{arith}
 use lib.ListN.{length, take}
-use Rattle.figures.specs.Limits.{least-code, most-nodes}
+use Rattle.figures.specs.Limits.{least-code, greatest-code, most-nodes}
 use Rattle.figures.specs.Numbers.{done, no-form}
 use Rattle.figures.specs.Answers.{answered, refusedAt}
 use Rattle.figures.specs.declared.Answer.{Answer}
 use Rattle.order.specs.Answers.{writing, write}
-use Rattle.form.specs.Text.{Line, digit-0, space, line-feed, code-size, levelText}
+use Rattle.form.specs.Text.{Line, digit-0, space, line-feed, code-size, levelText, codeText}
 use Rattle.form.specs.Reading.{isDigit, speltOf, form, readLines, readOf}
 use Rattle.form.specs.Faults.{greatest-level}
 use Rattle.form.specs.Writing.{writeOf}
 use Rattle.form.specs.declared.reading.LineRead.the-variants.{Node}
-use Rattle.form.proofs.Letters.{NotFour, NotRead, code-decimal, decimal-read, code-refused, byte-refused}
+use Rattle.form.proofs.Digits.{value-digits}
+use Rattle.form.proofs.Letters.{NotFour, NotRead, decimal, code-decimal, decimal-read, code-refused, byte-refused}
 use Rattle.form.proofs.Trips.{written-read, read-written}
 use Rattle.judge.specs.Judging.{judgeOf}
 use Rattle.judge.specs.Verdicts.{PassesBy}
@@ -34,6 +36,29 @@ pub passes-exactly : (ws os : List ℕ) → (judgeOf ws os ≡ answered done) ex
 passes-exactly ws os = (λ e. answered-passes ws os (ap (λ (a : Answer). a .number) e), passes-answered ws os)
 
 -- ---- "Codes are decimal."
+
+-- What stands behind a level on a line is a space, the four digits of a code in tens, and LF.
+pub record InTens (code : ℕ) (text : List ℕ) : Type 0 where
+  pub a : ℕ
+  pub b : ℕ
+  pub c : ℕ
+  pub d : ℕ
+  pub digits : (a < 10) × (b < 10) × (c < 10) × (d < 10)
+  pub text-is : text ≡ space ∷ (digit-0 + a) ∷ (digit-0 + b) ∷ (digit-0 + c) ∷ (digit-0 + d) ∷ line-feed ∷ []
+  pub code-is : code ≡ a * 1000 + b * 100 + c * 10 + d
+
+-- So it is on every line that is written, and, since a text is read exactly if it is the text of an order (`read-rows`), on every line that is read.
+pub written-in-tens : (code : ℕ) → code ≤ greatest-code → InTens code (codeText code)
+unfolding codeText
+written-in-tens code most = record {
+  a = code / 1000 % 10;
+  b = code / 100 % 10;
+  c = code / 10 % 10;
+  d = code % 10;
+  digits = (omega arith, omega arith, omega arith, omega arith);
+  text-is = refl;
+  code-is = sym (value-digits code most) ∙ decimal (code / 1000 % 10) (code / 100 % 10) (code / 10 % 10) (code % 10);
+}
 
 -- On a line of any level four digits are read as the number that they are in tens.
 pub read-in-tens : (l a b c d : ℕ) (rest : List ℕ) → l ≤ greatest-level → a < 10 → b < 10 → c < 10 → d < 10
