@@ -14,5 +14,6 @@ pub mod Demand1
 pub mod Demand2
 pub mod Demand3
 pub mod Uniqueness
+pub mod Wordings
 pub mod Impostors
 mod Rows
