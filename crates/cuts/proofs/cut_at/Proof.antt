@@ -1,4 +1,4 @@
--- `order::cut_at` meets its contract, by what the walk found and whether its cut has room. Assumes nothing.
+-- `cuts::cut_at` meets its contract, by what the walk found and whether its cut has room. Assumes nothing.
 use mathlib.Core.Path.{sym, subst, _∙_}
 use native.Mathlib.Omega.{arith}
 use lib.ListN.{length}

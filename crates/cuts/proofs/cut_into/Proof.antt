@@ -1,4 +1,4 @@
--- `order::cut_into` meets its contract, by where the line stands. Assumes nothing.
+-- `cuts::cut_into` meets its contract, by where the line stands. Assumes nothing.
 use mathlib.Core.Path.{ap, sym, _∙_}
 use borrow.Author.Needs.{needs}
 use Rattle.order.specs.Answers.{writing}

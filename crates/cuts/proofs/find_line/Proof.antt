@@ -1,4 +1,4 @@
--- `order::find_line` meets its contract: the cause refuses, or the order's length says which lines there are. Assumes nothing.
+-- `cuts::find_line` meets its contract: the cause refuses, or the order's length says which lines there are. Assumes nothing.
 use mathlib.Core.Path.{ap, sym, _∙_}
 use borrow.Author.Needs.{needs}
 use Rattle.order.specs.declared.Place.the-variants.{Refused}

@@ -1,4 +1,4 @@
--- `order::past` meets its contract: the walk's end, or 0 where it breaks. Assumes nothing.
+-- `cuts::past` meets its contract: the walk's end, or 0 where it breaks. Assumes nothing.
 use mathlib.Core.Path.{ap, sym, _∙_}
 use borrow.Author.Needs.{needs}
 use Rattle.order.specs.Walks.{endOf}

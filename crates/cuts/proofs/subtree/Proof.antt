@@ -1,4 +1,4 @@
--- `order::subtree` meets its contract, by where the line stands. Assumes nothing.
+-- `cuts::subtree` meets its contract, by where the line stands. Assumes nothing.
 use mathlib.Core.Path.{sym, _∙_}
 use borrow.Author.Needs.{needs}
 use Rattle.order.proofs.Lines.{placed}

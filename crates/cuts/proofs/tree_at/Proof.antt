@@ -1,4 +1,4 @@
--- `order::tree_at` meets its contract: the tree is the part up to the word past it. Assumes nothing.
+-- `cuts::tree_at` meets its contract: the tree is the part up to the word past it. Assumes nothing.
 use Prim.Native.Nat.{_≤_}
 use native.Mathlib.Omega.{arith}
 use lib.ListN.{length}

@@ -1,4 +1,4 @@
--- `order::kind_at` meets its contract, by the cases of the part. Assumes nothing.
+-- `parts::kind_at` meets its contract, by the cases of the part. Assumes nothing.
 use mathlib.Core.Path.{ap, sym, _∙_}
 use borrow.Author.Needs.{needs}
 use Rattle.order.specs.Walks.{kindOf}

@@ -1,4 +1,4 @@
--- `order::part_at` meets its contract, by what the walk found and the test of its depth. Assumes nothing.
+-- `parts::part_at` meets its contract, by what the walk found and the test of its depth. Assumes nothing.
 use mathlib.Core.Path.{refl, sym}
 use borrow.Author.Needs.{needs}
 use Rattle.order.proofs.PartsAt.{part-long, part-broken, part-low, part-middle}

@@ -1,4 +1,4 @@
--- `order::part_into` meets its contract, by where the line stands. Assumes nothing.
+-- `parts::part_into` meets its contract, by where the line stands. Assumes nothing.
 use mathlib.Core.Path.{ap, ap₂, sym, _∙_}
 use Prim.Native.Nat.{ℕ}
 use borrow.Author.Needs.{needs}

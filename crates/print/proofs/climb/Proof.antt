@@ -1,4 +1,4 @@
--- `form::writing::climb` meets its contract: the deepest level with trees to come is that from the level on that the loop has reached. Assumes nothing.
+-- `print::climb` meets its contract: the deepest level with trees to come is that from the level on that the loop has reached. Assumes nothing.
 use Prim.Native.Nat.{_≤_}
 use mathlib.Core.Path.{_≡_, sym, _∙_}
 use native.Mathlib.Omega.{arith}

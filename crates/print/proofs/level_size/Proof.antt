@@ -1,4 +1,4 @@
--- `form::writing::level_size` meets its contract. Assumes nothing.
+-- `print::level_size` meets its contract. Assumes nothing.
 use Rattle.form.proofs.LineBytes.{one-byte, two-bytes}
 use Rattle.print.proofs.level_size.Statement.{statement}
 use Rattle.print.proofs.level_size.Tie as tie

@@ -1,4 +1,4 @@
--- `form::writing::levels_into` meets its contract: the lines before are listed and measured, and the rows of trees to come are counted. Assumes nothing.
+-- `print::levels_into` meets its contract: the lines before are listed and measured, and the rows of trees to come are counted. Assumes nothing.
 use Prim.Native.Nat.{suc, _-_}
 use mathlib.Core.Path.{_≡_, refl}
 use native.Mathlib.Omega.{arith}

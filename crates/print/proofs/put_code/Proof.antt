@@ -1,4 +1,4 @@
--- `form::writing::put_code` meets its contract: six stores. Assumes nothing.
+-- `print::put_code` meets its contract: six stores. Assumes nothing.
 use native.Mathlib.Omega.{arith}
 use lib.ListN.{length-set}
 use borrow.Author.Needs.{needs}

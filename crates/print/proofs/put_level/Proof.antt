@@ -1,4 +1,4 @@
--- `form::writing::put_level` meets its contract: one store, or two. Assumes nothing.
+-- `print::put_level` meets its contract: one store, or two. Assumes nothing.
 use native.Mathlib.Omega.{arith}
 use lib.ListN.{length-set}
 use borrow.Author.Needs.{needs}

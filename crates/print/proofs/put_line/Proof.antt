@@ -1,4 +1,4 @@
--- `form::writing::put_line` meets its contract: the level, and the code behind it. Assumes nothing.
+-- `print::put_line` meets its contract: the level, and the code behind it. Assumes nothing.
 use native.Mathlib.Omega.{arith}
 use borrow.Author.Needs.{needs}
 use Rattle.form.proofs.LineBytes.{line-size, line-over, part-size}

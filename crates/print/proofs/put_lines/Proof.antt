@@ -1,4 +1,4 @@
--- `form::writing::put_lines` meets its contract: the lines before are written. Assumes nothing.
+-- `print::put_lines` meets its contract: the lines before are written. Assumes nothing.
 use Prim.Native.Nat.{_*_, _-_}
 use mathlib.Core.Path.{_≡_, refl, _∙_}
 use native.Mathlib.Omega.{arith}

@@ -1,4 +1,4 @@
--- `form::writing::write` meets its contract: the cause refuses, or the bytes of the lines have room, or not. Assumes nothing.
+-- `print::write` meets its contract: the cause refuses, or the bytes of the lines have room, or not. Assumes nothing.
 use mathlib.Core.Path.{_≡_, refl, sym, _∙_}
 use native.Mathlib.Omega.{arith}
 use borrow.Author.Needs.{needs}
