@@ -8,7 +8,7 @@ ghost use Rattle.words.specs.Base.{if_then_else_};
 ghost use Rattle.section.specs.Entries.{sectionWords, entries, span, Sorted};
 ghost use Rattle.changes.specs.Editing.{fitting, Laid, Edited};
 ghost use Rattle.book.specs.Book.{used, lay};
-ghost use Rattle.book.specs.Decoding.{bookIn, startOf, slotOf};
+ghost use Rattle.book.specs.Decoding.{bookIn};
 ghost use Rattle.book.specs.Holding.{Holds};
 ghost use Rattle.amend.specs.Changing.{changed, changedIn, changedBook, livesThen, LivesReady, Stands, Ready, ReadyAll, weighedIn, weighedBook, lackingParts};
 use book::Places;

@@ -37,7 +37,7 @@ too-many = 7
 abbrev pub not-taught : ℕ
 not-taught = 8
 
--- withdrawn: a part of the order is missing from the book
+-- withdrawing: a part of the order is missing from R, L or P; checking: the book does not agree with itself
 abbrev pub not-agreeing : ℕ
 not-agreeing = 9
 

@@ -27,7 +27,7 @@ pub const TOO_MANY: u16 = 7;
 // the order has no entry in T
 pub const NOT_TAUGHT: u16 = 8;
 
-// withdrawn: a part of the order is missing from the book
+// withdrawing: a part of the order is missing from R, L or P; checking: the book does not agree with itself
 pub const NOT_AGREEING: u16 = 9;
 
 // the text is no form

@@ -2,18 +2,14 @@
 // that cuts and parts are answered by. Assumes nothing.
 ghost use mathlib.Core.Path.{_≡_};
 ghost use Prim.Native.Nat.{suc, _+_, _-_, _^_, _<_, max};
-ghost use lib.ListN.{length};
-ghost use Rattle.words.specs.Base.{over};
 ghost use Rattle.order.specs.Reading.{soundNode, causeOf};
-ghost use Rattle.order.specs.Walks.{walkOf, keptOf, Room, cutOf, wordsAtOf, endOf, laidOf, placeOf, partAtOf, kindOf};
-ghost use Rattle.order.specs.Answers.{checkOf, subtreeOf, writing, write, cutIntoOf, noPart, partWriting, partIntoOf};
+ghost use Rattle.order.specs.Walks.{walkOf, keptOf};
+ghost use Rattle.order.specs.Answers.{checkOf};
 ghost use Rattle.order.specs.Fits.{fitsOf};
 use figures::Answer;
-use figures::Depth;
 use figures::Written;
 use figures::limits;
 use figures::numbers;
-use figures::wrote;
 
 // What reading one tree at a word finds: the word past it, its depth, and the number of words of its cut.
 pub enum Walked {
@@ -93,9 +89,8 @@ fn kept(d: usize, n: usize) -> usize
     if d == 0 { 0 } else { n }
 }
 
-// The tree at word `at`, and how long its cut at d is. It calls itself for each child, with fewer words left each time. Every public
-// function but `put` tests the order's length first, so that the calls go no deeper than an order has nodes, and one more for a child that
-// is not there.
+// The tree at word `at`, and how long its cut at d is. It calls itself for each child, with fewer words left each time: in words that are
+// no more than an order may have, which its callers see to, no deeper than an order has nodes, and once more for a child that is not there.
 pub fn walk(order: &[u16], at: usize, d: usize) -> Walked
     ensures { λ r. ⌜ r ≡ walkOf (now (order .entry)) at d ⌝ }
 {

@@ -96,7 +96,7 @@ fn list_cut(order: &[u16], d: usize, out: &mut [u16]) -> Size
     Size { used, many: 1 }
 }
 
-// Lists what one teaching of the order counts in a section, at the front of `out`, whose words are zero. Answers the size.
+// Lists what one teaching of the order counts in a section, T included, at the front of `out`, whose words are zero. Answers the size.
 pub fn list_section(order: &[u16], k: Depth, section: Section, out: &mut [u16]) -> Size
     requires { ⌜ least-k ≤ k .k ⌝ }
     requires { ⌜ causeOf (now order) ≡ done ⌝ }

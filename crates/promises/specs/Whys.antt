@@ -1,5 +1,6 @@
 -- The rows of 01's table that opening, checking, and reading and writing a form can answer, by trees, lines and sizes, apart from the tests of
--- their definitions ("Numbers the desk hears"). Those of the other calls stand beside these calls. Assumes nothing: these are definitions.
+-- their definitions ("Numbers the desk hears"). Those of an order are in order/specs/Causes.antt, of a book's form in book/specs/Sound.antt, of judging
+-- in judge/specs/Verdicts.antt, of teaching and withdrawing in effects/specs/Whys.antt. Assumes nothing: these are definitions.
 use Prim.Native.Nat.{ℕ, _≤_, _<_}
 use mathlib.Core.Path.{_≡_}
 use mathlib.Core.List.{List, []}

@@ -1,5 +1,5 @@
-// Counts tallied for the entries of a section: an index of their places, the entry of a key by halving, and how often each counts by other
-// sections. It knows nothing of trees, and assumes nothing beyond each function's `requires`.
+// Counts tallied for the entries of a section: an index of their places, the entry of a key by halving, and more for each entry whose key
+// another list has. It knows nothing of trees, and assumes nothing beyond each function's `requires`.
 ghost use mathlib.Core.Path.{_≡_};
 ghost use mathlib.Core.Bool.{true};
 ghost use Prim.Native.Nat.{_+_, _≤_};
