@@ -12,11 +12,8 @@ use mathlib.Core.List.{List}
 use Rattle.figures.specs.Numbers.{done}
 use Rattle.figures.specs.declared.Answer.{Answer}
 use Rattle.figures.specs.declared.Written.{Written}
-use Rattle.order.specs.Causes.{Cause}
 use Rattle.order.specs.Answers.{checkOf, subtreeOf, Writing, writing, cutIntoOf, PartWriting, partWriting, partIntoOf}
-use Rattle.order.specs.Reading.{causeOf}
 use Rattle.order.specs.declared.PartWritten.{PartWritten}
-use Rattle.order.proofs.Causes.{cause-is, cause-only}
 use Rattle.form.specs.Reading.{readOf}
 use Rattle.form.specs.Writing.{writeOf}
 use Rattle.book.specs.Sound.{WhyForm}
@@ -32,8 +29,9 @@ use Rattle.effects.specs.Whys.{WhyTaught, WhyWithdrawn}
 use Rattle.effects.proofs.Whys.{teach-why, teach-only, withdraw-why, withdraw-only}
 use Rattle.effects.proofs.Conditions.{teach-refusal-leaves, withdraw-refusal-leaves}
 use Rattle.agree.specs.Checking.{checkOf as agreesOf}
-use Rattle.promises.specs.Whys.{WhyOpened, WhyChecked, WhyPrinted, WhyRead}
+use Rattle.promises.specs.Whys.{WhyNumbered, WhySubtree, WhyCut, WhyPart, WhyOpened, WhyChecked, WhyPrinted, WhyRead}
 use Rattle.promises.proofs.Whys.{opened-why, opened-only, printed-why, printed-only, read-why, read-only}
+use Rattle.promises.proofs.PartWhys.{numbered-why, numbered-only, subtree-why, subtree-only, cut-why, cut-only, part-why, part-only}
 use Rattle.promises.proofs.Checks.{checked-why, checked-only}
 use Rattle.promises.proofs.Refusals.{read-refusal-leaves, print-refusal-leaves, cut-refusal-leaves, part-refusal-leaves, open-refusal-leaves}
 
@@ -45,10 +43,22 @@ Exactly {A} Row a = Row a × ((b : A) → Row b → a ≡ b)
 
 -- The rows of 01's table for each call, in their order of checks: every answer, with its line, its count and all that was lent, has its row, and a
 -- row has no other answer. So two calls on the same input answer the same.
-module _ (ws os text out : List ℕ) (k : ℕ) where
+module _ (ws os text out : List ℕ) (k line d : ℕ) where
   -- "Within an order: empty or odd length, over 128 words, the other causes of 1, depth."
-  pub order-rows : Exactly (Cause os) (causeOf os)
-  order-rows = (cause-is os, cause-only os)
+  pub order-rows : Exactly (WhyNumbered os) (checkOf os)
+  order-rows = (numbered-why os, numbered-only os)
+
+  -- "A subtree is a contiguous part of the order's words, and is handed out as that part, asked for by its line"
+  pub subtree-rows : Exactly (WhySubtree os line) (subtreeOf os line)
+  subtree-rows = (subtree-why os line, subtree-only os line)
+
+  -- "Cut(t, d) keeps the nodes of depth at most d": 1, 2, and 11, "lent output too short"
+  pub cut-rows : Exactly (WhyCut os out line d) (cutIntoOf os line d out)
+  cut-rows = (cut-why os out line d, cut-only os out line d)
+
+  -- "The depth of the uncut subtree decides between L and P": 1, 2, 11
+  pub part-rows : Exactly (WhyPart os out line k) (partIntoOf os line k out)
+  part-rows = (part-why os out line k, part-only os out line k)
 
   -- 4 and 5
   pub form-rows : Exactly (WhyForm ws) (bookFormOf ws)

@@ -4,28 +4,35 @@
 -- Document 000's r, l and p are `IsR`, `IsL` and `IsP` (order/specs/Paper.antt), said by positions and labels. A tree is in a section if one of its
 -- entries has the tree's words (`In`, judge/specs/Verdicts.antt). Assumes nothing.
 use Prim.Native.Nat.{ℕ, suc, _+_, _*_, _/_, _%_, _≤_, _<_}
-use mathlib.Core.Path.{_≡_, refl, sym, ap, _∙_}
+use mathlib.Core.Path.{_≡_, refl, sym, ap, subst, _∙_}
 use mathlib.Core.Bool.{false}
-use mathlib.Core.List.{List, [], _∷_, _++_}
+use mathlib.Core.List.{List, [], _∷_, _++_, map, Memᴰ·map, Memᴰ·of-map}
 use native.Mathlib.Omega.{arith}
 use lib.ListN.{length, take}
+use Rattle.words.specs.Base.{over, _∈_}
 use Rattle.figures.specs.Limits.{least-code, greatest-code, most-nodes}
 use Rattle.figures.specs.Numbers.{done, no-form}
-use Rattle.figures.specs.Answers.{answered, refusedAt}
+use Rattle.figures.specs.Answers.{answered, wrote, refusedAt}
 use Rattle.figures.specs.declared.Answer.{Answer}
+use Rattle.order.specs.Trees.{Tree, node, Good, subtrees}
+use Rattle.order.specs.Fits.{IsOrder}
 use Rattle.order.specs.Answers.{writing, write}
-use Rattle.form.specs.Text.{Line, digit-0, space, line-feed, code-size, levelText, codeText}
+use Rattle.order.proofs.Cutting.{subtree-good}
+use Rattle.order.proofs.Fitting.{order-read}
+use Rattle.form.specs.Text.{Line, digit-0, space, line-feed, code-size, linesOf, levelText, codeText, textOf}
 use Rattle.form.specs.Reading.{isDigit, speltOf, form, readLines, readOf}
 use Rattle.form.specs.Faults.{greatest-level}
 use Rattle.form.specs.Writing.{writeOf}
 use Rattle.form.specs.declared.reading.LineRead.the-variants.{Node}
 use Rattle.form.proofs.Digits.{value-digits}
 use Rattle.form.proofs.Letters.{NotFour, NotRead, decimal, code-decimal, decimal-read, code-refused, byte-refused}
-use Rattle.form.proofs.Trips.{written-read, read-written}
+use Rattle.form.proofs.TreeLines.{topCode, lines-subtrees}
+use Rattle.form.proofs.Trips.{order-text, order-write, form-write, written-read, read-written}
 use Rattle.judge.specs.Judging.{judgeOf}
 use Rattle.judge.specs.Verdicts.{PassesBy}
 use Rattle.judge.proofs.Answers.{answered-passes, passes-answered}
 use Rattle.effects.specs.Conditions.{_exactly-when_}
+use Rattle.promises.proofs.Refusals.{write-writes}
 
 -- ---- passing
 
@@ -47,7 +54,7 @@ pub record InTens (code : ℕ) (text : List ℕ) : Type 0 where
   pub text-is : text ≡ space ∷ (digit-0 + a) ∷ (digit-0 + b) ∷ (digit-0 + c) ∷ (digit-0 + d) ∷ line-feed ∷ []
   pub code-is : code ≡ a * 1000 + b * 100 + c * 10 + d
 
--- So it is on every line that is written, and, since a text is read exactly if it is the text of an order (`read-rows`), on every line that is read.
+-- So are the bytes that are written behind a level, for every code up to 9999.
 pub written-in-tens : (code : ℕ) → code ≤ greatest-code → InTens code (codeText code)
 unfolding codeText
 written-in-tens code most = record {
@@ -60,6 +67,21 @@ written-in-tens code most = record {
   code-is = sym (value-digits code most) ∙ decimal (code / 1000 % 10) (code / 100 % 10) (code / 10 % 10) (code % 10);
 }
 
+-- The code at the top of a good tree is at most 9999.
+top-code : (s : Tree) → Good s → topCode s ≤ greatest-code
+unfolding topCode Good
+top-code (node c f) g = g .0 .1
+
+-- So it is on every line that is written, and, since a text is read exactly if it is the text of an order (`read-rows`), on every line that
+-- is read: the text of an order is the text of its lines (`textOf`), line i having the code of the top of the subtree of line i
+-- (`lines-subtrees`, form/proofs/TreeLines.antt).
+pub every-line-in-tens : (os : List ℕ) (t : Tree) → IsOrder os t → (x : Line) → x ∈ linesOf t 0 → InTens (x .code) (codeText (x .code))
+every-line-in-tens os t o x m =
+    let n : x .code ∈ map topCode (subtrees t) = subst (λ (cs : List ℕ). x .code ∈ cs) (lines-subtrees t 0) (Memᴰ·map (λ (y : Line). y .code) m) in
+    let q = Memᴰ·of-map topCode (subtrees t) n in
+    let most : x .code ≤ greatest-code = subst (λ (c : ℕ). c ≤ greatest-code) (q .2) (top-code (q .0) (subtree-good t (q .1) (o .good))) in
+    written-in-tens (x .code) most
+
 -- On a line of any level four digits are read as the number that they are in tens.
 pub read-in-tens : (l a b c d : ℕ) (rest : List ℕ) → l ≤ greatest-level → a < 10 → b < 10 → c < 10 → d < 10
     → speltOf (levelText l ++ (space ∷ (digit-0 + a) ∷ (digit-0 + b) ∷ (digit-0 + c) ∷ (digit-0 + d) ∷ line-feed ∷ rest)) ≡ Node l (a * 1000 + b * 100 + c * 10 + d) (length (levelText l) + code-size)
@@ -70,7 +92,8 @@ pub one-line-in-tens : (a b c d : ℕ) → a < 10 → b < 10 → c < 10 → d < 
     → readOf (digit-0 ∷ space ∷ (digit-0 + a) ∷ (digit-0 + b) ∷ (digit-0 + c) ∷ (digit-0 + d) ∷ line-feed ∷ []) out ≡ write ((a * 1000 + b * 100 + c * 10 + d) ∷ 0 ∷ []) out
 one-line-in-tens = decimal-read
 
--- A code with any byte that is no decimal digit is refused by 10 at its own line, whatever lines stand before it and whatever follows.
+-- A code with any byte that is no decimal digit is refused by 10 at its own line, whatever follows, if the lines before it are read without
+-- fault and are fewer than 64.
 pub no-other-base : (front : List ℕ) (xs : List Line) (l a b c d : ℕ) (rest : List ℕ) → readLines most-nodes [] front ≡ form xs → length xs < most-nodes → l ≤ greatest-level → NotFour a b c d → (out : List ℕ)
     → readOf (front ++ (levelText l ++ (space ∷ a ∷ b ∷ c ∷ d ∷ rest))) out ≡ writing (refusedAt no-form (suc (length xs))) out
 no-other-base = code-refused
@@ -81,12 +104,21 @@ no-letter = byte-refused
 
 -- ---- "A sound form goes to text and back unchanged"
 
--- The text of an order that was written is read back to the order's words, in any output that has room for them.
-pub to-text-and-back : (os out : List ℕ) → writeOf os out .answer .number ≡ done → (later : List ℕ)
-    → readOf (take (writeOf os out .answer .count) (writeOf os out .out)) later ≡ write os later
-to-text-and-back = written-read
+-- An order within limits is written as its text at the front of any output with room, and that text is read back to the order's words. A
+-- text that is read is the text of an order (`read-rows`), so that every such text goes to words and back as well.
+pub to-text-and-back : (os : List ℕ) (t : Tree) → IsOrder os t → (out later : List ℕ) → length (textOf t) ≤ length out → length os ≤ length later
+    → (writeOf os out ≡ writing (wrote done (length (textOf t))) (over (textOf t) out)) × (readOf (textOf t) later ≡ writing (wrote done (length os)) (over os later))
+to-text-and-back os t o out later room enough =
+    let e = order-read os t o in
+    let f = order-text os t e in
+    (order-write os t out e ∙ write-writes (textOf t) out room, form-write (textOf t) (linesOf t 0) later (f .0) ∙ ap (λ (ws : List ℕ). write ws later) (f .1) ∙ write-writes os later enough)
 
--- And back: the words of a text that was read are written to the same bytes.
-pub to-words-and-back : (text out : List ℕ) → readOf text out .answer .number ≡ done → (later : List ℕ)
+-- The bytes that were written without fault are read back to the order's words, or answered by 11 where the later output is too short.
+pub written-then-read : (os out : List ℕ) → writeOf os out .answer .number ≡ done → (later : List ℕ)
+    → readOf (take (writeOf os out .answer .count) (writeOf os out .out)) later ≡ write os later
+written-then-read = written-read
+
+-- The words that were read without fault are written back to the same bytes, or answered by 11 where the later output is too short.
+pub read-then-written : (text out : List ℕ) → readOf text out .answer .number ≡ done → (later : List ℕ)
     → writeOf (take (readOf text out .answer .count) (readOf text out .out)) later ≡ write text later
-to-words-and-back = read-written
+read-then-written = read-written

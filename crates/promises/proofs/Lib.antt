@@ -5,6 +5,7 @@ pub mod Agreement
 pub mod Passing
 pub mod Refusals
 pub mod Whys
+pub mod PartWhys
 pub mod Conditions
 pub mod Checks
 pub mod Contracts

@@ -1,19 +1,22 @@
--- The rows of 01's table that opening, checking, and reading and writing a form can answer, by trees, lines and sizes, apart from the tests of
--- their definitions ("Numbers the desk hears"). Those of an order are in order/specs/Causes.antt, of a book's form in book/specs/Sound.antt, of judging
--- in judge/specs/Verdicts.antt, of teaching and withdrawing in effects/specs/Whys.antt. Assumes nothing: these are definitions.
-use Prim.Native.Nat.{ℕ, _≤_, _<_}
+-- The rows of 01's table that numbering an order, handing out and writing its parts, opening, checking, and reading and writing a form can
+-- answer, by trees, lines and sizes, apart from the tests of their definitions ("Numbers the desk hears"). Those of a book's form are in
+-- book/specs/Sound.antt, of judging in judge/specs/Verdicts.antt, of teaching and withdrawing in effects/specs/Whys.antt. Assumes nothing: these are
+-- definitions.
+use Prim.Native.Nat.{ℕ, _-_, _*_, _≤_, _<_}
 use mathlib.Core.Path.{_≡_}
 use mathlib.Core.List.{List, []}
-use lib.ListN.{length}
+use lib.ListN.{length, take, drop}
 use Rattle.words.specs.Base.{over}
 use Rattle.figures.specs.Limits.{head-words, most-book-words, least-k, greatest-k}
 use Rattle.figures.specs.Numbers.{done, k-outside, book-size, not-agreeing, no-form, short-output}
 use Rattle.figures.specs.Answers.{answered, wrote, refusedAt}
 use Rattle.figures.specs.declared.Answer.{Answer}
-use Rattle.order.specs.Trees.{Tree, words}
+use Rattle.order.specs.Trees.{Tree, words, depth, cut, subtrees}
+use Rattle.order.specs.Reading.{found}
 use Rattle.order.specs.Causes.{Cause}
 use Rattle.order.specs.Fits.{IsOrder}
-use Rattle.order.specs.Answers.{Writing, writing, refuse}
+use Rattle.order.specs.Answers.{lineOf, Writing, writing, refuse, PartWriting, partWriting, noPart, ofKind}
+use Rattle.order.specs.declared.Kind.the-variants.{Low, Middle}
 use Rattle.form.specs.Text.{textOf}
 use Rattle.form.specs.Faults.{FirstFault}
 use Rattle.book.specs.Book.{Book}
@@ -22,6 +25,64 @@ use Rattle.book.specs.Taught.{emptyBook}
 use Rattle.book.specs.Opening.{Outcome, leave, writeBook}
 use Rattle.book.specs.declared.BookForm.the-variants.{Refused}
 use Rattle.promises.specs.Agreement.{Agrees}
+
+-- ---- orders and their parts
+
+-- Why `order::check` answers a: "Within an order: empty or odd length, over 128 words, the other causes of 1, depth."
+pub data WhyNumbered (os : List ℕ) (a : Answer) : Type 0 where
+  -- 0, 1 and 2: the cause's number, with line 0
+  numbered : (n : ℕ) → a ≡ answered n → Cause os n → WhyNumbered os a
+
+-- "a line the order lacks": its lines are those of its nodes, counted from 1.
+pub data Lacks (t : Tree) (line : ℕ) : Type 0 where
+  -- No order has a line 0.
+  line-0 : line ≡ 0 → Lacks t line
+  -- It has no line past the one of its last node.
+  past-last : length (subtrees t) < line → Lacks t line
+
+-- Why `cuts::subtree` hands out w: "A subtree is a contiguous part of the order's words, and is handed out as that part, asked for by its
+-- line; for an order with a cause of 1 or 2, or a line the order lacks, an empty part is handed out". Lines count from 1, in preorder.
+pub data WhySubtree (os : List ℕ) (line : ℕ) (w : List ℕ) : Type 0 where
+  -- "for an order with a cause of 1 or 2": an empty part
+  subtree-no-order : (n : ℕ) → w ≡ [] → Cause os n → (n ≡ done → ⊥) → WhySubtree os line w
+  -- "or a line the order lacks": an empty part
+  subtree-lacks : (t : Tree) → w ≡ [] → IsOrder os t → Lacks t line → WhySubtree os line w
+  -- "is handed out as that part": the subtree's words, which stand in the order's from the two words of the line on
+  subtree : (t s : Tree) → w ≡ words s → IsOrder os t → lineOf line (subtrees t) ≡ found s → take (length (words s)) (drop ((line - 1) * 2) os) ≡ words s → WhySubtree os line w
+
+-- Why writing the cut at d of a line's subtree gives w: 1, 2, 11. "Cut(t, d) keeps the nodes of depth at most d".
+pub data WhyCut (os out : List ℕ) (line d : ℕ) (w : Writing) : Type 0 where
+  -- 1 and 2, by the order
+  cut-no-order : (n : ℕ) → w ≡ refuse n out → Cause os n → (n ≡ done → ⊥) → WhyCut os out line d w
+  -- 0 for "a line the order lacks": nothing is cut, so nothing is written
+  cut-lacks : (t : Tree) → w ≡ writing (wrote done 0) out → IsOrder os t → Lacks t line → WhyCut os out line d w
+  -- 11: "lent output too short"
+  cut-short : (t s : Tree) → w ≡ refuse short-output out → IsOrder os t → lineOf line (subtrees t) ≡ found s → length out < length (words (cut s d)) → WhyCut os out line d w
+  -- 0: the words of the cut at the front of the output
+  cut-written : (t s : Tree) → w ≡ writing (wrote done (length (words (cut s d)))) (over (words (cut s d)) out) → IsOrder os t → lineOf line (subtrees t) ≡ found s
+      → length (words (cut s d)) ≤ length out → WhyCut os out line d w
+
+-- Why writing the part that a line stands for at k gives w: 1, 2, 11, with the kind of part, which is told with 11 as well. "The depth of the
+-- uncut subtree decides between L and P": as `isLow` has it, it is low at k-2 or less, and middle if deeper; k-2 is 0 for a k below 2.
+pub data WhyPart (os out : List ℕ) (line k : ℕ) (w : PartWriting) : Type 0 where
+  -- 1 and 2, by the order: no part
+  part-no-order : (n : ℕ) → w ≡ partWriting (noPart n) out → Cause os n → (n ≡ done → ⊥) → WhyPart os out line k w
+  -- 0 for "a line the order lacks": no part
+  part-lacks : (t : Tree) → w ≡ partWriting (noPart done) out → IsOrder os t → Lacks t line → WhyPart os out line k w
+  -- 11, "lent output too short", for a low part: a "subtree of depth at most k-2"
+  low-short : (t s : Tree) → w ≡ ofKind Low (refuse short-output out) → IsOrder os t → lineOf line (subtrees t) ≡ found s → depth s ≤ k - 2
+      → length out < length (words s) → WhyPart os out line k w
+  -- 0: the words of the low part at the front of the output
+  low-written : (t s : Tree) → w ≡ ofKind Low (writing (wrote done (length (words s))) (over (words s) out)) → IsOrder os t → lineOf line (subtrees t) ≡ found s → depth s ≤ k - 2
+      → length (words s) ≤ length out → WhyPart os out line k w
+  -- 11, "lent output too short", for a middle part: "cut(s, k-1) for every subtree s of depth at least k-1", which is deeper than k-2
+  middle-short : (t s : Tree) → w ≡ ofKind Middle (refuse short-output out) → IsOrder os t → lineOf line (subtrees t) ≡ found s → k - 2 < depth s
+      → length out < length (words (cut s (k - 1))) → WhyPart os out line k w
+  -- 0: the words of the middle part at the front of the output
+  middle-written : (t s : Tree) → w ≡ ofKind Middle (writing (wrote done (length (words (cut s (k - 1))))) (over (words (cut s (k - 1))) out)) → IsOrder os t
+      → lineOf line (subtrees t) ≡ found s → k - 2 < depth s → length (words (cut s (k - 1))) ≤ length out → WhyPart os out line k w
+
+-- ---- books
 
 -- Why opening at k answers and leaves the words as o has them: "Open: 4, 3."
 pub data WhyOpened (ws : List ℕ) (k : ℕ) (o : Outcome) : Type 0 where
@@ -44,6 +105,8 @@ pub data WhyChecked (ws : List ℕ) (a : Answer) : Type 0 where
   disagrees : (b : Book) → a ≡ answered not-agreeing → IsBook ws b → (Agrees b → ⊥) → WhyChecked ws a
   -- 0: it does
   agrees : (b : Book) → a ≡ answered done → IsBook ws b → Agrees b → WhyChecked ws a
+
+-- ---- forms
 
 -- Why writing an order's form gives w: "Write text: 1, 2, 11."
 pub data WhyPrinted (os out : List ℕ) (w : Writing) : Type 0 where
