@@ -1,38 +1,38 @@
 -- What is tallied for a section of a book in form is what it counts by the orders in its T. Assumes nothing.
-use Prim.Native.Nat.{ℕ, suc, _*_, _≤_}
+use Prim.Native.Nat.{ℕ, _*_, _≤_}
 use mathlib.Core.Path.{_≡_, refl, sym, ap, _∙_}
 use mathlib.Core.Bool.{Bool, true, false}
 use mathlib.Core.List.{List, [], _∷_, List·Memᴰ·head as here, List·Memᴰ·tail as there}
 use native.Mathlib.Omega.{arith}
 use lib.ListN.{length, replicate}
 use lib.Dec.{ltb}
-use borrow.Author.Tests.{ltb-true, ltb-false, lt-ltb}
+use borrow.Author.Tests.{ltb-true, ltb-false}
 use Rattle.words.specs.Base.{_and_, _∈_}
 use Rattle.words.proofs.Tests.{no-test, and-left, and-right, and-both}
 use Rattle.figures.specs.Limits.{greatest-count, most-book-words}
 use Rattle.figures.specs.Numbers.{done}
 use Rattle.section.specs.Entries.{Entry, sectionWords, has, countOf, Sorted, Even}
-use Rattle.section.proofs.Counts.{has-count, has-entry, entry-count}
+use Rattle.section.proofs.Counts.{has-entry, entry-count, counts-has, lacks-counts}
 use Rattle.section.proofs.Sorting.{same-counts}
 use Rattle.section.proofs.Sizes.{size-first, even-add}
-use Rattle.tally.specs.Tallying.{tallied, Few, sameCounts}
+use Rattle.tally.specs.Tallying.{Few, sameCounts}
 use Rattle.order.specs.Trees.{Tree, words}
 use Rattle.order.specs.Reading.{Order, refused, order, byOrder, orderOf, causeOf}
 use Rattle.order.proofs.Orders.{size, some-lines}
 use Rattle.order.proofs.Fitting.{order-read}
 use Rattle.book.specs.Book.{Book, sectionOf, used, live, inForm}
-use Rattle.book.specs.Taught.{addEach, bookOf, sameSection}
+use Rattle.book.specs.Taught.{addEach, bookOf}
 use Rattle.book.specs.declared.Section.{Section}
 use Rattle.book.proofs.Meaning.{form-proper, either}
 use Rattle.book.proofs.Sound.{form-sound, sound-section}
-use Rattle.book.proofs.Taught.{same-section, section-same}
+use Rattle.book.proofs.Taught.{same-section, section-same, none-in}
 use Rattle.own.specs.Own.{ownBook, ownOf}
 use Rattle.amend.proofs.Sections.{form-sorted, used-split}
 use Rattle.teach.specs.Calls.{treesIn}
 use Rattle.teach.proofs.Adds.{own-section, own-sorted}
 use Rattle.effects.proofs.Agreeing.{form-orders, teachings-sorted}
 use Rattle.agree.specs.Tallies.{most-entries, partsIn, allKnown, talliedAll, agreeingIn}
-use Rattle.agree.proofs.Tallied.{none-in, countedIn, count-most, countsBy, counts-few, tallied-is, same-by, by-same, counted-known, known-counted}
+use Rattle.agree.proofs.Tallied.{countedIn, count-most, countsBy, counts-few, tallied-is, same-by, by-same, counted-known, known-counted}
 
 -- ---- what one teaching of an order counts
 
@@ -58,21 +58,6 @@ even-each n (t ∷ ts) = even-add n (words t) (addEach n ts []) (omega (arith, s
 -- What one teaching of an order counts in a section has two words a node.
 pub parts-even : (s : Section) (k : ℕ) (os : List ℕ) → Even (partsIn s k os)
 parts-even s k os = parts-by Even s k os (unfold Even in tt) (λ t. rw (own-section 1 k t s) (even-each 1 (treesIn s k t)))
-
--- With an order tallied there are as many counts as before.
-length-tallied : (n : ℕ) (os es : List Entry) (cs : List ℕ) → length (tallied n os es cs) ≡ length cs
-unfolding tallied
-length-tallied n os [] cs = refl
-length-tallied n os (e ∷ es) [] = refl
-length-tallied n os (e ∷ es) (c ∷ cs) = ap suc (length-tallied n os es cs)
-
--- With all orders of a T tallied there are as many counts as before.
-pub length-tallied-all : (s : Section) (k : ℕ) (ts es : List Entry) (cs : List ℕ) → length cs ≡ length es → length (talliedAll s k ts es cs) ≡ length cs
-unfolding talliedAll
-length-tallied-all s k [] es cs q = refl
-length-tallied-all s k (t ∷ ts) es cs q =
-    let same : length (tallied (t .count) (partsIn s k (t .key)) es cs) ≡ length cs = length-tallied (t .count) (partsIn s k (t .key)) es cs in
-    length-tallied-all s k ts es _ (same ∙ q) ∙ same
 
 -- ---- a section of a book in form
 
@@ -108,7 +93,7 @@ module _ (b : Book) (form : inForm b ≡ true) (s : Section) where
   agreed-known q =
       let sorted = form-sorted b form s in
       and-both
-      (counted-known s (b .k) (b .T) (sectionOf s b) (form-orders b form) (λ z p. has-count z (sectionOf s b) sorted ∙ lt-ltb 0 (countOf z (sectionOf s b)) (omega (arith, ap (countOf z) q))))
+      (counted-known s (b .k) (b .T) (sectionOf s b) (form-orders b form) (λ z p. counts-has z (sectionOf s b) sorted (omega (arith, ap (countOf z) q))))
       (same-by _ (sectionOf s b) (λ e m. sym (entry-count (e .key) sorted m refl) ∙ ap (countOf (e .key)) q))
 
   -- Where it holds the section counts for each key what they count.
@@ -122,15 +107,14 @@ module _ (b : Book) (form : inForm b ≡ true) (s : Section) where
       go false p true q =
           no-test (sym p ∙ known-counted s (b .k) (b .T) (sectionOf s b) (form-orders b form) (and-left _ _ h) z (ltb-true 0 (countOf z counts) q))
       go false p false q =
-          omega (arith, ltb-false 0 (countOf z counts) q, ltb-false 0 (countOf z (sectionOf s b)) (sym (has-count z (sectionOf s b) (form-sorted b form s)) ∙ p))
+          omega (arith, ltb-false 0 (countOf z counts) q, lacks-counts z (sectionOf s b) (form-sorted b form s) p)
 
   -- A section is the one of its T just if all that the orders of the T count there has an entry, and each entry counts what is tallied for it.
   pub agreeing-tallied : agreeingIn s b ≡ (allKnown s (b .k) (b .T) (sectionOf s b) and sameCounts (sectionOf s b) (talliedAll s (b .k) (b .T) (sectionOf s b) (replicate (length (sectionOf s b)) 0)))
   agreeing-tallied =
       rw (tallied-is s (b .k) (b .T) (sectionOf s b) (form-orders b form))
       (either _ _ (λ e. agreed-known (same-section _ _ e)) (λ h.
-      ap (sameSection (sectionOf s b)) (sym (same-counts _ counts (form-sorted b form s) (teachings-sorted (b .k) (b .T) (form-orders b form) s) (known-agreed h)))
-      ∙ section-same (sectionOf s b)))
+      section-same _ counts (same-counts _ counts (form-sorted b form s) (teachings-sorted (b .k) (b .T) (form-orders b form) s) (known-agreed h))))
 
   -- A section of a book of at most 16,384 words has no more entries than their places have room for.
   pub few-entries : used b ≤ most-book-words → length (sectionOf s b) ≤ most-entries

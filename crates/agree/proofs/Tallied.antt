@@ -13,16 +13,14 @@ use Rattle.section.specs.Entries.{Entry, has, countOf, total, Sorted}
 use Rattle.section.proofs.Counts.{counts-own, counts-other, count-add, has-add, has-entry, entry-has}
 use Rattle.tally.specs.Tallying.{hasAll, tallied, sameCounts}
 use Rattle.order.specs.Trees.{Tree, words}
-use Rattle.order.specs.Reading.{order, byOrder, orderOf}
+use Rattle.order.specs.Reading.{byOrder}
 use Rattle.order.specs.Fits.{Fits}
-use Rattle.order.proofs.Fitting.{order-read}
-use Rattle.order.proofs.Unique.{words-unique}
+use Rattle.order.proofs.Fitting.{order-read, fits-order-of}
 use Rattle.order.proofs.Once.{NoRepeats}
 use Rattle.book.specs.Book.{Book, sectionOf}
 use Rattle.book.specs.Taught.{Teaching, addEach, taught, bookOf, teachingsIn}
 use Rattle.book.specs.declared.Section.{Section}
-use Rattle.book.specs.declared.Section.the-variants.{Taught, Tops, Lows, Middles}
-use Rattle.book.proofs.Taught.{lacks-any, count-each, taught-k}
+use Rattle.book.proofs.Taught.{lacks-any, count-each, taught-k, none-in}
 use Rattle.own.specs.Own.{ownBook, ownOf}
 use Rattle.teach.specs.Calls.{treesIn}
 use Rattle.teach.proofs.Adds.{taught-section, own-section, trees-once, count-each-apart}
@@ -30,14 +28,6 @@ use Rattle.effects.proofs.Agreeing.{Orders, later, first}
 use Rattle.agree.specs.Tallies.{partsIn, allKnown, talliedAll}
 
 -- ---- what the orders of a T count
-
--- The empty book has no entries.
-pub none-in : (s : Section) (k : ℕ) → sectionOf s (bookOf k []) ≡ []
-unfolding sectionOf bookOf
-none-in Taught k = refl
-none-in Tops k = refl
-none-in Lows k = refl
-none-in Middles k = refl
 
 -- n of each tree of a list without repeats count n for a key that one of each has, and nothing for others.
 each-count : (n : ℕ) (z : List ℕ) (ts : List Tree) → NoRepeats ts → countOf z (addEach n ts []) ≡ (if has z (addEach 1 ts []) then n else 0)
@@ -64,14 +54,10 @@ count-own n t b s z =
 abbrev pub countedIn : Section → ℕ → List Entry → List Entry
 countedIn s k ts = sectionOf s (bookOf k (teachingsIn ts))
 
--- The words of a tree, where they fit, are read as this tree.
-key-order : (os : List ℕ) (t : Tree) → os ≡ words t → Fits 0 greatest-depth os → orderOf os ≡ order t
-key-order os t e f = order-read os (f .tree) (f .isOrder) ∙ ap order (words-unique (f .tree) t (sym (f .isOrder .spelt) ∙ e))
-
 -- What the order with these words counts is the section of its own book.
 own-parts : (s : Section) (k : ℕ) (os : List ℕ) (t : Tree) → os ≡ words t → Fits 0 greatest-depth os → partsIn s k os ≡ sectionOf s (ownBook k t)
 unfolding ownOf byOrder
-own-parts s k os t e f = rw (key-order os t e f)
+own-parts s k os t e f = rw (order-read os t (fits-order-of os t e f))
 
 -- Each order of a T in form counts, for the keys that one teaching of it counts, as often as its entry counts.
 count-more : (s : Section) (k : ℕ) (e : Entry) (ts : List Entry) → Orders (e ∷ ts) → (z : List ℕ)

@@ -41,10 +41,13 @@ fn tally_order(
     requires { ⌜ (at + width (drop at (now book)) ≤ length (now book)) × (causeOf (firstEntry (drop at (now book)) .key) ≡ done) ⌝ }
     requires { ⌜ least-k ≤ k .k ⌝ }
     requires { ⌜ Indexed (now starts) (now book) ⌝ }
-    requires { ⌜ (length (now counts) ≡ length (now starts)) × Few (tallied (firstEntry (drop at (now book)) .count) (partsIn section (k .k) (firstEntry (drop at (now book)) .key)) (listed (now starts) (now book)) (now counts)) ⌝ }
+    requires { ⌜ (length (now counts) ≡ length (now starts)) ×
+        Few (tallied (firstEntry (drop at (now book)) .count) (partsIn section (k .k) (firstEntry (drop at (now book)) .key)) (listed (now starts) (now book)) (now counts)) ⌝ }
     requires { ⌜ (now list ≡ replicate (length (now list)) 0) × (length (now list) ≡ list-words) ⌝ }
     ensures known { λ r. ⌜ r ≡ hasAll (partsIn section (k .k) (firstEntry (drop at (now (book .entry))) .key)) (listed (now (starts .entry)) (now (book .entry))) ⌝ }
-    ensures counted { λ r. ⌜ (r ≡ true → now (counts .exit) ≡ tallied (firstEntry (drop at (now (book .entry))) .count) (partsIn section (k .k) (firstEntry (drop at (now (book .entry))) .key)) (listed (now (starts .entry)) (now (book .entry))) (now (counts .entry))) ⌝ }
+    ensures counted { λ r. ⌜ (r ≡ true → now (counts .exit) ≡
+        tallied (firstEntry (drop at (now (book .entry))) .count) (partsIn section (k .k) (firstEntry (drop at (now (book .entry))) .key))
+        (listed (now (starts .entry)) (now (book .entry))) (now (counts .entry))) ⌝ }
     ensures cleared { λ _. ⌜ now (list .exit) ≡ now (list .entry) ⌝ }
 {
     let start = at + 2;
@@ -69,7 +72,8 @@ fn tally_taught(
     requires { ⌜ Indexed (now starts) (now book) ⌝ }
     requires { ⌜ (length (now counts) ≡ length (now starts)) × Few (talliedAll section (bookIn (now book) .k) (bookIn (now book) .T) (listed (now starts) (now book)) (now counts)) ⌝ }
     ensures known { λ r. ⌜ r ≡ allKnown section (bookIn (now (book .entry)) .k) (bookIn (now (book .entry)) .T) (listed (now (starts .entry)) (now (book .entry))) ⌝ }
-    ensures counted { λ r. ⌜ (r ≡ true → now (counts .exit) ≡ talliedAll section (bookIn (now (book .entry)) .k) (bookIn (now (book .entry)) .T) (listed (now (starts .entry)) (now (book .entry))) (now (counts .entry))) ⌝ }
+    ensures counted { λ r. ⌜ (r ≡ true → now (counts .exit) ≡
+        talliedAll section (bookIn (now (book .entry)) .k) (bookIn (now (book .entry)) .T) (listed (now (starts .entry)) (now (book .entry))) (now (counts .entry))) ⌝ }
 {
     let mut list = [0u16; own::LIST_WORDS];
     let mut at = limits::HEAD_WORDS;

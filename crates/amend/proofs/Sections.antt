@@ -11,7 +11,7 @@ use Rattle.figures.specs.Limits.{head-words}
 use Rattle.section.specs.Entries.{Entry, sectionWords, entries, span, Even, Sorted}
 use Rattle.section.proofs.Words.{words-entries, words-span}
 use Rattle.changes.specs.Editing.{fitting, padded, relaid, Laid, Edited}
-use Rattle.changes.proofs.Weighing.{entry-fitting}
+use Rattle.changes.proofs.Adding.{entry-fitting}
 use Rattle.changes.specs.declared.Size.{Size}
 use Rattle.book.specs.Book.{Book, sectionOf, body, used, live, encode, lay, inForm}
 use Rattle.book.specs.Decoding.{placesOf, startOf, slotOf}

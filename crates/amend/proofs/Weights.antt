@@ -33,7 +33,7 @@ slot-within ws p h s word e = omega (arith, slot-small s, h .long)
 -- The words are a book in form, one section of which starts at `at`, and whose number of entries is word `word` of the head.
 module _ (ws : List ℕ) (p : Places) (h : Holds ws p) (s : Section) (at word : ℕ) (starts : at ≡ startOf s p) (slot : word ≡ slotOf s) where
   -- The section ends within the words.
-  ends-within : at + span (getD ws word 0) (drop at ws) ≤ length ws
+  pub ends-within : at + span (getD ws word 0) (drop at ws) ≤ length ws
   ends-within = rw (starts, slot) (h .section s .within)
 
   -- The section starts within the words.

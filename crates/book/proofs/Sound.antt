@@ -21,6 +21,8 @@ use Rattle.section.specs.Entries.{Entry, entryWords, total, Below, Sorted}
 use Rattle.book.specs.Book.{Book, sectionOf, shallowest, deepest, used, live, encode, lay, entryInForm, ascendingFrom, sectionInForm, inForm}
 use Rattle.book.specs.Decoding.{bookIn, formed, decode, byBook, onBook, placesOf, bookFormOf}
 use Rattle.book.specs.Sound.{SoundEntry, SoundSection, SoundBook, IsBook, WhyForm, shorter, longer, formless, book}
+use Rattle.book.specs.Holding.{Holds}
+use Rattle.book.specs.declared.Places.{Places}
 use Rattle.book.specs.declared.Section.{Section}
 use Rattle.book.specs.declared.Section.the-variants.{Taught, Tops, Lows, Middles}
 use Rattle.book.specs.declared.BookForm.{BookForm}
@@ -167,6 +169,10 @@ module _ (ws : List ℕ) where
   -- Words that are not in form are those of no sound book.
   unformed-no-book : formed ws ≡ false → (b : Book) → IsBook ws b → ⊥
   unformed-no-book f b i = no-book ws (unformed-none ws f) b (sound-form b (i .sound)) (i .laid)
+
+  -- Words that hold a book in form are those of the book that is read in them.
+  pub held-book : (p : Places) → Holds ws p → IsBook ws (bookIn ws)
+  held-book p h = decode-book ws (bookIn ws) (h .long) (h .short) (h .decoded)
 
   -- Words of a size for a book that are in form are those of a book.
   formed-book : head-words ≤ length ws → length ws ≤ most-book-words → formed ws ≡ true → IsBook ws (bookIn ws)

@@ -239,6 +239,16 @@ module _ (k : ℕ) (os : List Teaching) where
           middles = rw (taught-k k os) (taught-section Middles);
         })
 
+-- ---- the empty book
+
+-- The empty book has no entries.
+pub none-in : (s : Section) (k : ℕ) → sectionOf s (bookOf k []) ≡ []
+unfolding sectionOf bookOf
+none-in Taught k = refl
+none-in Tops k = refl
+none-in Lows k = refl
+none-in Middles k = refl
+
 -- ---- the test of two sections
 
 -- The test passes only for the same section.
@@ -252,8 +262,11 @@ same-section (x ∷ a) (y ∷ b) e =
     let first : x ≡ y = ap₂ counted (words-same (x .key) (y .key) (and-left _ _ e)) (eqb-true (x .count) (y .count) (and-left _ _ f)) in
     ap₂ _∷_ first (same-section a b (and-right _ _ f))
 
--- It passes for a section and itself.
-pub section-same : (a : List Entry) → sameSection a a ≡ true
+-- It passes for the same section.
+pub section-same : (a b : List Entry) → a ≡ b → sameSection a b ≡ true
 unfolding sameSection
-section-same [] = refl
-section-same (x ∷ a) = and-both (same-words (x .key)) (and-both (eq-eqb (x .count) (x .count) refl) (section-same a))
+section-same a b e = rw (← e) (itself a)
+  where
+    itself : (c : List Entry) → sameSection c c ≡ true
+    itself [] = refl
+    itself (x ∷ c) = and-both (same-words (x .key)) (and-both (eq-eqb (x .count) (x .count) refl) (itself c))

@@ -3,17 +3,18 @@
 use Prim.Native.Nat.{ℕ, _+_, _*_, _-_, _<_, _≤_}
 use mathlib.Core.Path.{_≡_, refl, sym, ap, _∙_}
 use mathlib.Core.Bool.{true}
-use mathlib.Core.List.{List, [], _∷_, _++_, append-assoc}
+use mathlib.Core.List.{List, [], _∷_, _++_, append-assoc, List·Memᴰ·head as here, List·Memᴰ·tail as there, Memᴰ·append-right}
 use native.Mathlib.Omega.{arith}
 use lib.Dec.{leb}
 use lib.ListN.{length, getD, set, take, drop, length-append, length-set, length-take, length-drop}
-use borrow.Author.Tests.{leb-true}
+use borrow.Author.Tests.{leb-true, le-leb}
 use borrow.Rule.Slice.PartMut.{putMid}
+use Rattle.words.specs.Base.{_∈_}
 use Rattle.words.specs.Compare.{compareOf}
 use Rattle.words.specs.declared.Compared.{Compared}
 use Rattle.words.specs.declared.Compared.the-variants.{Lower, Equal, Higher}
 use Rattle.words.proofs.Ordered.{compare-equal, compare-flip}
-use Rattle.words.proofs.Tests.{and-left, and-right}
+use Rattle.words.proofs.Tests.{and-left, and-right, and-both}
 use Rattle.words.proofs.Shifts.{tail-all, tail-back}
 use Rattle.figures.specs.Limits.{greatest-count}
 use Rattle.section.specs.Entries.{Entry, counted, entryWords, sectionWords, entries, span, countOf, Below, Sorted, add}
@@ -83,13 +84,19 @@ pub add-all-enter : (o : Entry) (os es : List Entry) → Sorted (o ∷ os) → B
 unfolding Sorted addAll
 add-all-enter o os es s h = add-below (o .count) (o .key) (addAll os es) (below-add-all (o .key) os es (s .2) (s .1) h)
 
--- ---- room
+-- ---- counts that fit
 
--- Every entry of a fitting section has a count that fits.
-pub fitting-count : (fs : List Entry) (e : Entry) (es : List Entry) → fitting (fs ++ (e ∷ es)) ≡ true → e .count ≤ greatest-count
+-- Of entries that fit, each counts at most 65,535.
+pub fitting-entry : (es : List Entry) → fitting es ≡ true → (e : Entry) → e ∈ es → e .count ≤ greatest-count
 unfolding fitting
-fitting-count [] e es h = leb-true (e .count) greatest-count (and-left (leb (e .count) greatest-count) (fitting es) h)
-fitting-count (f ∷ fs) e es h = fitting-count fs e es (and-right (leb (f .count) greatest-count) (fitting (fs ++ (e ∷ es))) h)
+fitting-entry (i ∷ es) h e (here q) = rw q (leb-true (i .count) greatest-count (and-left (leb (i .count) greatest-count) (fitting es) h))
+fitting-entry (i ∷ es) h e (there m) = fitting-entry es (and-right (leb (i .count) greatest-count) (fitting es) h) e m
+
+-- Entries of which each counts at most 65,535 fit.
+pub entry-fitting : (es : List Entry) → ((e : Entry) → e ∈ es → e .count ≤ greatest-count) → fitting es ≡ true
+unfolding fitting
+entry-fitting [] h = refl
+entry-fitting (e ∷ es) h = and-both (le-leb (e .count) greatest-count (h e (here refl))) (entry-fitting es (λ i m. h i (there m)))
 
 -- ---- one pass over both
 
@@ -196,9 +203,10 @@ module _ (all : List Entry) (kept : List ℕ) (size : ℕ) (o : Entry) (os : Lis
           → (at + 2 ≤ length book) × (getD (drop at book) 1 0 + o .count ≤ greatest-count)
       go [] r q c = let z : _≡_ {A = ℕ} 0 1 = cc in absurd (omega arith)
       go (e ∷ es) r q c =
-          let whole : all ≡ s .done ++ (counted (e .key) (e .count + o .count) ∷ addAll os es) = q ∙ rw (add-all-same o os e es ascends c) in (
+          let both : Entry = counted (e .key) (e .count + o .count) in
+          let whole : all ≡ s .done ++ (both ∷ addAll os es) = q ∙ rw (add-all-same o os e es ascends c) in (
             omega (arith, reached-length _ _ _ _ _ _ _ _ r, r .uses, size-first e es),
-            rw (reached-second _ _ _ _ _ _ _ _ _ r) (fitting-count (s .done) (counted (e .key) (e .count + o .count)) (addAll os es) (ap fitting (sym whole) ∙ s .fits)),
+            rw (reached-second _ _ _ _ _ _ _ _ _ r) (fitting-entry _ (ap fitting (sym whole) ∙ s .fits) both (Memᴰ·append-right (s .done) (here refl))),
           )
 
   -- With a higher entry left or none, all entries left stand above the key.

@@ -14,7 +14,7 @@ use Rattle.words.specs.Compare.{compareOf, _≺_}
 use Rattle.words.specs.declared.Compared.{Compared}
 use Rattle.words.specs.declared.Compared.the-variants.{Lower, Equal, Higher}
 use Rattle.words.proofs.Ordered.{compare-flip, compare-self, compare-equal}
-use Rattle.words.proofs.Tests.{and-left, and-right, and-both}
+use Rattle.words.proofs.Tests.{and-right}
 use Rattle.figures.specs.Limits.{greatest-count}
 use Rattle.section.specs.Entries.{Entry, sectionWords, has, countOf, Below, Sorted, add}
 use Rattle.changes.specs.Editing.{addAll, fitting, lackingWords, overfull}
@@ -22,7 +22,7 @@ use Rattle.changes.specs.declared.Weighed.{Weighed}
 use Rattle.section.proofs.Counts.{lower-differs, below-trans, below-lacks, below-absent, counts-other, has-count, entry-count}
 use Rattle.section.proofs.Searches.{has-lower, has-equal}
 use Rattle.section.proofs.Sizes.{size-add}
-use Rattle.changes.proofs.Adding.{count-add-all, sorted-add-all}
+use Rattle.changes.proofs.Adding.{count-add-all, sorted-add-all, fitting-entry}
 
 -- Past a lower entry the others count.
 count-lower-first : (e : Entry) (es : List Entry) (key : List ℕ) → e .key ≺ key → countOf key (e ∷ es) ≡ countOf key es
@@ -98,18 +98,6 @@ none-lacking [] es h = refl
 none-lacking (o ∷ os) es h = rw (h o (here refl), none-lacking os es (λ i m. h i (there m)))
 
 -- ---- counts that fit
-
--- Of entries that fit, each counts at most 65,535.
-pub fitting-entry : (es : List Entry) → fitting es ≡ true → (e : Entry) → e ∈ es → e .count ≤ greatest-count
-unfolding fitting
-fitting-entry (i ∷ es) h e (here q) = rw q (leb-true (i .count) greatest-count (and-left (leb (i .count) greatest-count) (fitting es) h))
-fitting-entry (i ∷ es) h e (there m) = fitting-entry es (and-right (leb (i .count) greatest-count) (fitting es) h) e m
-
--- Entries of which each counts at most 65,535 fit.
-pub entry-fitting : (es : List Entry) → ((e : Entry) → e ∈ es → e .count ≤ greatest-count) → fitting es ≡ true
-unfolding fitting
-entry-fitting [] h = refl
-entry-fitting (e ∷ es) h = and-both (le-leb (e .count) greatest-count (h e (here refl))) (entry-fitting es (λ i m. h i (there m)))
 
 -- n more of a key fit if the key's count then does and the entries did.
 pub fitting-add : (n : ℕ) (x : List ℕ) (es : List Entry) → Sorted es → fitting (add n x es) ≡ (leb (countOf x es + n) greatest-count and fitting es)

@@ -20,9 +20,9 @@ use Rattle.order.specs.Trees.{Tree, words}
 use Rattle.order.specs.Reading.{byFound, found, treeOf}
 use Rattle.order.specs.Fits.{Fits}
 use Rattle.order.proofs.Orders.{words-read}
-use Rattle.order.proofs.Unique.{words-unique}
+use Rattle.order.proofs.Fitting.{fits-order-of}
 use Rattle.book.specs.Book.{Book, sectionOf, inForm}
-use Rattle.book.specs.Taught.{Teaching, addEach, taught, bookOf, teachingsIn, sameSection, agreeing}
+use Rattle.book.specs.Taught.{Teaching, addEach, taught, bookOf, teachingsIn, agreeing}
 use Rattle.book.specs.declared.Section.{Section}
 use Rattle.book.specs.declared.Section.the-variants.{Taught}
 use Rattle.book.proofs.Sound.{form-sound}
@@ -55,8 +55,7 @@ later e es o = record { sorted = o .sorted .2; limits = λ f m. o .limits f (the
 read-entry : (e : Entry) (es : List Entry) (t : Tree) → e .key ≡ words t → Fits 0 greatest-depth (e .key) → teachingsIn (e ∷ es) ≡ record { order = t; times = e .count } ∷ teachingsIn es
 unfolding teachingsIn byFound
 read-entry e es t q f =
-    let same : f .tree ≡ t = words-unique (f .tree) t (sym (f .isOrder .spelt) ∙ q) in
-    let r : treeOf (e .key) ≡ found t = ap treeOf (f .isOrder .spelt) ∙ words-read (f .tree) (f .isOrder .good) ∙ ap found same in
+    let r : treeOf (e .key) ≡ found t = ap treeOf q ∙ words-read t (fits-order-of (e .key) t q f .good) in
     rw r
 
 -- The first entry of a T in form is the teachings of an order.
@@ -110,10 +109,8 @@ agreeing-is b f a =
 pub is-agreeing : (b : Book) → b ≡ bookOf (b .k) (teachingsIn (b .T)) → agreeing b ≡ true
 unfolding agreeing
 is-agreeing b e =
-    and-both (same (b .R) _ (ap (λ (c : Book). c .R) e)) (and-both (same (b .L) _ (ap (λ (c : Book). c .L) e)) (same (b .P) _ (ap (λ (c : Book). c .P) e)))
-  where
-    same : (x y : List Entry) → x ≡ y → sameSection x y ≡ true
-    same x y q = rw (← q) (section-same x)
+    and-both (section-same (b .R) _ (ap (λ (c : Book). c .R) e))
+    (and-both (section-same (b .L) _ (ap (λ (c : Book). c .L) e)) (section-same (b .P) _ (ap (λ (c : Book). c .P) e)))
 
 -- ---- a teaching more
 

@@ -14,18 +14,21 @@ use Rattle.section.specs.Entries.{Sorted, has}
 use Rattle.order.specs.Trees.{Tree, words}
 use Rattle.order.specs.Fits.{Fits}
 use Rattle.order.specs.Reading.{order, byOrder, orderOf, causeOf}
-use Rattle.order.proofs.Causes.{Seen, seen, stopped, passed, refused-by, order-passed}
+use Rattle.order.proofs.Causes.{cause-is, Seen, seen, stopped, passed, order-passed}
 use Rattle.book.specs.Book.{Book, sectionOf, used, lay, inForm}
 use Rattle.book.specs.Decoding.{bookIn, formed, byBook, sized, onBook, placesOf}
+use Rattle.book.specs.Holding.{Holds}
 use Rattle.book.specs.Taught.{taught}
 use Rattle.book.specs.Opening.{Outcome, leave, writeBook}
 use Rattle.book.specs.declared.Section.{Section}
 use Rattle.book.proofs.Meaning.{decoded, read-back, lay-long}
-use Rattle.book.proofs.Heads.{on-unsized, on-unformed, on-formed, form-formed}
+use Rattle.book.proofs.Heads.{on-unsized, on-unformed, form-formed}
 use Rattle.book.proofs.Holding.{holds}
+use Rattle.book.proofs.Sound.{held-book}
 use Rattle.teach.specs.Calls.{onOrder, withinCounts, teachTree, teachOf, withdrawn, hasParts, withdrawTree, withdrawOf}
 use Rattle.amend.proofs.Sections.{form-sorted}
 use Rattle.teach.proofs.Formed.{passed-fits}
+use Rattle.teach.proofs.Outcomes.{by-cause}
 use Rattle.effects.specs.Conditions.{BookAndOrder}
 
 -- ---- outcomes
@@ -54,12 +57,6 @@ on-both : (ws os : List ℕ) (b : Book) (t : Tree) (f : Book → Tree → Outcom
 unfolding onOrder onBook byBook byOrder if_then_else_
 on-both ws os b t f g = rw (g .size, g .isBook, g .isOrder)
 
--- A call with a book in form and words that are no order refuses by the number of the order.
-no-order-number : (ws os : List ℕ) (f : Book → Tree → Outcome) → sized ws ≡ true → formed ws ≡ true → (causeOf os ≡ done → ⊥) → onOrder ws os f ≡ leave ws (causeOf os)
-unfolding onOrder byOrder
-no-order-number ws os f z g h =
-    on-formed (leave ws) ws (λ b. byOrder (orderOf os) (leave ws) (f b)) z g ∙ rw (refused-by os h)
-
 -- Every call meets one of them.
 pub met : (ws os : List ℕ) → Met ws os
 unfolding onOrder
@@ -68,8 +65,11 @@ met ws os = go (sized ws) refl (formed ws) refl (seen os)
     go : (a : Bool) → sized ws ≡ a → (c : Bool) → formed ws ≡ c → Seen os → Met ws os
     go false z c g s = refuses book-size (λ e. omega arith) (λ f. on-unsized (leave ws) ws _ z)
     go true z false g s = refuses not-in-form (λ e. omega arith) (λ f. on-unformed (leave ws) ws _ z g)
-    go true z true g (stopped h r) = refuses (causeOf os) h (λ f. no-order-number ws os f z g h)
-    go true z true g (passed t k p) = goes (bookIn ws) t (record { size = z; isBook = holds ws (placesOf (bookIn ws)) (form-formed ws z g) .decoded; isOrder = p .is })
+    go true z true g s = with-book (holds ws (placesOf (bookIn ws)) (form-formed ws z g)) s
+      where
+        with-book : Holds ws (placesOf (bookIn ws)) → Seen os → Met ws os
+        with-book w (stopped h r) = refuses (causeOf os) h (by-cause ws os (bookIn ws) (held-book ws _ w) (causeOf os) (cause-is os) h)
+        with-book w (passed t k p) = goes (bookIn ws) t (record { size = z; isBook = w .decoded; isOrder = p .is })
 
 -- ---- what it has of a book in form and an order
 

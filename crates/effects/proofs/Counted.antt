@@ -1,14 +1,13 @@
 -- What a book has once an order is taught: an entry of each tree that the teaching counts, and no fewer words. Assumes nothing.
 use Prim.Native.Nat.{_≤_}
-use mathlib.Core.Path.{_≡_, refl, _∙_}
+use mathlib.Core.Path.{_≡_, refl}
 use mathlib.Core.Bool.{true}
 use mathlib.Core.List.{List·Memᴰ·head as here}
 use native.Mathlib.Omega.{arith}
-use borrow.Author.Tests.{lt-ltb}
 use Rattle.words.specs.Base.{_∈_}
 use Rattle.words.proofs.Tests.{and-both}
 use Rattle.section.specs.Entries.{has, countOf, Sorted}
-use Rattle.section.proofs.Counts.{has-count}
+use Rattle.section.proofs.Counts.{counts-has}
 use Rattle.order.specs.Trees.{Tree, words}
 use Rattle.order.specs.Parts.{top, lowParts, middleParts}
 use Rattle.book.specs.Book.{Book, sectionOf, used}
@@ -29,7 +28,7 @@ module _ (t : Tree) (b : Book) (sorted : (s : Section) → Sorted (sectionOf s b
   pub taught-entry : (s : Section) (u : Tree) → u ∈ treesIn s (b .k) t → has (words u) (sectionOf s (taught 1 t b)) ≡ true
   taught-entry s u m =
       let some : 1 ≤ countOf (words u) (sectionOf s (taught 1 t b)) = omega (arith, count-after-taught 1 t u b s, times-counted s (b .k) 1 t u m) in
-      has-count (words u) (sectionOf s (taught 1 t b)) (after-sorted s) ∙ lt-ltb 0 (countOf (words u) (sectionOf s (taught 1 t b))) some
+      counts-has (words u) (sectionOf s (taught 1 t b)) (after-sorted s) some
 
   -- The order has an entry in T.
   pub taught-has : has (words t) (taught 1 t b .T) ≡ true

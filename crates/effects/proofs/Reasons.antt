@@ -5,14 +5,15 @@ use mathlib.Core.Bool.{Bool, true, false}
 use mathlib.Core.List.{List, [], _∷_, List·Memᴰ·head as here, List·Memᴰ·tail as there, List·Memᴰ·not-nil}
 use native.Mathlib.Decide.{decLt}
 use native.Mathlib.Omega.{arith}
-use borrow.Author.Tests.{le-leb, ltb-false}
+use borrow.Author.Tests.{le-leb}
 use Rattle.words.specs.Base.{if_then_else_, _∈_}
 use Rattle.words.proofs.Tests.{no-test, and-left, and-right, and-both}
 use Rattle.figures.specs.Limits.{greatest-count}
 use Rattle.section.specs.Entries.{Entry, has, countOf, Sorted}
-use Rattle.section.proofs.Counts.{has-count, has-entry, entry-count}
+use Rattle.section.proofs.Counts.{has-entry, entry-count, lacks-counts}
 use Rattle.changes.specs.Editing.{fitting}
-use Rattle.changes.proofs.Weighing.{fitting-entry, fitting-add}
+use Rattle.changes.proofs.Adding.{fitting-entry}
+use Rattle.changes.proofs.Weighing.{fitting-add}
 use Rattle.order.specs.Trees.{Tree, words}
 use Rattle.order.specs.Parts.{top, lowParts, middleParts}
 use Rattle.order.proofs.Once.{NoRepeats}
@@ -38,7 +39,7 @@ count-few z es s f = go (has z es) refl
   where
     go : (x : Bool) → has z es ≡ x → countOf z es ≤ greatest-count
     go true h = let i = has-entry z es h in omega (arith, entry-count z s (i .1) (i .2), fitting-entry es f (i .0) (i .1))
-    go false h = omega (arith, ltb-false 0 (countOf z es) (sym (has-count z es s) ∙ h))
+    go false h = omega (arith, lacks-counts z es s h)
 
 -- A tree of the list counts 65,535, or each counts less.
 data Room (ts : List Tree) (es : List Entry) : Type 0 where

@@ -2,18 +2,15 @@
 -- then in each section. Assumes nothing.
 use Prim.Native.Nat.{ℕ, _+_, _-_, _≤_}
 use mathlib.Core.Path.{_≡_, refl, sym, ap, _∙_}
-use mathlib.Core.Bool.{true}
 use mathlib.Core.List.{List, []}
 use native.Mathlib.Omega.{arith}
 use Rattle.words.specs.Base.{if_then_else_, _∈_}
 use Rattle.order.specs.Trees.{Tree, words}
-use Rattle.section.specs.Entries.{Entry, has, countOf, Sorted}
-use Rattle.section.proofs.Counts.{total-lower}
+use Rattle.section.specs.Entries.{Entry, countOf, Sorted}
 use Rattle.section.proofs.Sorting.{same-counts}
-use Rattle.book.specs.Book.{Book, sectionOf, live}
+use Rattle.book.specs.Book.{Book, sectionOf}
 use Rattle.book.specs.Taught.{addEach, taught}
 use Rattle.book.specs.declared.Section.{Section}
-use Rattle.book.specs.declared.Section.the-variants.{Taught}
 use Rattle.book.proofs.Taught.{in-any, lacks-any, count-each, sorted-each}
 use Rattle.teach.specs.Calls.{lowerEach, withdrawn, treesIn, timesIn}
 use Rattle.teach.proofs.Adds.{same-books, taught-section, withdrawn-section, trees-once, count-each-apart, sorted-lower-each, count-lower-each}
@@ -73,8 +70,3 @@ count-after-withdrawn t u b s sorted =
     let ts : List Tree = treesIn s (b .k) t in
     ap (countOf (words u)) (withdrawn-section t b s)
     ∙ omega (arith, count-lower-each (words u) ts (sectionOf s b) sorted, count-each 1 u ts [] (trees-once (b .k) t s))
-
--- Withdrawing an order that has an entry is one live teaching less.
-pub live-withdrawn : (t : Tree) (b : Book) → Sorted (sectionOf Taught b) → has (words t) (b .T) ≡ true → live (withdrawn t b) + 1 ≡ live b
-unfolding live withdrawn sectionOf
-live-withdrawn t b sorted entry = total-lower (words t) (b .T) sorted entry

@@ -1,16 +1,16 @@
 -- Teaching and withdrawing answer exactly by the rows of 01's table, as specs/Whys.antt states them, for any words: every answer has its row,
 -- and what has a row is the answer. Assumes nothing.
 use Prim.Native.Nat.{ℕ}
-use mathlib.Core.Path.{_≡_, refl, sym, ap, ap₂, _∙_}
+use mathlib.Core.Path.{_≡_, refl, sym, ap₂, _∙_}
 use mathlib.Core.List.{List}
 use native.Mathlib.Omega.{arith}
 use Rattle.figures.specs.Numbers.{done, book-size, not-in-form}
 use Rattle.figures.specs.Answers.{answered}
 use Rattle.order.specs.Trees.{Tree}
-use Rattle.order.specs.Reading.{byOrder, orderOf, causeOf}
+use Rattle.order.specs.Reading.{causeOf}
 use Rattle.order.specs.Causes.{Cause}
 use Rattle.order.specs.Fits.{IsOrder}
-use Rattle.order.proofs.Causes.{cause-is, cause-only, Seen, stopped, passed, seen, refused-by}
+use Rattle.order.proofs.Causes.{cause-is, Seen, stopped, passed, seen}
 use Rattle.order.proofs.Fitting.{passed-order, order-read}
 use Rattle.book.specs.Book.{Book}
 use Rattle.book.specs.Decoding.{bookFormOf}
@@ -19,9 +19,9 @@ use Rattle.book.specs.Taught.{taught}
 use Rattle.book.specs.Opening.{Outcome, outcome, leave}
 use Rattle.book.specs.declared.BookForm.the-variants.{Refused}
 use Rattle.book.proofs.Heads.{is-sized}
-use Rattle.book.proofs.Holding.{refused-book}
-use Rattle.book.proofs.Sound.{sound-form, book-decode, on-any, why-is, why-only}
+use Rattle.book.proofs.Sound.{sound-form, book-decode, why-is, why-only}
 use Rattle.teach.specs.Calls.{onOrder, teachTree, teachOf, withdrawTree, withdrawOf}
+use Rattle.teach.proofs.Outcomes.{unheld, by-cause}
 use Rattle.effects.specs.Conditions.{BookAndOrder}
 use Rattle.effects.specs.Whys.{WhyTaught, teach-no-book, teach-no-order, would-pass, needs-more, book-taught, WhyWithdrawn, withdraw-no-book, withdraw-no-order, no-entry, part-missing, book-withdrawn}
 use Rattle.effects.proofs.Calling.{TeachCase, passing, crowded, teaches, teach-case, WithdrawCase, untaught, lacks, withdraws, withdraw-case}
@@ -57,15 +57,7 @@ module _ (ws os : List ℕ) where
 
   -- A call refuses by 4 or 5 where the book has a reason.
   by-form : (f : Book → Tree → Outcome) (n : ℕ) → WhyForm ws (Refused n) → onOrder ws os f ≡ leave ws n
-  unfolding onOrder
-  by-form f n w = refused-book ws n (why-only ws (Refused n) w) (leave ws) (λ b. byOrder (orderOf os) (leave ws) (f b))
-
-  -- A call refuses by 1 or 2 where the book has none and the order a cause.
-  by-cause : (f : Book → Tree → Outcome) (b : Book) (n : ℕ) → IsBook ws b → Cause os n → (n ≡ done → ⊥) → onOrder ws os f ≡ leave ws n
-  unfolding onOrder byOrder
-  by-cause f b n i h x =
-      let q : causeOf os ≡ n = cause-only os n h in
-      on-any ws b i (leave ws) (λ c. byOrder (orderOf os) (leave ws) (f c)) ∙ rw (refused-by os (λ z. x (sym q ∙ z))) (ap (leave ws) q)
+  by-form f n w = sym (unheld ws os f n (why-only ws (Refused n) w))
 
   -- Words that are a book and an order are met as both.
   is-met : (b : Book) (t : Tree) → IsBook ws b → IsOrder os t → BookAndOrder ws os b t
@@ -85,7 +77,7 @@ module _ (ws os : List ℕ) where
 
       go : Row → WhyTaught ws os (teachOf ws os)
       go (unbooked n w) = teach-no-book n (by-form (teachTree ws) n w) w
-      go (unordered b n i c x) = teach-no-order b n (by-cause (teachTree ws) b n i c x) i c x
+      go (unordered b n i c x) = teach-no-order b n (by-cause ws os b i n c x (teachTree ws)) i c x
       go (both b t i q) = case b t i q (teach-case ws os b t (is-met b t i q))
 
   -- A refusal that teaching has the number of is what it does.
@@ -96,7 +88,7 @@ module _ (ws os : List ℕ) where
   pub teach-only : (o : Outcome) → WhyTaught ws os o → teachOf ws os ≡ o
   unfolding teachOf
   teach-only o (teach-no-book n e w) = by-form (teachTree ws) n w ∙ sym e
-  teach-only o (teach-no-order b n e i c x) = by-cause (teachTree ws) b n i c x ∙ sym e
+  teach-only o (teach-no-order b n e i c x) = by-cause ws os b i n c x (teachTree ws) ∙ sym e
   teach-only o (would-pass b t e i q p) = teach-leaves _ (λ z. omega arith) (teach-7 ws os b t (is-met b t i q) .1 p) ∙ sym e
   teach-only o (needs-more b t e i q p h) = teach-leaves _ (λ z. omega arith) (teach-6 ws os b t (is-met b t i q) .1 (p, h)) ∙ sym e
   teach-only o (book-taught b t e i q p h) =
@@ -118,7 +110,7 @@ module _ (ws os : List ℕ) where
 
       go : Row → WhyWithdrawn ws os (withdrawOf ws os)
       go (unbooked n w) = withdraw-no-book n (by-form (withdrawTree ws) n w) w
-      go (unordered b n i c x) = withdraw-no-order b n (by-cause (withdrawTree ws) b n i c x) i c x
+      go (unordered b n i c x) = withdraw-no-order b n (by-cause ws os b i n c x (withdrawTree ws)) i c x
       go (both b t i q) = case b t i q (withdraw-case ws os b t (is-met b t i q))
 
   -- A refusal that withdrawing has the number of is what it does.
@@ -129,7 +121,7 @@ module _ (ws os : List ℕ) where
   pub withdraw-only : (o : Outcome) → WhyWithdrawn ws os o → withdrawOf ws os ≡ o
   unfolding withdrawOf
   withdraw-only o (withdraw-no-book n e w) = by-form (withdrawTree ws) n w ∙ sym e
-  withdraw-only o (withdraw-no-order b n e i c x) = by-cause (withdrawTree ws) b n i c x ∙ sym e
+  withdraw-only o (withdraw-no-order b n e i c x) = by-cause ws os b i n c x (withdrawTree ws) ∙ sym e
   withdraw-only o (no-entry b t e i q h) = withdraw-leaves _ (λ z. omega arith) (withdraw-8 ws os b t (is-met b t i q) .1 h) ∙ sym e
   withdraw-only o (part-missing b t e i q h p) = withdraw-leaves _ (λ z. omega arith) (withdraw-9 ws os b t (is-met b t i q) .1 (h, p)) ∙ sym e
   withdraw-only o (book-withdrawn b t e i q h p) =

@@ -11,7 +11,7 @@ use Rattle.order.specs.Trees.{Tree}
 use Rattle.order.specs.Reading.{causeOf}
 use Rattle.order.specs.Causes.{Cause, empty, odd, long, no-tree, deep, none}
 use Rattle.order.proofs.Fitting.{passed-order, order-read}
-use Rattle.order.proofs.Causes.{cause-only, cause-is, Seen, stopped, passed, seen}
+use Rattle.order.proofs.Causes.{cause-is, Seen, stopped, passed, seen}
 use Rattle.book.specs.Book.{Book}
 use Rattle.book.specs.Decoding.{bookFormOf}
 use Rattle.book.specs.Sound.{IsBook, WhyForm, shorter, longer, formless, book}
@@ -28,7 +28,7 @@ module _ (ws os : List ℕ) where
   judged-is = go (why-is ws)
     where
       ordered : (b : Book) → IsBook ws b → Seen os → Judged ws os (judgeOf ws os)
-      ordered b i (stopped h r) = no-order b (causeOf os) (by-cause ws os b i h) i (cause-is os) h
+      ordered b i (stopped h r) = no-order b (causeOf os) (by-cause ws os b i (causeOf os) (cause-is os) h) i (cause-is os) h
       ordered b i (passed t h p) =
           judged b t i (passed-order os t p) (subst (Verdict b t) (sym (by-verdict ws os b i t (p .is))) (verdict-is b (i .sound .least) t))
 
@@ -41,9 +41,7 @@ module _ (ws os : List ℕ) where
   -- And by no other.
   pub judged-only : (a : Answer) → Judged ws os a → judgeOf ws os ≡ a
   judged-only a (no-book n e w) = judge-unheld ws os n (why-only ws (Refused n) w) ∙ sym e
-  judged-only a (no-order b n e i c x) =
-      let q : causeOf os ≡ n = cause-only os n c in
-      by-cause ws os b i (λ z. x (sym q ∙ z)) ∙ ap answered q ∙ sym e
+  judged-only a (no-order b n e i c x) = by-cause ws os b i n c x ∙ sym e
   judged-only a (judged b t i o v) =
       by-verdict ws os b i t (order-read os t o) ∙ verdict-one b (i .sound .least) t (verdict b t) a (verdict-is b (i .sound .least) t) v
 

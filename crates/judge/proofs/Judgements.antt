@@ -11,12 +11,13 @@ use Rattle.figures.specs.Numbers.{done, top-unknown, low-unknown, middle-unknow
 use Rattle.figures.specs.Answers.{answered}
 use Rattle.order.specs.Trees.{Tree, subtrees}
 use Rattle.order.specs.Reading.{order, byOrder, orderOf, causeOf}
+use Rattle.order.specs.Causes.{Cause}
 use Rattle.order.specs.Parts.{isLow}
 use Rattle.order.specs.Walks.{partAtOf}
 use Rattle.order.specs.Answers.{checkOf}
 use Rattle.order.specs.declared.PartAt.{PartAt}
 use Rattle.order.specs.declared.PartAt.the-variants.{NoPart, LowTo, MiddleTo}
-use Rattle.order.proofs.Causes.{Passed, has-tree, refused-by}
+use Rattle.order.proofs.Causes.{Passed, has-tree, cause-is, cause-refuses}
 use Rattle.order.proofs.Lines.{line-spot, tree-next}
 use Rattle.book.specs.Book.{Book}
 use Rattle.book.specs.Decoding.{bookIn, bookFormOf}
@@ -24,7 +25,7 @@ use Rattle.book.specs.Holding.{Holds}
 use Rattle.book.specs.Sound.{IsBook}
 use Rattle.book.specs.declared.Places.{Places}
 use Rattle.book.specs.declared.BookForm.the-variants.{Refused}
-use Rattle.book.proofs.Sound.{decode-book, on-any}
+use Rattle.book.proofs.Sound.{held-book, on-any}
 use Rattle.book.proofs.Holding.{refused-book}
 use Rattle.judge.specs.Judging.{knows, firstUnknown, verdict, judgeOf}
 use Rattle.judge.specs.Seeking.{unknownLine, topKnown, lineUnknown, unknownNumber, lineAnswer}
@@ -91,9 +92,8 @@ module _ (ws os : List ℕ) (b : Book) (i : IsBook ws b) where
   by-book = on-any ws b i answered (λ c. byOrder (orderOf os) answered (verdict c))
 
   -- An order with a cause of 1 or 2 is answered by it.
-  pub by-cause : (causeOf os ≡ done → ⊥) → judgeOf ws os ≡ answered (causeOf os)
-  unfolding byOrder
-  by-cause n = by-book ∙ rw (refused-by os n)
+  pub by-cause : (n : ℕ) → Cause os n → (n ≡ done → ⊥) → judgeOf ws os ≡ answered n
+  by-cause n c x = by-book ∙ cause-refuses os n c x answered (verdict b)
 
   -- Any other is answered by the verdict.
   pub by-verdict : (t : Tree) → orderOf os ≡ order t → judgeOf ws os ≡ verdict b t
@@ -101,20 +101,16 @@ module _ (ws os : List ℕ) (b : Book) (i : IsBook ws b) where
   by-verdict t e = by-book ∙ rw e
 
 module _ (ws os : List ℕ) (p : Places) (H : Holds ws p) where
-  -- The words are the book's.
-  held-book : IsBook ws (bookIn ws)
-  held-book = decode-book ws (bookIn ws) (H .long) (H .short) (H .decoded)
-
   -- An order with a cause of 1 or 2 is answered by it.
   pub judge-refused : (causeOf os ≡ done → ⊥) → judgeOf ws os ≡ checkOf os
   unfolding checkOf
-  judge-refused n = by-cause ws os (bookIn ws) held-book n
+  judge-refused n = by-cause ws os (bookIn ws) (held-book ws p H) (causeOf os) (cause-is os) n
 
   module _ (e : causeOf os ≡ done) where
     -- The order's tree is judged.
     judge-tree : (t : Tree) → Passed os t → judgeOf ws os ≡ (if topKnown (bookIn ws) os then firstUnknown (bookIn ws) 1 (subtrees t) else record { number = top-unknown; line = 1 })
     unfolding byOrder verdict topKnown
-    judge-tree t q = by-verdict ws os (bookIn ws) held-book t (q .is) ∙ rw (q .is)
+    judge-tree t q = by-verdict ws os (bookIn ws) (held-book ws p H) t (q .is) ∙ rw (q .is)
 
     -- "20 with line 1 if the top is unknown"
     pub judge-top : topKnown (bookIn ws) os ≡ false → judgeOf ws os ≡ record { number = top-unknown; line = 1 }

@@ -101,6 +101,11 @@ refused-by s h = go (orderOf s) refl
     go (refused n) e = rw e refl
     go (order t) e = absurd (h (rw e refl))
 
+-- What goes by an order refuses by the number of its cause, if that is not 0.
+pub cause-refuses : {A : Type 0} (s : List ℕ) (n : ℕ) → Cause s n → (n ≡ done → ⊥) → (f : ℕ → A) (g : Tree → A) → byOrder (orderOf s) f g ≡ f n
+unfolding byOrder
+cause-refuses s n c h f g = let q : causeOf s ≡ n = cause-only s n c in rw (refused-by s (λ z. h (sym q ∙ z))) (ap f q)
+
 -- Any words are one or the other, by their cause.
 pub seen : (s : List ℕ) → Seen s
 seen s = go (cause-is s)

@@ -1,7 +1,7 @@
 -- Which words fit (specs/Fits.antt): what the walk from word 0 says of it, that `fitsOf` is `Fits`, and that the parts of an order fit.
 -- Assumes nothing.
 use Prim.Native.Nat.{ℕ, _-_, _*_, _/_, _≤_, _<_}
-use mathlib.Core.Path.{_≡_, refl, ap, sym, _∙_}
+use mathlib.Core.Path.{_≡_, refl, ap, sym, subst, _∙_}
 use mathlib.Core.Bool.{true, false}
 use mathlib.Core.List.{List, [], Memᴰ·of-map}
 use native.Mathlib.Omega.{arith}
@@ -92,9 +92,21 @@ module _ (least greatest h : ℕ) (s : List ℕ) (short : length s ≤ most-word
 pub passed-order : (ws : List ℕ) (t : Tree) → Passed ws t → IsOrder ws t
 passed-order ws t p = record { spelt = p .spelt; good = p .good; nodes = p .nodes; deep = p .deep }
 
+-- So are words that are the order of a tree.
+pub read-order : (ws : List ℕ) (t : Tree) → orderOf ws ≡ order t → IsOrder ws t
+read-order ws t e = passed-order ws t (order-passed ws t e)
+
 -- And the other way round.
 pub order-read : (ws : List ℕ) (t : Tree) → IsOrder ws t → orderOf ws ≡ order t
 order-read ws t o = ap orderOf (o .spelt) ∙ tree-passes t (o .good) (o .nodes) (o .deep)
+
+-- An order within limits fits.
+pub order-fits : {ws : List ℕ} {t : Tree} → IsOrder ws t → Fits 0 greatest-depth ws
+order-fits {ws} {t} o = record { tree = t; isOrder = o; above = omega arith; below = o .deep }
+
+-- Words that fit are an order of any tree whose words they are.
+pub fits-order-of : {least greatest : ℕ} (ws : List ℕ) (t : Tree) → ws ≡ words t → Fits least greatest ws → IsOrder ws t
+fits-order-of ws t e f = subst (IsOrder ws) (words-unique (f .tree) t (sym (f .isOrder .spelt) ∙ e)) (f .isOrder)
 
 module _ (least greatest : ℕ) (ws : List ℕ) where
   -- Words that fit are those of a tree within the limits, of such a depth.
@@ -135,7 +147,7 @@ fits-some least greatest ws e = let f = fits-tree least greatest ws e in ap (com
 -- A tree whose words fit is an order.
 fits-passed : (t : Tree) (least greatest : ℕ) → Fits least greatest (words t) → Passed (words t) t
 fits-passed t least greatest f =
-    order-passed (words t) t (order-read (words t) (f .tree) (f .isOrder) ∙ ap order (words-unique (f .tree) t (sym (f .isOrder .spelt))))
+    order-passed (words t) t (order-read (words t) t (fits-order-of (words t) t refl f))
 
 -- The top of an order fits.
 pub top-fits : (k : ℕ) (t : Tree) (least greatest : ℕ) → Fits least greatest (words t) → Fits 0 (k - 2) (words (top k t))

@@ -8,12 +8,11 @@ use lib.Seq.{getD-at, getD-take, getD-drop}
 use Rattle.words.specs.Base.{over}
 use Rattle.figures.specs.Limits.{most-nodes}
 use Rattle.figures.specs.Numbers.{done}
-use Rattle.figures.specs.declared.Answer.{Answer}
 use Rattle.figures.specs.declared.Written.{Written}
 use Rattle.figures.specs.Answers.{wrote}
 use Rattle.order.specs.Trees.{Tree}
 use Rattle.order.specs.Reading.{byOrder, causeOf}
-use Rattle.order.specs.Answers.{checkOf, writing, write}
+use Rattle.order.specs.Answers.{writing, write}
 use Rattle.order.proofs.Orders.{size}
 use Rattle.order.proofs.Causes.{Passed, refused-by, has-tree}
 use Rattle.form.specs.Text.{Line, linesOf, lineText, spell, textOf}
@@ -125,11 +124,6 @@ put-all s out₀ out line at fine h p = go (p .after) (p .split)
     go (x ∷ ys) e = absurd (omega (arith, known s fine .twice, ap length e, length-append (p .before) (x ∷ ys), p .reached))
 
 -- ---- the call
-
--- The number of a check is the order's.
-pub checked : (s : List ℕ) (r : Answer) → r ≡ checkOf s → r .number ≡ causeOf s
-unfolding checkOf
-checked s r e = ap (λ (a : Answer). a .number) e
 
 -- A cause refuses the order, and nothing is written.
 pub write-refused : (s out : List ℕ) (n : ℕ) (r : Written) → n ≡ causeOf s → (n ≡ done → ⊥) → r ≡ wrote n 0 → writing r out ≡ writeOf s out

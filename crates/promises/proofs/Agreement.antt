@@ -5,26 +5,25 @@ use mathlib.Core.Path.{_≡_, refl, sym, ap, subst, _∙_}
 use mathlib.Core.Bool.{Bool, true, false}
 use mathlib.Core.List.{List, [], _∷_, List·Memᴰ·head as here, List·Memᴰ·not-nil}
 use native.Mathlib.Omega.{arith}
-use borrow.Author.Tests.{ltb-false}
 use Rattle.words.specs.Base.{_∈_}
 use Rattle.words.proofs.Tests.{no-test, and-both}
 use Rattle.figures.specs.Limits.{least-k}
 use Rattle.section.specs.Entries.{Entry, has, countOf, Sorted}
-use Rattle.section.proofs.Counts.{has-count, has-entry}
+use Rattle.section.proofs.Counts.{has-entry, lacks-counts}
 use Rattle.section.proofs.Sorting.{same-counts}
 use Rattle.order.specs.Trees.{Tree, words}
 use Rattle.order.specs.Fits.{IsOrder}
 use Rattle.order.specs.Paper.{IsR, IsL, IsP}
-use Rattle.order.proofs.Unique.{words-unique}
+use Rattle.order.proofs.Fitting.{fits-order-of}
 use Rattle.book.specs.Book.{Book, sectionOf, inForm}
 use Rattle.book.specs.Sound.{SoundBook}
-use Rattle.book.specs.Taught.{Teaching, bookOf, teachingsIn, anyTree, sameSection, agreeing}
+use Rattle.book.specs.Taught.{Teaching, bookOf, teachingsIn, anyTree, agreeing}
 use Rattle.book.specs.declared.Section.{Section}
 use Rattle.book.specs.declared.Section.the-variants.{Tops, Lows, Middles}
 use Rattle.book.proofs.Sound.{form-sound, sound-section}
-use Rattle.book.proofs.Taught.{any-in, in-any, taught-k, each-keys, section-same}
+use Rattle.book.proofs.Taught.{any-in, in-any, taught-k, each-keys, section-same, none-in}
 use Rattle.teach.specs.Calls.{treesIn, timesIn}
-use Rattle.teach.proofs.Adds.{each-section, taught-section}
+use Rattle.teach.proofs.Adds.{taught-section}
 use Rattle.amend.proofs.Sections.{form-sorted}
 use Rattle.effects.specs.Conditions.{_exactly-when_}
 use Rattle.effects.proofs.Undoing.{times-counted, times-other, count-after-taught}
@@ -46,11 +45,6 @@ one-sum (counts-not x c) (counts-not y d) = one-sum c d
 -- ---- the book of the teachings that a T counts
 
 module _ (k : ℕ) (s : Section) where
-  -- The book of no teachings has no entries.
-  empty-section : sectionOf s (bookOf k []) ≡ []
-  unfolding bookOf sectionOf
-  empty-section = each-section (λ (s : Section). sectionOf s (bookOf k []) ≡ []) refl refl refl refl s
-
   -- With one entry more in T the book of its teachings counts a tree more by the entry's count, where a teaching of its order counts the tree.
   entry-more : (u : Tree) (e : Entry) (es : List Entry) (t : Tree) → teachingsIn (e ∷ es) ≡ record { order = t; times = e .count } ∷ teachingsIn es
       → countOf (words u) (sectionOf s (bookOf k (teachingsIn (e ∷ es)))) ≡ timesIn s k (e .count) t u + countOf (words u) (sectionOf s (bookOf k (teachingsIn es)))
@@ -64,11 +58,10 @@ module _ (k : ℕ) (s : Section) where
   -- counts the tree there.
   counts-in : (u : Tree) (Q : List ℕ → Type 0) → ((os : List ℕ) (t : Tree) → IsOrder os t → u ∈ treesIn s k t → Q os) → ((os : List ℕ) (t : Tree) → IsOrder os t → Q os → u ∈ treesIn s k t)
       → (es : List Entry) → Orders es → CountsOf Q es (countOf (words u) (sectionOf s (bookOf k (teachingsIn es))))
-  counts-in u Q from to [] all = unfold teachingsIn countOf in rw empty-section no-entry
+  counts-in u Q from to [] all = unfold teachingsIn countOf in rw (none-in s k) no-entry
   counts-in u Q from to (e ∷ es) all =
       let f = first e es all in
-      let l = all .limits e (here refl) in
-      let o : IsOrder (e .key) (f .tree) = subst (IsOrder (e .key)) (words-unique (l .tree) (f .tree) (sym (l .isOrder .spelt) ∙ f .spelt)) (l .isOrder) in
+      let o : IsOrder (e .key) (f .tree) = fits-order-of (e .key) (f .tree) (f .spelt) (all .limits e (here refl)) in
       go (f .tree) o (entry-more u e es (f .tree) (f .reads)) (anyTree u (treesIn s k (f .tree))) refl (counts-in u Q from to es (later e es all))
     where
       -- What the tree counts by all the entries.
@@ -92,7 +85,7 @@ module _ (k : ℕ) (s : Section) where
 
   -- Each key in the book of teachings is the words of a tree.
   keys-trees : (os : List Teaching) (e : Entry) → e ∈ sectionOf s (bookOf k os) → (u : Tree) × (e .key ≡ words u)
-  keys-trees [] e m = absurd (List·Memᴰ·not-nil (rw empty-section at m))
+  keys-trees [] e m = absurd (List·Memᴰ·not-nil (rw (none-in s k) at m))
   keys-trees (o ∷ os) e m =
       each-keys (λ (x : List ℕ). (u : Tree) × (x ≡ words u)) (o .times) (treesIn s (bookOf k os .k) (o .order)) (sectionOf s (bookOf k os)) (λ t i. (t, refl)) (keys-trees os) e
       (unfold bookOf in rw (taught-section (o .times) (o .order) (bookOf k os) s) at m)
@@ -108,15 +101,11 @@ same-trees a c sa sc ta tc same = same-counts a c sa sc (λ z. go z (has z a) re
     by-tree : (z : List ℕ) (e : Entry) → e .key ≡ z → (u : Tree) × (e .key ≡ words u) → countOf z a ≡ countOf z c
     by-tree z e k t = subst (λ (x : List ℕ). countOf x a ≡ countOf x c) (sym (t .1) ∙ k) (same (t .0))
 
-    -- A key that has none counts 0.
-    absent : (z : List ℕ) (es : List Entry) → Sorted es → has z es ≡ false → countOf z es ≡ 0
-    absent z es s h = omega (arith, ltb-false 0 (countOf z es) (sym (has-count z es s) ∙ h))
-
     -- By which of the two has an entry of the key.
     go : (z : List ℕ) (p : Bool) → has z a ≡ p → (q : Bool) → has z c ≡ q → countOf z a ≡ countOf z c
     go z true h q i = let x = has-entry z a h in by-tree z (x .0) (x .2) (ta (x .0) (x .1))
     go z false h true i = let x = has-entry z c i in by-tree z (x .0) (x .2) (tc (x .0) (x .1))
-    go z false h false i = absent z a sa h ∙ sym (absent z c sc i)
+    go z false h false i = lacks-counts z a sa h ∙ sym (lacks-counts z c sc i)
 
 -- Each key of a sound book is the words of a tree.
 pub sound-trees : (b : Book) → SoundBook b → (s : Section) (e : Entry) → e ∈ sectionOf s b → (u : Tree) × (e .key ≡ words u)
@@ -173,8 +162,7 @@ module _ (b : Book) (form : inForm b ≡ true) where
       let r : b .R ≡ own .R = own-section Tops (λ u. one-sum (g .tops u) (own-tops u)) in
       let l : b .L ≡ own .L = own-section Lows (λ u. one-sum (g .lows u) (own-lows u)) in
       let p : b .P ≡ own .P = own-section Middles (λ u. one-sum (g .middles u) (own-middles u)) in
-      and-both (ap (sameSection (b .R)) (sym r) ∙ section-same (b .R))
-      (and-both (ap (sameSection (b .L)) (sym l) ∙ section-same (b .L)) (ap (sameSection (b .P)) (sym p) ∙ section-same (b .P)))
+      and-both (section-same _ _ r) (and-both (section-same _ _ l) (section-same _ _ p))
 
 -- A book in form passes the test exactly if it agrees with itself: each count in R, L and P is "the number of live teachings whose order has
 -- that part".

@@ -17,9 +17,9 @@ use Rattle.book.specs.Sound.{IsBook, WhyForm, shorter, longer, formless, book}
 use Rattle.book.specs.Taught.{agreeing}
 use Rattle.book.specs.Opening.{openOf}
 use Rattle.book.specs.declared.BookForm.the-variants.{Refused}
-use Rattle.book.proofs.Holding.{refused-book}
-use Rattle.book.proofs.Sound.{sound-form, decode-book, on-any, why-is, why-only}
+use Rattle.book.proofs.Sound.{sound-form, decode-book, why-is, why-only}
 use Rattle.agree.specs.Checking.{checkOf}
+use Rattle.agree.proofs.Checking.{check-unheld, check-held}
 use Rattle.effects.specs.Conditions.{_exactly-when_}
 use Rattle.promises.specs.Remaining.{Call, after}
 use Rattle.promises.specs.Agreement.{Agrees}
@@ -34,15 +34,9 @@ module _ (ws : List ℕ) where
 
   -- Checking refuses by 4 or 5 where the words have such a reason.
   unbooked : (n : ℕ) → WhyForm ws (Refused n) → checkOf ws ≡ answered n
-  unfolding checkOf
-  unbooked n w = refused-book ws n (why-only ws (Refused n) w) answered (λ b. by-test (agreeing b))
+  unbooked n w = check-unheld ws n (why-only ws (Refused n) w)
 
   module _ (b : Book) (i : IsBook ws b) where
-    -- The words of a book are answered by whether it passes the test.
-    tested : checkOf ws ≡ by-test (agreeing b)
-    unfolding checkOf
-    tested = on-any ws b i answered (λ c. by-test (agreeing c))
-
     -- The book passes the test exactly if it agrees with itself.
     test-exact : (agreeing b ≡ true) exactly-when Agrees b
     test-exact = agreeing-exactly b (sound-form b (i .sound))
@@ -50,12 +44,12 @@ module _ (ws : List ℕ) where
     -- One that passes is answered by 0,
     passed-0 : agreeing b ≡ true → checkOf ws ≡ answered done
     unfolding if_then_else_
-    passed-0 e = tested ∙ ap by-test e
+    passed-0 e = check-held ws b i ∙ ap by-test e
 
     -- and one that does not by 9.
     failed-9 : agreeing b ≡ false → checkOf ws ≡ answered not-agreeing
     unfolding if_then_else_
-    failed-9 e = tested ∙ ap by-test e
+    failed-9 e = check-held ws b i ∙ ap by-test e
 
   -- What checking answers has a row of 01's table.
   pub checked-why : WhyChecked ws (checkOf ws)

@@ -21,5 +21,10 @@ use Rattle.promises.specs.Heard.{computed, heard}
 
 -- Opens them all.
 unfoldable pub computes : ℕ
-unfolding _and_ if_then_else_ sameWords keep compareOf before count words depth cut subtrees firstTrees laterTrees soundNode nodeOver readTrees byFound only treeOf byOrder withinDepth orderOf top isLow lows middle isMiddle middles sameTree eachOnce lowParts middleParts fitsOf sectionWords entries span has total add lower fitting sectionOf body used live encode lay entryInForm ascendingFrom sectionInForm inForm topsAt lowsAt middlesAt bookIn formed decode byBook sized onBook addEach taught bookOf teachingsIn sameSection agreeing openOf onOrder withinCounts teachTree teachOf lowerEach withdrawn hasEach hasParts withdrawTree withdrawOf computed heard knows firstUnknown verdict judgeOf write isDigit value isCode codeBehind speltOf byLine allowed siblings lineOf byForm readLines formOf children wordsOf readOf checkOf
+unfolding _and_ if_then_else_ sameWords keep compareOf before count words depth cut subtrees firstTrees laterTrees soundNode nodeOver readTrees
+    byFound only treeOf byOrder withinDepth orderOf top isLow lows middle isMiddle middles sameTree eachOnce lowParts middleParts fitsOf sectionWords
+    entries span has total add lower fitting sectionOf body used live encode lay entryInForm ascendingFrom sectionInForm inForm topsAt lowsAt
+    middlesAt bookIn formed decode byBook sized onBook addEach taught bookOf teachingsIn sameSection agreeing openOf onOrder withinCounts teachTree
+    teachOf lowerEach withdrawn hasEach hasParts withdrawTree withdrawOf computed heard knows firstUnknown verdict judgeOf write isDigit value isCode
+    codeBehind speltOf byLine allowed siblings lineOf byForm readLines formOf children wordsOf readOf checkOf
 computes = 0

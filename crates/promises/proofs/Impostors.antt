@@ -11,8 +11,7 @@ use Rattle.figures.specs.Answers.{answered}
 use Rattle.figures.specs.declared.Answer.{Answer}
 use Rattle.order.specs.Trees.{Tree, words}
 use Rattle.order.specs.Fits.{IsOrder}
-use Rattle.order.proofs.Causes.{order-passed}
-use Rattle.order.proofs.Fitting.{passed-order}
+use Rattle.order.proofs.Fitting.{read-order}
 use Rattle.book.specs.Book.{Book}
 use Rattle.book.specs.Sound.{IsBook}
 use Rattle.book.specs.Decoding.{bookIn}
@@ -110,7 +109,7 @@ taught-book = decode-book one-taught (bookIn one-taught) (omega arith) (omega ar
 -- The node is an order within limits.
 single-order : IsOrder (words single) single
 unfolding computes
-single-order = passed-order (words single) single (order-passed (words single) single refl)
+single-order = read-order (words single) single refl
 
 -- ---- the impostors
 

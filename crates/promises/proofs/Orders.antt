@@ -24,9 +24,9 @@ use Rattle.book.specs.Taught.{taught, bookOf, anyTree}
 use Rattle.book.specs.declared.Section.{Section}
 use Rattle.book.specs.declared.Section.the-variants.{Taught, Tops, Lows, Middles}
 use Rattle.book.proofs.Openings.{opened-formed}
-use Rattle.book.proofs.Taught.{any-in, in-any, taught-sorted}
+use Rattle.book.proofs.Taught.{any-in, in-any, taught-sorted, none-in}
 use Rattle.teach.specs.Calls.{withinCounts, treesIn, timesIn}
-use Rattle.teach.proofs.Adds.{each-section, live-taught}
+use Rattle.teach.proofs.Adds.{live-taught}
 use Rattle.teach.proofs.Formed.{taught-keeps-form}
 use Rattle.effects.specs.Conditions.{WouldPass, lives, touched}
 use Rattle.effects.proofs.Undoing.{commute, times-counted, times-other, count-after-taught}
@@ -43,10 +43,6 @@ Orders orders = (os : List ℕ) → os ∈ orders → Fits 0 greatest-depth os
 -- So are those past the first.
 pub later : (os : List ℕ) (rest : List (List ℕ)) → Orders (os ∷ rest) → Orders rest
 later os rest all ps m = all ps (there m)
-
--- The words of a tree within limits fit.
-pub order-fits : {os : List ℕ} {t : Tree} → IsOrder os t → Fits 0 greatest-depth os
-order-fits {os} {t} o = record { tree = t; isOrder = o; above = omega arith; below = o .deep }
 
 -- With one order more they are still orders.
 pub one-order-more : (os : List ℕ) (rest : List (List ℕ)) → Fits 0 greatest-depth os → Orders rest → Orders (os ∷ rest)
@@ -147,8 +143,8 @@ module _ (k : ℕ) (s : Section) (u : Tree) where
 
   -- A book of no orders counts nothing.
   empty-count : countOf (words u) (sectionOf s (booked k [])) ≡ 0
-  unfolding booked bookOf sectionOf countOf
-  empty-count = each-section (λ (s : Section). countOf (words u) (sectionOf s (booked k [])) ≡ 0) refl refl refl refl s
+  unfolding booked countOf
+  empty-count = ap (countOf (words u)) (none-in s k)
 
   -- It counts a tree in a section by how many orders have a property, if an order has it exactly where its teaching counts the tree there.
   how-many : (Q : List ℕ → Type 0) → ((os : List ℕ) (t : Tree) → IsOrder os t → u ∈ treesIn s k t → Q os) → ((os : List ℕ) (t : Tree) → IsOrder os t → Q os → u ∈ treesIn s k t)

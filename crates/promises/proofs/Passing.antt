@@ -1,15 +1,14 @@
 -- By a book of exactly the orders that remain, judging answers 0 for an order exactly if it is made only of parts of these. Assumes nothing.
 use Prim.Native.Nat.{ℕ, _-_, _≤_}
-use mathlib.Core.Path.{_≡_, refl, sym, ap, subst, _∙_}
+use mathlib.Core.Path.{_≡_, refl, sym, ap, subst}
 use mathlib.Core.List.{List, List·Memᴰ·head as here, List·Memᴰ·tail as there}
 use native.Mathlib.Omega.{arith}
-use borrow.Author.Tests.{ltb-true, lt-ltb}
 use Rattle.words.specs.Base.{_∈_}
 use Rattle.figures.specs.Numbers.{done}
 use Rattle.figures.specs.Answers.{answered}
 use Rattle.figures.specs.declared.Answer.{Answer}
 use Rattle.section.specs.Entries.{Entry, countOf, Sorted}
-use Rattle.section.proofs.Counts.{has-count, has-entry, entry-has}
+use Rattle.section.proofs.Counts.{has-entry, entry-has, has-counts, counts-has}
 use Rattle.order.specs.Trees.{Tree, words}
 use Rattle.order.specs.Fits.{IsOrder}
 use Rattle.order.specs.Paper.{IsR, IsL, IsP}
@@ -44,12 +43,12 @@ some-many (there i) q (not-this x m) = some-many i q m
 module _ (es : List Entry) (u : Tree) (sorted : Sorted es) where
   -- A tree in a sorted section counts there.
   in-counts : In es u → 1 ≤ countOf (words u) es
-  in-counts i = ltb-true 0 (countOf (words u) es) (sym (has-count (words u) es sorted) ∙ entry-has (words u) (i .there) (i .spelt))
+  in-counts i = has-counts (words u) es sorted (entry-has (words u) (i .there) (i .spelt))
 
   -- A tree that counts there is in it.
   counted-in : 1 ≤ countOf (words u) es → In es u
   counted-in h =
-      let x = has-entry (words u) es (has-count (words u) es sorted ∙ lt-ltb 0 (countOf (words u) es) h) in
+      let x = has-entry (words u) es (counts-has (words u) es sorted h) in
       record { entry = x .0; there = x .1; spelt = x .2 }
 
   -- If it counts there by how many orders have it as a part, it is in the section exactly if one of the orders has it.

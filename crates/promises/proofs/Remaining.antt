@@ -6,8 +6,8 @@ use mathlib.Core.Bool.{Bool, true, false}
 use mathlib.Core.List.{List, [], _∷_, List·Memᴰ·head as here, List·Memᴰ·not-nil}
 use mathlib.Core.Option.{some}
 use native.Mathlib.Omega.{arith}
-use borrow.Author.Tests.{ltb-true, eqb-true, eq-eqb}
-use lib.Dec.{ltb, eqb}
+use borrow.Author.Tests.{eqb-true, eq-eqb}
+use lib.Dec.{eqb}
 use lib.ListN.{length}
 use Rattle.words.specs.Base.{_and_, if_then_else_}
 use Rattle.words.proofs.Tests.{no-test}
@@ -15,13 +15,12 @@ use Rattle.figures.specs.Limits.{least-k, greatest-k, greatest-count, head-word
 use Rattle.figures.specs.Numbers.{done}
 use Rattle.figures.specs.Answers.{answered}
 use Rattle.figures.specs.declared.Answer.{Answer}
-use Rattle.section.specs.Entries.{has, countOf}
-use Rattle.section.proofs.Counts.{has-count}
-use Rattle.order.specs.Trees.{Tree, words}
+use Rattle.section.specs.Entries.{has}
+use Rattle.section.proofs.Counts.{has-counts}
+use Rattle.order.specs.Trees.{Tree}
 use Rattle.order.specs.Reading.{orderOf, order}
 use Rattle.order.specs.Fits.{IsOrder}
-use Rattle.order.proofs.Causes.{order-passed}
-use Rattle.order.proofs.Fitting.{passed-order, order-read}
+use Rattle.order.proofs.Fitting.{order-read, read-order, order-fits}
 use Rattle.book.specs.Book.{Book, sectionOf, used, live, lay, inForm}
 use Rattle.book.specs.Decoding.{decode}
 use Rattle.book.specs.Sound.{IsBook}
@@ -41,7 +40,8 @@ use Rattle.effects.proofs.Counted.{taught-uses}
 use Rattle.effects.proofs.Undoing.{undo}
 use Rattle.effects.proofs.Sequences.{teach-agrees, withdraw-agrees}
 use Rattle.promises.specs.Remaining.{Call, teach, withdraw, after, without, remainBy, remaining, timesOf, SameOrders, taughtAll, NoneRefused, ExactlyThese, booked}
-use Rattle.promises.proofs.Orders.{Orders, later, order-fits, one-order-more, without-in, booked-first, booked-k, booked-sorted, booked-live, booked-uses, counts-taught, counts-tops, counts-lows, counts-middles, count-times, more-within, booked-form, booked-without, same-fit, same-book}
+use Rattle.promises.proofs.Orders.{Orders, later, one-order-more, without-in, more-within, same-fit, same-book, count-times}
+use Rattle.promises.proofs.Orders.{booked-first, booked-k, booked-sorted, booked-live, booked-uses, counts-taught, counts-tops, counts-lows, counts-middles, booked-form, booked-without}
 
 -- ---- what calls keep
 
@@ -88,7 +88,7 @@ module _ (slice : List ℕ) (k : ℕ) (long : head-words ≤ length slice) (shor
     module _ (os : List ℕ) (t : Tree) (o : orderOf os ≡ order t) where
       -- The words of the order are those of its tree.
       its-tree : IsOrder os t
-      its-tree = passed-order os t (order-passed os t o)
+      its-tree = read-order os t o
 
       -- The orders with this one are within limits.
       with-limits : Orders (os ∷ orders)
@@ -126,8 +126,8 @@ module _ (slice : List ℕ) (k : ℕ) (long : head-words ≤ length slice) (shor
           let g : BookAndOrder ws os (booked k orders) t = kept-met os t o in
           let left : Book = booked k (without os orders) in
           let entry : has os (booked k orders .T) ≡ true = rw (sym (its-tree .spelt)) at (withdraw-0 ws os (booked k orders) t g .0 e .0) in
-          let tested : ltb 0 (countOf os (booked k orders .T)) ≡ true = sym (has-count os (booked k orders .T) (booked-sorted k orders (kept .limits) Taught)) ∙ entry in
-          let some : 1 ≤ timesOf os orders = omega (arith, ltb-true 0 (countOf os (booked k orders .T)) tested, count-times k os orders (kept .limits)) in
+          let some : 1 ≤ timesOf os orders =
+          omega (arith, has-counts os (booked k orders .T) (booked-sorted k orders (kept .limits) Taught) entry, count-times k os orders (kept .limits)) in
           let whole : booked k orders ≡ taught 1 t left = booked-without k os t its-tree orders (kept .limits) some in
           let sorted = booked-sorted k (without os orders) fewer-limits in
           record {

@@ -12,12 +12,12 @@ use Rattle.figures.specs.Limits.{head-words, most-book-words, least-k, greatest
 use Rattle.figures.specs.Numbers.{done, k-outside, book-size}
 use Rattle.figures.specs.Answers.{answered}
 use Rattle.order.specs.Trees.{Tree, words}
-use Rattle.order.specs.Reading.{byOrder, causeOf}
+use Rattle.order.specs.Reading.{causeOf}
 use Rattle.order.specs.Causes.{Cause}
 use Rattle.order.specs.Fits.{IsOrder}
 use Rattle.order.specs.Answers.{Writing, refuse, write}
-use Rattle.order.proofs.Causes.{cause-is, cause-only, Seen, stopped, passed, seen, refused-by, order-passed}
-use Rattle.order.proofs.Fitting.{passed-order, order-read}
+use Rattle.order.proofs.Causes.{cause-is, cause-refuses, Seen, stopped, passed, seen}
+use Rattle.order.proofs.Fitting.{passed-order, order-read, read-order}
 use Rattle.form.specs.Text.{Line, linesOf, textOf}
 use Rattle.form.specs.Reading.{Form, fault, form, formOf, wordsOf, readOf}
 use Rattle.form.specs.Writing.{writeOf}
@@ -82,10 +82,8 @@ module _ (ws : List ℕ) (k : ℕ) where
 module _ (os out : List ℕ) where
   -- Words with a cause of 1 or 2 are refused by it.
   prints-none : (n : ℕ) → Cause os n → (n ≡ done → ⊥) → writeOf os out ≡ refuse n out
-  unfolding writeOf byOrder
-  prints-none n c x =
-      let q : causeOf os ≡ n = cause-only os n c in
-      rw (refused-by os (λ z. x (sym q ∙ z))) (ap (λ (m : ℕ). refuse m out) q)
+  unfolding writeOf
+  prints-none n c x = cause-refuses os n c x (λ m. refuse m out) _
 
   -- Of an order the text is written, if there is room.
   prints-text : (t : Tree) → IsOrder os t → writeOf os out ≡ write (textOf t) out
@@ -127,7 +125,7 @@ record TextOf (text : List ℕ) : Type 0 where
 form-is : (text : List ℕ) (xs : List Line) → formOf text ≡ form xs → TextOf text
 form-is text xs e =
     let f = form-order text xs e in
-    let q : IsOrder (wordsOf xs) (f .0) = passed-order (wordsOf xs) (f .0) (order-passed (wordsOf xs) (f .0) (f .1)) in
+    let q : IsOrder (wordsOf xs) (f .0) = read-order (wordsOf xs) (f .0) (f .1) in
     record { tree = f .0; spelt = sym (f .3); isOrder = subst (λ (v : List ℕ). IsOrder v (f .0)) (q .spelt) q }
 
 -- Reading a form answers by a row of 01's table.

@@ -192,15 +192,8 @@ sought-has key (e ∷ es) i h = go (sameWords (e .key) key) refl (soughtIn key e
 
 -- ---- counts tallied
 
--- As many counts are tallied as there were.
-pub length-tallied : (n : ℕ) (os es : List Entry) (cs : List ℕ) → length cs ≡ length es → length (tallied n os es cs) ≡ length cs
-unfolding tallied
-length-tallied n os [] cs h = refl
-length-tallied n os (e ∷ es) [] h = refl
-length-tallied n os (e ∷ es) (c ∷ cs) h = ap suc (length-tallied n os es cs (omega arith))
-
 -- No count becomes less.
-tallied-least : (n : ℕ) (os es : List Entry) (cs : List ℕ) (i : ℕ) → getD cs i 0 ≤ getD (tallied n os es cs) i 0
+pub tallied-least : (n : ℕ) (os es : List Entry) (cs : List ℕ) (i : ℕ) → getD cs i 0 ≤ getD (tallied n os es cs) i 0
 unfolding tallied
 tallied-least n os [] cs i = omega arith
 tallied-least n os (e ∷ es) [] i = omega arith
@@ -208,11 +201,11 @@ tallied-least n os (e ∷ es) (c ∷ cs) zero = omega arith
 tallied-least n os (e ∷ es) (c ∷ cs) (suc i) = tallied-least n os es cs i
 
 -- With no key nothing is tallied.
-pub tallied-none : (n : ℕ) (es : List Entry) (cs : List ℕ) → length cs ≡ length es → tallied n [] es cs ≡ cs
+pub tallied-none : (n : ℕ) (es : List Entry) (cs : List ℕ) → tallied n [] es cs ≡ cs
 unfolding tallied has if_then_else_
-tallied-none n [] cs h = refl
-tallied-none n (e ∷ es) [] h = refl
-tallied-none n (e ∷ es) (c ∷ cs) h = rw (add-zero, tallied-none n es cs (omega arith))
+tallied-none n [] cs = refl
+tallied-none n (e ∷ es) [] = refl
+tallied-none n (e ∷ es) (c ∷ cs) = rw (add-zero, tallied-none n es cs)
 
 -- A first key, with others behind it.
 module _ (o : Entry) (os : List Entry) where

@@ -6,7 +6,7 @@ use mathlib.Core.Bool.{Bool, true, false, not}
 use mathlib.Core.List.{List, [], _∷_, List·Memᴰ·head as here, List·Memᴰ·tail as there, List·Memᴰ·not-nil}
 use native.Mathlib.Omega.{arith}
 use lib.Dec.{leb}
-use borrow.Author.Tests.{le-leb, lt-leb, ltb-true, ltb-false}
+use borrow.Author.Tests.{le-leb, lt-leb}
 use Rattle.words.specs.Base.{_and_, if_then_else_, sameWords, _∈_}
 use Rattle.words.proofs.Tests.{and-left, and-right, and-both, fails-left, fails-right, same-words, words-same}
 use Rattle.figures.specs.Limits.{greatest-count}
@@ -15,7 +15,7 @@ use Rattle.order.specs.Parts.{top, lowParts, middleParts}
 use Rattle.order.proofs.Once.{NoRepeats}
 use Rattle.section.specs.Entries.{Entry, has, countOf, Sorted}
 use Rattle.changes.specs.Editing.{addAll, lowerAll, fitting, lackingWords, overfull}
-use Rattle.section.proofs.Counts.{counts-own, counts-other, count-add, count-lower, total-add, has-count, has-add, has-entry}
+use Rattle.section.proofs.Counts.{counts-own, counts-other, count-add, count-lower, total-add, total-lower, has-add, has-entry, has-counts, lacks-counts}
 use Rattle.section.proofs.Sorting.{sorted-lower, same-counts}
 use Rattle.changes.proofs.Adding.{sorted-add-all, count-add-all}
 use Rattle.changes.proofs.Lowering.{sorted-lower-all, count-lower-all}
@@ -130,8 +130,8 @@ unfolding if_then_else_
 count-one z es s m = go (has z es) refl
   where
     go : (b : Bool) → has z es ≡ b → (if b then 1 else 0) ≡ countOf z es
-    go true e = omega (arith, ltb-true 0 (countOf z es) (sym (has-count z es s) ∙ e))
-    go false e = omega (arith, ltb-false 0 (countOf z es) (sym (has-count z es s) ∙ e))
+    go true e = omega (arith, has-counts z es s e)
+    go false e = sym (lacks-counts z es s e)
 
 -- One less of each tree of a list without repeats is one less of each key of their section.
 pub lower-each-all : (ts : List Tree) (es : List Entry) → NoRepeats ts → Sorted es → lowerEach ts es ≡ lowerAll (addEach 1 ts []) es
@@ -180,6 +180,11 @@ used-taught t b sorted = ap used (taught-changed t b sorted 1 (omega arith)) ∙
 pub live-taught : (n : ℕ) (t : Tree) (b : Book) → live (taught n t b) ≡ live b + n
 unfolding live taught
 live-taught n t b = omega (arith, total-add n (words t) (b .T))
+
+-- Withdrawing an order that has an entry is one live teaching less.
+pub live-withdrawn : (t : Tree) (b : Book) → Sorted (sectionOf Taught b) → has (words t) (b .T) ≡ true → live (withdrawn t b) + 1 ≡ live b
+unfolding live withdrawn sectionOf
+live-withdrawn t b sorted entry = total-lower (words t) (b .T) sorted entry
 
 -- None of four tests passes just if each fails.
 not-any : (p q r s : Bool) → not (if p then true else (if q then true else (if r then true else s))) ≡ (not p and not q and not r and not s)

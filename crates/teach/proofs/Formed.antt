@@ -1,7 +1,7 @@
 -- Books stay in form while an order's own book is added to them or taken from them, section by section, and such a change can be made.
 -- Assumes nothing.
-use Prim.Native.Nat.{ℕ, _+_, _-_, _≤_, zero-le}
-use mathlib.Core.Path.{_≡_, refl, sym, ap, _∙_}
+use Prim.Native.Nat.{ℕ, _+_, _-_, _≤_}
+use mathlib.Core.Path.{_≡_, refl, sym, ap, subst, _∙_}
 use mathlib.Core.Bool.{Bool, true, false}
 use mathlib.Core.List.{List, [], _∷_, List·Memᴰ·head as here, List·Memᴰ·tail as there, List·Memᴰ·not-nil}
 use native.Mathlib.Omega.{arith}
@@ -17,12 +17,12 @@ use Rattle.figures.specs.Limits.{greatest-depth, least-k, greatest-k, greatest-
 use Rattle.order.specs.Trees.{Tree, words}
 use Rattle.order.specs.Fits.{Fits}
 use Rattle.order.proofs.Causes.{Passed}
+use Rattle.order.proofs.Fitting.{passed-order, order-fits}
 use Rattle.section.specs.Entries.{Entry, counted, sectionWords, has, total, Sorted, byCompared, add, lower}
 use Rattle.changes.specs.Editing.{addAll, lowerAll, fitting}
-use Rattle.section.proofs.Counts.{lessened-out, lessened-left, total-add, total-lower}
-use Rattle.changes.proofs.Adding.{sorted-add-all, size-add-all}
+use Rattle.section.proofs.Counts.{lessened-out, lessened-left, total-add}
+use Rattle.changes.proofs.Adding.{sorted-add-all, size-add-all, fitting-entry}
 use Rattle.changes.proofs.Lowering.{sorted-lower-all, fitting-lower-all, size-lower-all}
-use Rattle.changes.proofs.Weighing.{fitting-entry}
 use Rattle.book.specs.Book.{Book, sectionOf, shallowest, deepest, used, live, inForm}
 use Rattle.book.specs.Sound.{SoundSection}
 use Rattle.book.specs.Taught.{Teaching, taught, bookOf}
@@ -36,7 +36,7 @@ use Rattle.own.specs.Own.{ownBook}
 use Rattle.amend.specs.Changing.{changed, withSection, changedIn, changedBook, livesThen, LivesReady, ReadyAll}
 use Rattle.amend.specs.declared.Change.{Change}
 use Rattle.amend.specs.declared.Change.the-variants.{Teach, Withdraw}
-use Rattle.teach.proofs.Adds.{each-section, changed-section, taught-changed, withdrawn-changed, live-taught}
+use Rattle.teach.proofs.Adds.{each-section, changed-section, taught-changed, withdrawn-changed, live-taught, live-withdrawn}
 use Rattle.amend.proofs.Sections.{form-sorted, form-fitting}
 
 -- ---- entries of a changed section
@@ -166,12 +166,7 @@ changed-form c s own b o f same fits few =
 
 -- The words of an order that passes are within the limits.
 pub passed-fits : (ws : List ℕ) (t : Tree) → Passed ws t → Fits 0 greatest-depth (words t)
-passed-fits ws t p = record {
-  tree = t;
-  isOrder = record { spelt = refl; good = p .good; nodes = p .nodes; deep = p .deep };
-  above = zero-le;
-  below = p .deep;
-}
+passed-fits ws t p = subst (Fits 0 greatest-depth) (p .spelt) (order-fits (passed-order ws t p))
 
 module _ (k : ℕ) (t : Tree) where
   -- It has one live teaching.
@@ -213,10 +208,10 @@ live-added : (own b : Book) → live (changedIn Teach Taught own b) ≡ live b +
 unfolding live changedIn withSection sectionOf
 live-added own b = total-add-all (own .T) (b .T)
 
--- A book that has an entry of an order has one live teaching less once its own book is taken away.
-live-taken : (t : Tree) (b : Book) → Sorted (b .T) → has (words t) (b .T) ≡ true → live (changedIn Withdraw Taught (ownBook (b .k) t) b) + 1 ≡ live b
-unfolding live changedIn withSection sectionOf bookOf taught add lowerAll
-live-taken t b s h = total-lower (words t) (b .T) s h
+-- A book from which an order's own book is taken has the live teachings of the one from which the order is withdrawn.
+live-taken : (t : Tree) (b : Book) → live (changedIn Withdraw Taught (ownBook (b .k) t) b) ≡ live (withdrawn t b)
+unfolding live changedIn withSection sectionOf bookOf taught add lowerAll withdrawn
+live-taken t b = refl
 
 -- A change of all four sections can be made if the counts fit then, the live teachings can be changed so, and each book on the way has room.
 ready-all : (n : ℕ) (c : Change) (own b : Book) → inForm own ≡ true → inForm b ≡ true → own .k ≡ b .k
@@ -281,7 +276,7 @@ module _ (n : ℕ) (t : Tree) (b : Book) (form : inForm b ≡ true) (limits : Fi
       let t2 : used b2 ≤ n = omega (arith, used-shrinks Lows own b1) in
       let t3 : used b3 ≤ n = omega (arith, used-shrinks Tops own b2) in
       let t4 : used (changedBook Withdraw own b) ≤ n = omega (arith, used-shrinks Taught own b3) in
-      let lives : live (changedIn Withdraw Taught own b) + 1 ≡ live b = live-taken t b (form-sorted b form Taught) entry in
+      let lives : live (changedIn Withdraw Taught own b) + 1 ≡ live b = rw (live-taken t b) (live-withdrawn t b (form-sorted b form Taught) entry) in
       let one : live own ≡ 1 = own-live (b .k) t in
       ready-all n Withdraw own b (beside-form t b form limits) form (taught-k (b .k) _) (λ s. fitting-lower-all (sectionOf s own) (sectionOf s b) (form-fitting b form s))
       (omega (arith, form-sound b form .few)) (omega arith) (omega arith) t1 t2 t3 t4

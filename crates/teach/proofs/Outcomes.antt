@@ -18,9 +18,10 @@ use Rattle.changes.specs.Editing.{lackingWords}
 use Rattle.changes.specs.declared.Weighed.{Weighed}
 use Rattle.order.specs.Trees.{Tree, words}
 use Rattle.order.specs.Reading.{byOrder, orderOf, causeOf}
+use Rattle.order.specs.Causes.{Cause}
 use Rattle.order.specs.Fits.{Fits}
 use Rattle.order.specs.Answers.{checkOf}
-use Rattle.order.proofs.Causes.{cause-told, has-tree, refused-by}
+use Rattle.order.proofs.Causes.{cause-is, cause-told, cause-refuses, has-tree}
 use Rattle.book.specs.Book.{Book, sectionOf, used, live, lay, inForm}
 use Rattle.book.specs.Decoding.{bookIn, placesOf, bookFormOf}
 use Rattle.book.specs.Sound.{IsBook, book}
@@ -32,7 +33,7 @@ use Rattle.book.specs.declared.Section.the-variants.{Taught}
 use Rattle.book.specs.declared.BookForm.the-variants.{Refused, InForm}
 use Rattle.book.proofs.Meaning.{used-is, laid-read, lay-long, used-fits}
 use Rattle.book.proofs.Holding.{holds, refused-book}
-use Rattle.book.proofs.Sound.{form-sound, decode-book, on-any, why-only}
+use Rattle.book.proofs.Sound.{form-sound, held-book, on-any, why-only}
 use Rattle.teach.specs.Calls.{onOrder, withinCounts, teachTree, teachOf, withdrawn, hasParts, withdrawTree, withdrawOf}
 use Rattle.own.specs.Own.{own-words, ownBook, ownOf}
 use Rattle.amend.specs.Changing.{changedBook, ReadyAll, weighedIn, weighedBook, lackingParts, lackingAll, overfullAny}
@@ -67,7 +68,7 @@ pub told : (ws : List ℕ) (a : Answer) (n : ℕ) → a ≡ answered n → outco
 told ws a n e = ap (λ (x : Answer). outcome x ws) e
 
 -- A slice that is no book in form is answered by 4 or 5.
-unheld : (ws os : List ℕ) (f : Book → Tree → Outcome) (n : ℕ) → bookFormOf ws ≡ Refused n → leave ws n ≡ onOrder ws os f
+pub unheld : (ws os : List ℕ) (f : Book → Tree → Outcome) (n : ℕ) → bookFormOf ws ≡ Refused n → leave ws n ≡ onOrder ws os f
 unfolding onOrder
 unheld ws os f n e = sym (refused-book ws n e (leave ws) (λ b. byOrder (orderOf os) (leave ws) (f b)))
 
@@ -80,6 +81,15 @@ teach-unheld ws os = unheld ws os (teachTree ws)
 pub withdraw-unheld : (ws os : List ℕ) (n : ℕ) → bookFormOf ws ≡ Refused n → leave ws n ≡ withdrawOf ws os
 unfolding withdrawOf
 withdraw-unheld ws os = unheld ws os (withdrawTree ws)
+
+-- With a book in form a call goes by the order.
+by-order : (ws os : List ℕ) (b : Book) → IsBook ws b → (f : Book → Tree → Outcome) → onOrder ws os f ≡ byOrder (orderOf os) (leave ws) (f b)
+unfolding onOrder
+by-order ws os b i f = on-any ws b i (leave ws) (λ c. byOrder (orderOf os) (leave ws) (f c))
+
+-- Words with a cause of 1 or 2 are then answered by it.
+pub by-cause : (ws os : List ℕ) (b : Book) → IsBook ws b → (n : ℕ) → Cause os n → (n ≡ done → ⊥) → (f : Book → Tree → Outcome) → onOrder ws os f ≡ leave ws n
+by-cause ws os b i n c x f = by-order ws os b i f ∙ cause-refuses os n c x (leave ws) (f b)
 
 -- ---- a book in form
 
@@ -109,17 +119,12 @@ module _ (ws : List ℕ) (p : Places) (H : Holds ws p) where
   ]
 
 module _ (ws os : List ℕ) (p : Places) (H : Holds ws p) where
-  -- The book goes by the order.
-  by-order : (f : Book → Tree → Outcome) → onOrder ws os f ≡ byOrder (orderOf os) (leave ws) (f (bookIn ws))
-  unfolding onOrder
-  by-order f = on-any ws (bookIn ws) (decode-book ws (bookIn ws) (H .long) (H .short) (H .decoded)) (leave ws) (λ b. byOrder (orderOf os) (leave ws) (f b))
-
   -- An order with a cause of 1 or 2 is answered by it.
   refused-order : (f : Book → Tree → Outcome) (a : Answer) → a ≡ checkOf os → (a .number ≡ done → ⊥) → outcome a ws ≡ onOrder ws os f
-  unfolding byOrder checkOf
+  unfolding checkOf
   refused-order f a e n =
       let h : causeOf os ≡ done → ⊥ = λ z. n (cause-told os a e ∙ z) in
-      ap (λ (x : Answer). outcome x ws) e ∙ sym (by-order f ∙ rw (refused-by os h))
+      ap (λ (x : Answer). outcome x ws) e ∙ sym (by-cause ws os (bookIn ws) (held-book ws p H) (causeOf os) (cause-is os) h f)
 
   -- So teaching answers.
   pub teach-refused : (a : Answer) → a ≡ checkOf os → (a .number ≡ done → ⊥) → outcome a ws ≡ teachOf ws os
@@ -149,7 +154,7 @@ module _ (ws os : List ℕ) (p : Places) (H : Holds ws p) (e : causeOf os ≡ do
   -- A call goes by the book and the tree.
   by-tree : (f : Book → Tree → Outcome) → onOrder ws os f ≡ f (bookIn ws) tree
   unfolding byOrder
-  by-tree f = by-order ws os p H f ∙ rw (has-tree os e .passes .is)
+  by-tree f = by-order ws os (bookIn ws) (held-book ws p H) f ∙ rw (has-tree os e .passes .is)
 
   -- What the order's words list is its own book.
   own-listed : ownOf (p .k .k) os ≡ own-book

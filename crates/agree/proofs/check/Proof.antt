@@ -1,23 +1,10 @@
 -- `agree::check` meets its contract, by the form of the book. Assumes nothing.
-use Prim.Native.Nat.{ℕ}
-use mathlib.Core.Path.{_≡_, sym, _∙_}
-use mathlib.Core.List.{List}
+use mathlib.Core.Path.{sym, _∙_}
 use borrow.Author.Needs.{needs}
-use Rattle.words.specs.Base.{if_then_else_}
-use Rattle.figures.specs.Numbers.{done, not-agreeing}
-use Rattle.figures.specs.Answers.{answered}
-use Rattle.book.specs.Decoding.{bookFormOf}
-use Rattle.book.specs.Taught.{agreeing}
-use Rattle.book.specs.declared.BookForm.the-variants.{Refused}
-use Rattle.book.proofs.Holding.{holds, refused-book}
-use Rattle.agree.specs.Checking.{checkOf}
+use Rattle.book.proofs.Holding.{holds}
+use Rattle.agree.proofs.Checking.{check-unheld}
 use Rattle.agree.proofs.check.Statement.{statement}
 use Rattle.agree.proofs.check.Tie as tie
-
--- A slice that is no book in form is answered by 4 or 5.
-check-unheld : (ws : List ℕ) (n : ℕ) → bookFormOf ws ≡ Refused n → checkOf ws ≡ answered n
-unfolding checkOf
-check-unheld ws n e = refused-book ws n e answered (λ b. answered (if agreeing b then done else not-agreeing))
 
 in-form-requires : tie.Need-in-form-requires
 in-form-requires c κs = search needs

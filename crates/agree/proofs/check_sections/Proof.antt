@@ -15,9 +15,10 @@ use Rattle.book.specs.Holding.{Holds}
 use Rattle.book.specs.Taught.{agreeing}
 use Rattle.book.specs.declared.Section.the-variants.{Tops, Lows, Middles}
 use Rattle.book.specs.declared.Places.{Places}
-use Rattle.book.proofs.Sound.{decode-book, on-any}
+use Rattle.book.proofs.Sound.{held-book}
 use Rattle.agree.specs.Checking.{checkOf}
 use Rattle.agree.specs.Tallies.{agreeingIn}
+use Rattle.agree.proofs.Checking.{check-held}
 use Rattle.agree.proofs.check_sections.Statement.{statement}
 use Rattle.agree.proofs.check_sections.Tie as tie
 
@@ -29,20 +30,15 @@ unfolding agreeing sectionOf
 each-agrees b = refl
 
 module _ (ws : List ℕ) (p : Places) (h : Holds ws p) where
-  -- The book that the words are decides.
-  by-book : checkOf ws ≡ answered (if agreeing (bookIn ws) then done else not-agreeing)
-  unfolding checkOf
-  by-book = on-any ws (bookIn ws) (decode-book ws (bookIn ws) (h .long) (h .short) (h .decoded)) answered (λ b. answered (if agreeing b then done else not-agreeing))
-
   -- Where a section does not agree the answer is 9.
   check-not : (agreeingIn Tops (bookIn ws) and (agreeingIn Lows (bookIn ws) and agreeingIn Middles (bookIn ws))) ≡ false → answered not-agreeing ≡ checkOf ws
   unfolding if_then_else_
-  check-not e = let f = each-agrees (bookIn ws) ∙ e in sym (by-book ∙ rw f)
+  check-not e = let f = each-agrees (bookIn ws) ∙ e in sym (check-held ws (bookIn ws) (held-book ws p h) ∙ rw f)
 
   -- Where all three agree the answer is 0.
   check-done : (agreeingIn Tops (bookIn ws) and (agreeingIn Lows (bookIn ws) and agreeingIn Middles (bookIn ws))) ≡ true → answered done ≡ checkOf ws
   unfolding if_then_else_
-  check-done e = let f = each-agrees (bookIn ws) ∙ e in sym (by-book ∙ rw f)
+  check-done e = let f = each-agrees (bookIn ws) ∙ e in sym (check-held ws (bookIn ws) (held-book ws p h) ∙ rw f)
 
 -- ---- at each place
 

@@ -21,7 +21,7 @@ use Rattle.book.specs.declared.Section.{Section}
 use Rattle.book.specs.declared.Places.{Places}
 use Rattle.book.proofs.Meaning.{used-fits}
 use Rattle.amend.proofs.Sections.{slot-small}
-use Rattle.amend.proofs.Weights.{slot-within}
+use Rattle.amend.proofs.Weights.{slot-within, ends-within}
 use Rattle.agree.specs.Tallies.{most-entries, allKnown, talliedAll, agreeingIn}
 use Rattle.agree.proofs.Counting.{tallied-few, agreeing-tallied, few-entries}
 use Rattle.agree.proofs.section_agrees.Statement.{statement}
@@ -48,10 +48,6 @@ module _ (ws : List ℕ) (p : Places) (h : Holds ws p) (s : Section) (at word : 
   are : entries many (drop at ws) ≡ sectionOf s (bookIn ws)
   are = rw (begins, slot) (h .section s .are)
 
-  -- They end within the words.
-  ends-within : at + span many (drop at ws) ≤ length ws
-  ends-within = rw (begins, slot) (h .section s .within)
-
   -- There are as many as the section has.
   many-are : many ≡ length (sectionOf s (bookIn ws))
   many-are = sym (length-entries many (drop at ws)) ∙ ap length are
@@ -76,7 +72,7 @@ module _ (ws : List ℕ) (p : Places) (h : Holds ws p) (s : Section) (at word : 
 
     -- They are indexed.
     front-indexed : Indexed (take (many - 0) starts) ws
-    front-indexed = subst (λ (l : List ℕ). Indexed l ws) (sym front-is) (starts-indexed ws at many ends-within (subst Sorted (sym are) (h .section s .sorted)))
+    front-indexed = subst (λ (l : List ℕ). Indexed l ws) (sym front-is) (starts-indexed ws at many (ends-within ws p h s at word begins slot) (subst Sorted (sym are) (h .section s .sorted)))
 
     -- The counts begin at 0.
     module _ (zeros : List ℕ) (none : zeros ≡ replicate most-entries 0) where

@@ -1,5 +1,5 @@
 -- `agree::tally_taught` meets its contract: at each entry of T what all orders count is what those left count. Assumes nothing.
-use Prim.Native.Nat.{ℕ, zero, suc, _+_, _*_, _-_, _<_, _≤_}
+use Prim.Native.Nat.{ℕ, _+_, _*_, _-_, _<_, _≤_}
 use mathlib.Core.Path.{_≡_, refl, sym, ap, subst, _∙_}
 use mathlib.Core.Bool.{Bool, true, false}
 use mathlib.Core.List.{List, [], _∷_, List·Memᴰ·head as here, List·Memᴰ·tail as there}
@@ -14,6 +14,7 @@ use Rattle.figures.specs.Numbers.{done}
 use Rattle.section.specs.Entries.{Entry, width, firstEntry, entries, span}
 use Rattle.section.proofs.Words.{span-step, entries-step, past-at, span-at}
 use Rattle.tally.specs.Tallying.{listed, Few, hasAll, tallied}
+use Rattle.tally.proofs.Tallies.{tallied-least}
 use Rattle.order.specs.Reading.{causeOf}
 use Rattle.book.specs.Decoding.{bookIn}
 use Rattle.book.specs.Holding.{Holds}
@@ -29,19 +30,11 @@ use Rattle.agree.proofs.tally_taught.Tie as tie
 
 -- ---- counts only grow
 
--- No count is less than before.
-tallied-grows : (n : ℕ) (os es : List Entry) (cs : List ℕ) (i : ℕ) → getD cs i 0 ≤ getD (tallied n os es cs) i 0
-unfolding tallied
-tallied-grows n os [] cs i = omega arith
-tallied-grows n os (e ∷ es) [] i = omega arith
-tallied-grows n os (e ∷ es) (c ∷ cs) zero = omega arith
-tallied-grows n os (e ∷ es) (c ∷ cs) (suc i) = tallied-grows n os es cs i
-
--- So it is for all orders.
+-- No count becomes less by tallying all orders.
 all-grow : (s : Section) (k : ℕ) (ts es : List Entry) (cs : List ℕ) (i : ℕ) → getD cs i 0 ≤ getD (talliedAll s k ts es cs) i 0
 unfolding talliedAll
 all-grow s k [] es cs i = omega arith
-all-grow s k (t ∷ ts) es cs i = omega (arith, tallied-grows (t .count) (partsIn s k (t .key)) es cs i, all-grow s k ts es (tallied (t .count) (partsIn s k (t .key)) es cs) i)
+all-grow s k (t ∷ ts) es cs i = omega (arith, tallied-least (t .count) (partsIn s k (t .key)) es cs i, all-grow s k ts es (tallied (t .count) (partsIn s k (t .key)) es cs) i)
 
 -- ---- the orders left
 
@@ -92,7 +85,8 @@ module _ (book starts : List ℕ) (s : Section) (k : ℕ) (deep : k ≡ bookIn b
 
   -- All is tallied by tallying what it counts, and then what the others count.
   first-counted : talliedAll s (bookIn book .k) (bookIn book .T) (listed starts book) counts₀
-      ≡ talliedAll s (bookIn book .k) (entries (left - 1) (drop end book)) (listed starts book) (tallied (firstEntry (drop at book) .count) (partsIn s k (firstEntry (drop at book) .key)) (listed starts book) counts)
+      ≡ talliedAll s (bookIn book .k) (entries (left - 1) (drop end book)) (listed starts book)
+      (tallied (firstEntry (drop at book) .count) (partsIn s k (firstEntry (drop at book) .key)) (listed starts book) counts)
   unfolding talliedAll
   first-counted = rw deep (i .counted ∙ ap (λ (es : List Entry). talliedAll s (bookIn book .k) es (listed starts book) counts) first-apart)
 

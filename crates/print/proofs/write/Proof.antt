@@ -4,14 +4,15 @@ use native.Mathlib.Omega.{arith}
 use borrow.Author.Needs.{needs}
 use Rattle.figures.specs.Numbers.{done}
 use Rattle.order.specs.Reading.{causeOf}
+use Rattle.order.proofs.Causes.{cause-told}
 use Rattle.order.proofs.Cuts.{no-output-room, has-room}
-use Rattle.print.proofs.Written.{checked, write-refused, write-lines}
+use Rattle.print.proofs.Written.{write-refused, write-lines}
 use Rattle.print.proofs.write.Statement.{statement}
 use Rattle.print.proofs.write.Tie as tie
 
 -- The order passes.
 fine : (c : tie.Else1) → causeOf (c .before .before .before .before .args .order .now) ≡ done
-fine c = sym (checked _ _ (c .before .check .ensures)) ∙ c .if1 .left
+fine c = sym (cause-told _ _ (c .before .check .ensures)) ∙ c .if1 .left
 
 check-requires : tie.Need-check-requires
 check-requires c κs = search needs
@@ -20,7 +21,7 @@ wrote-requires : tie.Need-wrote-requires
 wrote-requires c κs = search needs
 
 returns : tie.Need-returns
-returns c = write-refused _ _ _ _ (checked _ _ (c .before .before .check .ensures)) (c .before .if1 .taken) (c .wrote .ensures)
+returns c = write-refused _ _ _ _ (cause-told _ _ (c .before .before .check .ensures)) (c .before .if1 .taken) (c .wrote .ensures)
 
 levels-into-requires : tie.Need-levels-into-requires
 levels-into-requires c κs = (fine (c .before), refl)

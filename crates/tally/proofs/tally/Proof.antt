@@ -80,7 +80,7 @@ done : (book starts counts₀ list : List ℕ) (many by : ℕ) (counts : List �
     → (true ≡ hasAll (entries many list) (listed starts book)) × (counts ≡ tallied by (entries many list) (listed starts book) counts₀)
 unfolding entries hasAll
 done book starts counts₀ list many by counts from zero s h =
-    (sym (s .known), sym (s .counted ∙ tallied-none by (listed starts book) counts (s .long ∙ sym (length-listed starts book))))
+    (sym (s .known), sym (s .counted ∙ tallied-none by (listed starts book) counts))
 done book starts counts₀ list many by counts from (suc rest) s h = absurd (omega arith)
 
 -- The entries left are still to be tallied.

@@ -1,0 +1,25 @@
+-- What `check` answers, by what the words are. Assumes nothing.
+use Prim.Native.Nat.{ℕ}
+use mathlib.Core.Path.{_≡_}
+use mathlib.Core.List.{List}
+use Rattle.words.specs.Base.{if_then_else_}
+use Rattle.figures.specs.Numbers.{done, not-agreeing}
+use Rattle.figures.specs.Answers.{answered}
+use Rattle.book.specs.Book.{Book}
+use Rattle.book.specs.Decoding.{bookFormOf}
+use Rattle.book.specs.Sound.{IsBook}
+use Rattle.book.specs.Taught.{agreeing}
+use Rattle.book.specs.declared.BookForm.the-variants.{Refused}
+use Rattle.book.proofs.Holding.{refused-book}
+use Rattle.book.proofs.Sound.{on-any}
+use Rattle.agree.specs.Checking.{checkOf}
+
+-- A slice that is no book in form is answered by 4 or 5.
+pub check-unheld : (ws : List ℕ) (n : ℕ) → bookFormOf ws ≡ Refused n → checkOf ws ≡ answered n
+unfolding checkOf
+check-unheld ws n e = refused-book ws n e answered (λ b. answered (if agreeing b then done else not-agreeing))
+
+-- The words of a book are answered by whether it agrees with itself.
+pub check-held : (ws : List ℕ) (b : Book) → IsBook ws b → checkOf ws ≡ answered (if agreeing b then done else not-agreeing)
+unfolding checkOf
+check-held ws b i = on-any ws b i answered (λ c. answered (if agreeing c then done else not-agreeing))
