@@ -1,5 +1,5 @@
--- Demand 2: "An order passes exactly when its top, its low parts and its middle parts are all in the book, as García's paper (document 000)
--- defines them"; and judging answers exactly by the rows of 01's table, for any words. Assumes nothing.
+-- Judging answers exactly by the rows of 01's table, for any words, and passes an order exactly when its r is in R, its l in L and its p in P, by
+-- document 000. Assumes nothing.
 use Prim.Native.Nat.{ℕ, _≤_}
 use mathlib.Core.Path.{_≡_, refl, ap, sym, subst, _∙_}
 use mathlib.Core.List.{List}
@@ -65,7 +65,7 @@ module _ (ws os : List ℕ) where
   row : {a : Answer} (l : Lent ws os) → Verdict (l .book) (l .tree) a → Judged ws os a
   row l v = judged (l .book) (l .tree) (l .isBook) (l .isOrder) v
 
-  -- "An order passes exactly when": what is answered by 0 passes,
+  -- What is answered by 0 passes,
   pub answered-passes : judgeOf ws os .number ≡ done → PassesBy ws os
   answered-passes e = go (judged-is)
     where
