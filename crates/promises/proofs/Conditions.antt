@@ -1,11 +1,12 @@
 -- When teaching and withdrawing are refused in a book grown from an opened one, by the orders that remain: 7 where there are 65,535 of them, 6
--- where their book with one order more has no room, and 8 where the order does not stand among them. Assumes nothing.
+-- where their book with one order more has no room, and 8 where the order does not stand among them; and when they are done. Assumes nothing.
 use Prim.Native.Nat.{ℕ, _≤_, _<_}
 use mathlib.Core.Path.{_≡_, sym, ap, _∙_}
+use mathlib.Core.Bool.{true}
 use mathlib.Core.List.{List, [], _∷_}
 use native.Mathlib.Decide.{decLt}
 use native.Mathlib.Omega.{arith}
-use borrow.Author.Tests.{le-ltb, ltb-false}
+use borrow.Author.Tests.{lt-ltb, le-ltb, ltb-true, ltb-false}
 use lib.Dec.{ltb}
 use lib.ListN.{length}
 use Rattle.figures.specs.Limits.{least-k, greatest-k, greatest-count, head-words, most-book-words}
@@ -16,16 +17,17 @@ use Rattle.order.specs.Trees.{Tree, words}
 use Rattle.order.specs.Fits.{IsOrder}
 use Rattle.order.proofs.Fitting.{order-read}
 use Rattle.book.specs.Book.{sectionOf, used}
-use Rattle.book.specs.Taught.{taught}
+use Rattle.book.specs.Taught.{taught, agreeing}
 use Rattle.book.specs.Opening.{openOf}
 use Rattle.book.specs.declared.Section.the-variants.{Taught}
 use Rattle.teach.specs.Calls.{teachOf, withdrawOf}
 use Rattle.effects.specs.Conditions.{_exactly-when_, BookAndOrder, WouldPass, lives}
-use Rattle.effects.proofs.Conditions.{teach-7, teach-6, teach-0, withdraw-8}
+use Rattle.effects.proofs.Conditions.{teach-7, teach-6, teach-0, withdraw-0, withdraw-8}
 use Rattle.effects.proofs.Reasons.{within-none}
+use Rattle.effects.proofs.Sequences.{agreeing-withdraws}
 use Rattle.promises.specs.Remaining.{Call, after, remaining, timesOf, booked}
 use Rattle.promises.proofs.Orders.{booked-first, booked-sorted, booked-live, count-times, more-within}
-use Rattle.promises.proofs.Remaining.{Kept, kept-form, kept-long, kept-met, after-kept}
+use Rattle.promises.proofs.Remaining.{Kept, kept-form, kept-long, kept-met, after-kept, agrees}
 
 -- ---- in the book of orders
 
@@ -119,6 +121,18 @@ module _ (slice : List ℕ) (k : ℕ) (long : head-words ≤ length slice) (shor
       to : timesOf os orders ≡ 0 → withdrawOf ws os .answer .number ≡ not-taught
       to e = withdraw-8 ws os (booked k orders) t both-met .1 (entry-test ∙ le-ltb 0 (timesOf os orders) (omega arith))
 
+  -- From a book that agrees with itself the order is withdrawn exactly if it stands among the orders.
+  kept-withdrawn : agreeing (booked k orders) ≡ true → (withdrawOf ws os .answer .number ≡ done) exactly-when (1 ≤ timesOf os orders)
+  kept-withdrawn a = (from, to)
+    where
+      -- What is withdrawn has an entry in T,
+      from : withdrawOf ws os .answer .number ≡ done → 1 ≤ timesOf os orders
+      from e = ltb-true 0 (timesOf os orders) (sym entry-test ∙ withdraw-0 ws os (booked k orders) t both-met .0 e .0)
+
+      -- and what stands among the orders has one.
+      to : 1 ≤ timesOf os orders → withdrawOf ws os .answer .number ≡ done
+      to h = agreeing-withdraws ws os (booked k orders) t both-met a (entry-test ∙ lt-ltb 0 (timesOf os orders) h)
+
 -- ---- in a book grown from an opened one
 
 module _ (slice : List ℕ) (k : ℕ) (long : head-words ≤ length slice) (short : length slice ≤ most-book-words) (least : least-k ≤ k) (greatest : k ≤ greatest-k) where
@@ -148,3 +162,15 @@ module _ (slice : List ℕ) (k : ℕ) (long : head-words ≤ length slice) (shor
     -- 8, "order has no entry in T", exactly where the order is none of those that remain.
     pub withdrawing-8 : (os : List ℕ) (t : Tree) → IsOrder os t → (withdrawOf (after cs opened) os .answer .number ≡ not-taught) exactly-when (timesOf os (remaining cs opened []) ≡ 0)
     withdrawing-8 os t o = kept-8 slice k long short least greatest _ _ grown os t o
+
+    -- That book agrees with itself: it is the one that its words are decoded to.
+    grown-agreeing : (os : List ℕ) (t : Tree) → IsOrder os t → agreeing (booked k (remaining cs opened [])) ≡ true
+    grown-agreeing os t o =
+        let a = agrees slice k long short least greatest cs in
+        let met = both-met slice k long short least greatest _ _ grown os t o in
+        let same : a .0 ≡ booked k (remaining cs opened []) = cc (a .1, met .isBook) in
+        ap agreeing (sym same) ∙ a .2
+
+    -- 0, "done", exactly where the order is one of those that remain.
+    pub withdrawing-0 : (os : List ℕ) (t : Tree) → IsOrder os t → (withdrawOf (after cs opened) os .answer .number ≡ done) exactly-when (1 ≤ timesOf os (remaining cs opened []))
+    withdrawing-0 os t o = kept-withdrawn slice k long short least greatest _ _ grown os t o (grown-agreeing os t o)

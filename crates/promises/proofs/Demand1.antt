@@ -10,6 +10,8 @@ use Prim.Native.Nat.{ℕ}
 use mathlib.Core.Path.{_≡_, sym, ap, _∙_}
 use mathlib.Core.List.{List}
 use Rattle.figures.specs.Numbers.{done}
+use Rattle.figures.specs.Answers.{depthOf}
+use Rattle.figures.specs.declared.depths.Asked.{Asked}
 use Rattle.figures.specs.declared.Answer.{Answer}
 use Rattle.figures.specs.declared.Written.{Written}
 use Rattle.order.specs.Answers.{checkOf, subtreeOf, Writing, writing, cutIntoOf, PartWriting, partWriting, partIntoOf}
@@ -156,6 +158,14 @@ module _ (ws os text out : List ℕ) (k line d : ℕ) where
   -- `agree::check`
   pub one-agreement : {r s : Answer} → r ≡ agreesOf ws → s ≡ agreesOf ws → r ≡ s
   one-agreement = same
+
+  -- `figures::Depth::new`
+  pub one-depth : {r s : Asked} → r ≡ depthOf k → s ≡ depthOf k → r ≡ s
+  one-depth = same
+
+  -- `figures::Asked::number`, `Depth::value`, `Depth::of_tops` and `Depth::of_middles`: n is the number that their contracts name.
+  pub one-number : {r s n : ℕ} → r ≡ n → s ≡ n → r ≡ s
+  one-number = same
 
 -- ---- "a refusal changes nothing lent to the call"
 

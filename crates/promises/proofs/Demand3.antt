@@ -9,20 +9,20 @@ use mathlib.Core.Path.{_≡_}
 use mathlib.Core.List.{List, [], _∷_}
 use lib.ListN.{length}
 use Rattle.figures.specs.Limits.{head-words, most-book-words, least-k, greatest-k, greatest-count}
-use Rattle.figures.specs.Numbers.{done, no-room, too-many}
+use Rattle.figures.specs.Numbers.{done, no-room, too-many, not-taught}
 use Rattle.figures.specs.Answers.{answered}
 use Rattle.order.specs.Trees.{Tree}
 use Rattle.order.specs.Fits.{IsOrder}
 use Rattle.book.specs.Book.{used}
 use Rattle.book.specs.Opening.{openOf}
 use Rattle.judge.specs.Judging.{judgeOf}
-use Rattle.teach.specs.Calls.{teachOf}
+use Rattle.teach.specs.Calls.{teachOf, withdrawOf}
 use Rattle.effects.specs.Conditions.{_exactly-when_}
 use Rattle.agree.specs.Checking.{checkOf}
-use Rattle.promises.specs.Remaining.{Call, after, remaining, SameOrders, taughtAll, NoneRefused, booked, ExactlyThese, MadeOf}
+use Rattle.promises.specs.Remaining.{Call, after, remaining, timesOf, SameOrders, taughtAll, NoneRefused, booked, ExactlyThese, MadeOf}
 use Rattle.promises.proofs.Remaining.{opens, holds-exactly, taught-alone}
 use Rattle.promises.proofs.Passing.{passes-made}
-use Rattle.promises.proofs.Conditions.{teaching-7, teaching-6, teaching-0}
+use Rattle.promises.proofs.Conditions.{teaching-7, teaching-6, teaching-0, withdrawing-8, withdrawing-0}
 use Rattle.promises.proofs.Checks.{grown-agrees}
 
 -- "Open an empty book of an allowed k and size"
@@ -74,3 +74,11 @@ module _ (slice : List ℕ) (k : ℕ) (long : head-words ≤ length slice) (shor
     pub taught-exactly : (os : List ℕ) (t : Tree) → IsOrder os t
         → (teachOf book os .answer .number ≡ done) exactly-when ((length orders < greatest-count) × (used (booked k (os ∷ orders)) ≤ length slice))
     taught-exactly = teaching-0 slice k long short least greatest cs
+
+    -- A withdrawal of an order within limits is refused by 8, "order has no entry in T", exactly if no such order remains,
+    pub refused-by-8 : (os : List ℕ) (t : Tree) → IsOrder os t → (withdrawOf book os .answer .number ≡ not-taught) exactly-when (timesOf os orders ≡ 0)
+    refused-by-8 = withdrawing-8 slice k long short least greatest cs
+
+    -- and is done exactly if such an order remains.
+    pub withdrawn-exactly : (os : List ℕ) (t : Tree) → IsOrder os t → (withdrawOf book os .answer .number ≡ done) exactly-when (1 ≤ timesOf os orders)
+    withdrawn-exactly = withdrawing-0 slice k long short least greatest cs

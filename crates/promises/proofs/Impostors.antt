@@ -1,30 +1,36 @@
 -- "Five impostors are tried against the promises." Each is shut out here: no teaching and no judging that answers by demand 1's rows, for any
--- words, is that impostor. Assumes nothing.
+-- words, is that impostor; nor is a judging that meets demand 2, or calls that meet demand 3's parts and counts. Assumes nothing.
 use Prim.Native.Nat.{ℕ, _≤_}
-use mathlib.Core.Path.{_≡_, refl, sym, ap, _∙_}
-use mathlib.Core.List.{List, [], _∷_}
+use mathlib.Core.Path.{_≡_, refl, sym, ap, subst, _∙_}
+use mathlib.Core.List.{List, [], _∷_, _++_}
 use native.Mathlib.Omega.{arith}
-use lib.ListN.{getD}
-use Rattle.figures.specs.Limits.{live-word}
+use lib.ListN.{length, getD}
+use Rattle.words.specs.Base.{if_then_else_}
+use Rattle.figures.specs.Limits.{head-words, most-book-words, least-k, greatest-k, live-word}
 use Rattle.figures.specs.Numbers.{done, top-unknown}
 use Rattle.figures.specs.Answers.{answered}
 use Rattle.figures.specs.declared.Answer.{Answer}
 use Rattle.order.specs.Trees.{Tree, words}
 use Rattle.order.specs.Fits.{IsOrder}
 use Rattle.order.proofs.Fitting.{read-order}
-use Rattle.book.specs.Book.{Book}
+use Rattle.book.specs.Book.{Book, live}
 use Rattle.book.specs.Sound.{IsBook}
 use Rattle.book.specs.Decoding.{bookIn}
-use Rattle.book.specs.Opening.{Outcome, outcome}
-use Rattle.book.proofs.Sound.{decode-book}
+use Rattle.book.specs.Opening.{Outcome, outcome, openOf}
+use Rattle.book.proofs.Sound.{decode-book, book-only, head-says}
 use Rattle.judge.specs.Judging.{judgeOf}
-use Rattle.judge.specs.Verdicts.{Judged}
+use Rattle.judge.specs.Verdicts.{PassesBy, Judged}
 use Rattle.judge.proofs.Answers.{judged-only}
 use Rattle.teach.specs.Calls.{teachOf}
+use Rattle.effects.specs.Conditions.{_exactly-when_}
 use Rattle.effects.specs.Whys.{WhyTaught}
 use Rattle.effects.proofs.Whys.{teach-only}
 use Rattle.promises.specs.Heard.{single, pair}
+use Rattle.promises.specs.Remaining.{Call, teach, outcomeOf, afterBy, remainBy, remainingBy, ExactlyThese}
 use Rattle.promises.proofs.Computed.{computes}
+use Rattle.promises.proofs.Demand2.{passes-exactly}
+use Rattle.promises.proofs.Demand3.{parts-and-counts}
+use Rattle.promises.proofs.Wordings.{after-last, remaining-last}
 
 -- ---- what meets the promises
 
@@ -111,7 +117,7 @@ single-order : IsOrder (words single) single
 unfolding computes
 single-order = read-order (words single) single refl
 
--- ---- the impostors
+-- ---- by demand 1's rows
 
 module _ (f : List ℕ → List ℕ → Outcome) (meets : Teaches f) where
   -- Taught the node, the book of no orders becomes that of the node.
@@ -158,3 +164,86 @@ module _ (g : List ℕ → List ℕ → Answer) (meets : Judges g) where
       let passes = sym judges-first ∙ all one-taught (words single) (bookIn one-taught) single taught-book single-order in
       let same : top-unknown ≡ done = ap (λ (c : Answer). c .number) (unknown ∙ sym passes) in
       omega arith
+
+-- ---- by demand 2
+
+-- A judging that passes an order exactly when demand 2 says so. It may answer anything else by any other answer.
+abbrev pub Judging : (List ℕ → List ℕ → Answer) → Type 0
+Judging g = (ws os : List ℕ) → (g ws os ≡ answered done) exactly-when PassesBy ws os
+
+-- The judging here is such.
+pub judging-here : Judging judgeOf
+judging-here = passes-exactly
+
+-- The node does not pass by the book of no orders.
+blank-unpassed : PassesBy blank (words single) → ⊥
+blank-unpassed p =
+    let same : top-unknown ≡ done = ap (λ (a : Answer). a .number) (sym unknown-row ∙ passes-exactly blank (words single) .1 p) in
+    omega arith
+
+module _ (g : List ℕ → List ℕ → Answer) (meets : Judging g) where
+  -- "Refusing everything: shut out by demand 2", of judging: some order passes by some book.
+  pub passing-none : ((ws os : List ℕ) → g ws os ≡ answered done → ⊥) → ⊥
+  passing-none none = none one-taught (words single) (meets one-taught (words single) .1 (passes-exactly one-taught (words single) .0 passing-row))
+
+  -- "Passing everything": not every order within limits passes by every book in form.
+  pub passing-all : ((ws os : List ℕ) (b : Book) (t : Tree) → IsBook ws b → IsOrder os t → g ws os ≡ answered done) → ⊥
+  passing-all all = blank-unpassed (meets blank (words single) .0 (all blank (words single) (bookIn blank) single blank-book single-order))
+
+  -- "or one verdict for all: demand 2." No one answer is given to all orders within limits by all books in form.
+  pub answering-alike : (a : Answer) → ((ws os : List ℕ) (b : Book) (t : Tree) → IsBook ws b → IsOrder os t → g ws os ≡ a) → ⊥
+  answering-alike a all =
+      let passed : g one-taught (words single) ≡ answered done = meets one-taught (words single) .1 (passes-exactly one-taught (words single) .0 passing-row) in
+      let is-done : a ≡ answered done = sym (all one-taught (words single) (bookIn one-taught) single taught-book single-order) ∙ passed in
+      passing-all (λ ws os b t i o. all ws os b t i o ∙ is-done)
+
+-- ---- by demand 3's parts and counts
+
+-- What answers calls so that, after any of them on a book opened at an allowed k and size, "its parts and counts are exactly those of the
+-- orders that remain". What refuses every call and changes no word meets this too: `taught-exactly` (proofs/Demand3.antt) shuts it out.
+abbrev pub Keeps : (Call → List ℕ → Outcome) → Type 0
+Keeps answers =
+    (slice : List ℕ) (k : ℕ) → head-words ≤ length slice → length slice ≤ most-book-words → least-k ≤ k → k ≤ greatest-k → (cs : List Call)
+    → ExactlyThese k (remainingBy answers cs (openOf slice k .words) []) (afterBy answers cs (openOf slice k .words))
+
+-- The teaching and withdrawing here do.
+pub keeping-here : Keeps outcomeOf
+keeping-here = parts-and-counts
+
+-- No words hold exactly some orders and exactly these with one more: they have one book, and it has one number of live teachings.
+one-more-differs : (k : ℕ) (orders : List (List ℕ)) (os ws : List ℕ) → ExactlyThese k orders ws → ExactlyThese k (os ∷ orders) ws → ⊥
+one-more-differs k orders os ws x y = omega (arith, x .lives, y .lives, ap live (book-only ws (x .book) (y .book) (x .isBook) (y .isBook)))
+
+-- After a teaching that is done one order more remains.
+done-one-more : (os : List ℕ) (n : ℕ) (orders : List (List ℕ)) → n ≡ done → remainBy (teach os) n orders ≡ os ∷ orders
+unfolding if_then_else_
+done-one-more os n orders e = rw e refl
+
+module _ (answers : Call → List ℕ → Outcome) (keeps : Keeps answers)
+    (slice : List ℕ) (k : ℕ) (long : head-words ≤ length slice) (short : length slice ≤ most-book-words) (least : least-k ≤ k) (greatest : k ≤ greatest-k) where
+  -- The words of the slice once a book is opened in it.
+  abbrev opened : List ℕ
+  opened = openOf slice k .words
+
+  -- "Learning the first order and nodding at the rest: demands 2 and 3 together." After any calls a teaching that is done changes the words.
+  pub done-writes-again : (cs : List Call) (os : List ℕ) → answers (teach os) (afterBy answers cs opened) .answer .number ≡ done
+      → answers (teach os) (afterBy answers cs opened) .words ≡ afterBy answers cs opened → ⊥
+  done-writes-again cs os is-done same =
+      let orders : List (List ℕ) = remainingBy answers cs opened [] in
+      let ws : List ℕ = afterBy answers cs opened in
+      let more : remainingBy answers (cs ++ (teach os ∷ [])) opened [] ≡ os ∷ orders = remaining-last answers (teach os) cs opened [] ∙ done-one-more os _ orders is-done in
+      let unchanged : afterBy answers (cs ++ (teach os ∷ [])) opened ≡ ws = after-last answers (teach os) cs opened ∙ same in
+      let later : ExactlyThese k (os ∷ orders) (afterBy answers (cs ++ (teach os ∷ [])) opened) =
+      subst (λ (ps : List (List ℕ)). ExactlyThese k ps (afterBy answers (cs ++ (teach os ∷ [])) opened)) more (keeps slice k long short least greatest (cs ++ (teach os ∷ []))) in
+      one-more-differs k orders os ws (keeps slice k long short least greatest cs) (subst (ExactlyThese k (os ∷ orders)) unchanged later)
+
+  -- "Teaching that writes nothing: demand 3's parts and counts, which are demand 2's definitions over the remaining orders." A teaching of the
+  -- opened book that is done changes the words.
+  pub done-writes : (os : List ℕ) → answers (teach os) opened .answer .number ≡ done → answers (teach os) opened .words ≡ opened → ⊥
+  unfolding afterBy
+  done-writes os = done-writes-again [] os
+
+  -- "Word 2 or a count invented: the definition of counts and demand 3." After any calls word 2 is the number of orders that remain.
+  pub live-counted : (cs : List Call) → getD (afterBy answers cs opened) live-word 0 ≡ length (remainingBy answers cs opened [])
+  unfolding live
+  live-counted cs = let x = keeps slice k long short least greatest cs in head-says (afterBy answers cs opened) (x .book) (x .isBook) .2 ∙ x .lives

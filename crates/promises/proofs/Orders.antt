@@ -79,7 +79,7 @@ without-in os ps (q ∷ qs) m = go (sameWords q os) m (without-in os ps qs)
     go false (there i) next = there (next i)
 
 -- One such less is one less of it, and as many of any other.
-times-without : (os ps : List ℕ) (orders : List (List ℕ)) → 1 ≤ timesOf os orders
+pub times-without : (os ps : List ℕ) (orders : List (List ℕ)) → 1 ≤ timesOf os orders
     → (if sameWords os ps then 1 else 0) + timesOf ps (without os orders) ≡ timesOf ps orders
 unfolding without timesOf if_then_else_
 times-without os ps [] h = absurd (omega arith)

@@ -39,7 +39,7 @@ use Rattle.effects.proofs.Conditions.{teach-0, teach-writes, teach-refusal-leav
 use Rattle.effects.proofs.Counted.{taught-uses}
 use Rattle.effects.proofs.Undoing.{undo}
 use Rattle.effects.proofs.Sequences.{teach-agrees, withdraw-agrees}
-use Rattle.promises.specs.Remaining.{Call, teach, withdraw, after, without, remainBy, remaining, timesOf, SameOrders, taughtAll, NoneRefused, ExactlyThese, booked}
+use Rattle.promises.specs.Remaining.{Call, teach, withdraw, afterBy, after, without, remainBy, remainingBy, remaining, timesOf, SameOrders, taughtAll, NoneRefused, ExactlyThese, booked}
 use Rattle.promises.proofs.Orders.{Orders, later, one-order-more, without-in, more-within, same-fit, same-book, count-times}
 use Rattle.promises.proofs.Orders.{booked-first, booked-k, booked-sorted, booked-live, booked-uses, counts-taught, counts-tops, counts-lows, counts-middles, booked-form, booked-without}
 
@@ -165,7 +165,7 @@ module _ (slice : List ℕ) (k : ℕ) (long : head-words ≤ length slice) (shor
 
   -- Any calls keep the book that of the orders that then remain.
   calls-keep : (cs : List Call) (orders : List (List ℕ)) (ws : List ℕ) → Kept (length slice) k orders ws → Kept (length slice) k (remaining cs ws orders) (after cs ws)
-  unfolding remaining after
+  unfolding remainingBy afterBy
   calls-keep [] orders ws kept = kept
   calls-keep (teach os ∷ cs) orders ws kept = calls-keep cs _ _ (teach-keeps orders ws kept os)
   calls-keep (withdraw os ∷ cs) orders ws kept = calls-keep cs _ _ (withdraw-keeps orders ws kept os)
@@ -222,7 +222,7 @@ empty-agrees k = refl
 
 -- A book that agrees with itself does so after any calls.
 calls-agree : (cs : List Call) (ws : List ℕ) (b : Book) → decode ws ≡ some b → agreeing b ≡ true → (c : Book) × (decode (after cs ws) ≡ some c) × (agreeing c ≡ true)
-unfolding after
+unfolding afterBy
 calls-agree [] ws b is a = (b, is, a)
 calls-agree (teach os ∷ cs) ws b is a = let c = teach-agrees ws os b is a in calls-agree cs _ (c .0) (c .1) (c .2)
 calls-agree (withdraw os ∷ cs) ws b is a = let c = withdraw-agrees ws os b is a in calls-agree cs _ (c .0) (c .1) (c .2)

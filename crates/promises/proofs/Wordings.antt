@@ -1,15 +1,18 @@
--- That what demand 3 is said with is no less than its words: the same orders in whichever order, as often as each remains, and none refused.
--- Assumes nothing.
-use Prim.Native.Nat.{ℕ, _+_}
-use mathlib.Core.Path.{_≡_, refl, _∙_}
+-- That what demand 3 is said with is no less than its words: the same orders in whichever order, as often as each remains, none refused, and
+-- the orders that remain after any sequence by what its last call does. Assumes nothing.
+use Prim.Native.Nat.{ℕ, _+_, _≤_}
+use mathlib.Core.Path.{_≡_, refl, sym, _∙_}
+use mathlib.Core.Bool.{Bool, true, false}
 use mathlib.Core.List.{List, [], _∷_, _++_}
 use native.Mathlib.Omega.{arith}
-use Rattle.words.specs.Base.{if_then_else_}
-use Rattle.words.proofs.Tests.{same-words}
+use Rattle.words.specs.Base.{if_then_else_, sameWords}
+use Rattle.words.proofs.Tests.{same-words, words-same}
 use Rattle.figures.specs.Numbers.{done}
 use Rattle.figures.specs.Answers.{answered}
+use Rattle.book.specs.Opening.{Outcome}
 use Rattle.teach.specs.Calls.{teachOf}
-use Rattle.promises.specs.Remaining.{timesOf, SameOrders, taughtAll, NoneRefused}
+use Rattle.promises.specs.Remaining.{Call, outcomeOf, afterBy, after, without, remainBy, remainingBy, remaining, timesOf, SameOrders, taughtAll, NoneRefused}
+use Rattle.promises.proofs.Orders.{times-without}
 
 -- ---- "in whichever order"
 
@@ -24,10 +27,25 @@ pub neighbours-exchanged : (ps qs : List (List ℕ)) (a b : List ℕ) → SameOr
 unfolding timesOf
 neighbours-exchanged ps qs a b os = omega (arith, times-both os ps (a ∷ b ∷ qs), times-both os ps (b ∷ a ∷ qs))
 
--- Orders that are the same as others are so by way of a third list: so every exchange of neighbours, one after the other, leads to the same orders,
--- and with these any order of them.
+-- Orders are the same as themselves.
+pub same-orders : (ps : List (List ℕ)) → SameOrders ps ps
+same-orders ps os = refl
+
+-- Orders that are the same as others are so by way of a third list.
 pub exchanged-again : (ps qs rs : List (List ℕ)) → SameOrders ps qs → SameOrders qs rs → SameOrders ps rs
 exchanged-again ps qs rs e f os = e os ∙ f os
+
+-- Orders rearranged: as they are, two neighbours exchanged anywhere, or one rearrangement and then another.
+pub data Rearranged : List (List ℕ) → List (List ℕ) → Type 0 where
+  as-they-are : (ps : List (List ℕ)) → Rearranged ps ps
+  exchanged : (ps qs : List (List ℕ)) (a b : List ℕ) → Rearranged (ps ++ (a ∷ b ∷ qs)) (ps ++ (b ∷ a ∷ qs))
+  and-then : {ps qs rs : List (List ℕ)} → Rearranged ps qs → Rearranged qs rs → Rearranged ps rs
+
+-- However they are rearranged, they are the same orders.
+pub rearranged-same : {ps qs : List (List ℕ)} → Rearranged ps qs → SameOrders ps qs
+rearranged-same (as-they-are ps) = same-orders ps
+rearranged-same (exchanged ps qs a b) = neighbours-exchanged ps qs a b
+rearranged-same (and-then {ps} {qs} {rs} r s) = exchanged-again ps qs rs (rearranged-same r) (rearranged-same s)
 
 -- ---- "each as often as it remains"
 
@@ -37,6 +55,51 @@ unfolding timesOf if_then_else_
 not-once-more os ps e =
     let one : timesOf os (os ∷ ps) ≡ 1 + timesOf os ps = rw (same-words os) refl in
     omega (arith, one, e os)
+
+-- Orders with one such less have it once less,
+pub one-less : (os : List ℕ) (orders : List (List ℕ)) → 1 ≤ timesOf os orders → timesOf os (without os orders) + 1 ≡ timesOf os orders
+unfolding if_then_else_
+one-less os orders h =
+    let less : 1 + timesOf os (without os orders) ≡ timesOf os orders = rw (same-words os) at (times-without os os orders h) in
+    omega (arith, less)
+
+-- and any other as often as before.
+pub others-stay : (os ps : List ℕ) (orders : List (List ℕ)) → (os ≡ ps → ⊥) → timesOf ps (without os orders) ≡ timesOf ps orders
+unfolding without timesOf if_then_else_
+others-stay os ps [] other = refl
+others-stay os ps (q ∷ qs) other = go (sameWords q os) refl (sameWords q ps) refl (others-stay os ps qs other)
+  where
+    -- By whether the first is such an order, and whether it is the other.
+    go : (b : Bool) → sameWords q os ≡ b → (c : Bool) → sameWords q ps ≡ c → timesOf ps (without os qs) ≡ timesOf ps qs
+        → timesOf ps (if b then qs else q ∷ without os qs) ≡ (if sameWords q ps then 1 else 0) + timesOf ps qs
+    go true e true f next = absurd (other (sym (words-same q os e) ∙ words-same q ps f))
+    go true e false f next = rw f (omega arith)
+    go false e c f next = omega (arith, next)
+
+-- ---- "in any sequence"
+
+module _ (answers : Call → List ℕ → Outcome) (c : Call) where
+  -- The words after one call more are those that it leaves of the words before it, whatever answers the calls.
+  pub after-last : (cs : List Call) (ws : List ℕ) → afterBy answers (cs ++ (c ∷ [])) ws ≡ answers c (afterBy answers cs ws) .words
+  unfolding afterBy
+  after-last [] ws = refl
+  after-last (d ∷ cs) ws = after-last cs (answers d ws .words)
+
+  -- The orders that then remain are those that remained before it, changed by its own answer.
+  pub remaining-last : (cs : List Call) (ws : List ℕ) (orders : List (List ℕ))
+      → remainingBy answers (cs ++ (c ∷ [])) ws orders ≡ remainBy c (answers c (afterBy answers cs ws) .answer .number) (remainingBy answers cs ws orders)
+  unfolding afterBy remainingBy
+  remaining-last [] ws orders = refl
+  remaining-last (d ∷ cs) ws orders = remaining-last cs (answers d ws .words) (remainBy d (answers d ws .answer .number) orders)
+
+-- The words after one call more are those that it leaves of the words before it.
+pub after-one-more : (cs : List Call) (c : Call) (ws : List ℕ) → after (cs ++ (c ∷ [])) ws ≡ outcomeOf c (after cs ws) .words
+after-one-more cs c ws = after-last outcomeOf c cs ws
+
+-- The orders that remain after one call more are those that remained before it, changed by its own answer.
+pub remaining-one-more : (cs : List Call) (c : Call) (ws : List ℕ) (orders : List (List ℕ))
+    → remaining (cs ++ (c ∷ [])) ws orders ≡ remainBy c (outcomeOf c (after cs ws) .answer .number) (remaining cs ws orders)
+remaining-one-more cs c ws orders = remaining-last outcomeOf c cs ws orders
 
 -- ---- "none of those teachings is refused"
 

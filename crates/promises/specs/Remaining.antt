@@ -31,10 +31,14 @@ abbrev pub outcomeOf : Call → List ℕ → Outcome
 outcomeOf (teach os) ws = teachOf ws os
 outcomeOf (withdraw os) ws = withdrawOf ws os
 
--- The words after calls, one after the other.
-unfoldable pub after : List Call → List ℕ → List ℕ
-after [] ws = ws
-after (c ∷ cs) ws = after cs (outcomeOf c ws .words)
+-- The words after calls, one after the other, by what answers them.
+unfoldable pub afterBy : (Call → List ℕ → Outcome) → List Call → List ℕ → List ℕ
+afterBy answers [] ws = ws
+afterBy answers (c ∷ cs) ws = afterBy answers cs (answers c ws .words)
+
+-- The words after calls that are answered as here.
+abbrev pub after : List Call → List ℕ → List ℕ
+after = afterBy outcomeOf
 
 -- ---- the orders that remain
 
@@ -49,10 +53,14 @@ abbrev pub remainBy : Call → ℕ → List (List ℕ) → List (List ℕ)
 remainBy (teach os) n orders = if eqb n done then os ∷ orders else orders
 remainBy (withdraw os) n orders = if eqb n done then without os orders else orders
 
--- The orders that remain after calls, each as often as it remains.
-unfoldable pub remaining : List Call → List ℕ → List (List ℕ) → List (List ℕ)
-remaining [] ws orders = orders
-remaining (c ∷ cs) ws orders = remaining cs (outcomeOf c ws .words) (remainBy c (outcomeOf c ws .answer .number) orders)
+-- The orders that remain after calls, each as often as it remains, by what answers them.
+unfoldable pub remainingBy : (Call → List ℕ → Outcome) → List Call → List ℕ → List (List ℕ) → List (List ℕ)
+remainingBy answers [] ws orders = orders
+remainingBy answers (c ∷ cs) ws orders = remainingBy answers cs (answers c ws .words) (remainBy c (answers c ws .answer .number) orders)
+
+-- The orders that remain after calls that are answered as here.
+abbrev pub remaining : List Call → List ℕ → List (List ℕ) → List (List ℕ)
+remaining = remainingBy outcomeOf
 
 -- ---- teaching just these
 
