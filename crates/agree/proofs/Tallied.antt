@@ -24,7 +24,7 @@ use Rattle.book.proofs.Taught.{lacks-any, count-each, taught-k, none-in}
 use Rattle.own.specs.Own.{ownBook, ownOf}
 use Rattle.teach.specs.Calls.{treesIn}
 use Rattle.teach.proofs.Adds.{taught-section, own-section, trees-once, count-each-apart}
-use Rattle.effects.proofs.Agreeing.{Orders, later, first}
+use Rattle.effects.proofs.Agreeing.{TaughtOrders, later-taught, first}
 use Rattle.agree.specs.Tallies.{partsIn, allKnown, talliedAll}
 
 -- ---- what the orders of a T count
@@ -60,7 +60,7 @@ unfolding ownOf byOrder
 own-parts s k os t e f = rw (order-read os t (fits-order-of os t e f))
 
 -- Each order of a T in form counts, for the keys that one teaching of it counts, as often as its entry counts.
-count-more : (s : Section) (k : ℕ) (e : Entry) (ts : List Entry) → Orders (e ∷ ts) → (z : List ℕ)
+count-more : (s : Section) (k : ℕ) (e : Entry) (ts : List Entry) → TaughtOrders (e ∷ ts) → (z : List ℕ)
     → countOf z (countedIn s k (e ∷ ts)) ≡ (if has z (partsIn s k (e .key)) then e .count else 0) + countOf z (countedIn s k ts)
 unfolding bookOf
 count-more s k e ts o z =
@@ -72,10 +72,10 @@ count-more s k e ts o z =
     ∙ ap (λ (es : List Entry). (if has z es then e .count else 0) + countOf z (sectionOf s B)) own
 
 -- The orders of a T count for no key more than they count together.
-pub count-most : (s : Section) (k : ℕ) (ts : List Entry) → Orders ts → (z : List ℕ) → countOf z (countedIn s k ts) ≤ total ts
+pub count-most : (s : Section) (k : ℕ) (ts : List Entry) → TaughtOrders ts → (z : List ℕ) → countOf z (countedIn s k ts) ≤ total ts
 unfolding teachingsIn countOf total if_then_else_
 count-most s k [] o z = rw (none-in s k) (omega arith)
-count-most s k (e ∷ ts) o z = go (has z (partsIn s k (e .key))) (count-more s k e ts o z) (count-most s k ts (later e ts o) z)
+count-most s k (e ∷ ts) o z = go (has z (partsIn s k (e .key))) (count-more s k e ts o z) (count-most s k ts (later-taught e ts o) z)
   where
     go : (b : Bool) → countOf z (countedIn s k (e ∷ ts)) ≡ (if b then e .count else 0) + countOf z (countedIn s k ts) → countOf z (countedIn s k ts) ≤ total ts
         → countOf z (countedIn s k (e ∷ ts)) ≤ e .count + total ts
@@ -115,16 +115,16 @@ tallied-counts n os [] f = refl
 tallied-counts n os (e ∷ es) f = ap (λ (cs : List ℕ). (f (e .key) + (if has (e .key) os then n else 0)) ∷ cs) (tallied-counts n os es f)
 
 -- What is tallied for the orders of a T in form is, for each key, what they count.
-all-counts : (s : Section) (k : ℕ) (ts es : List Entry) → Orders ts → (f : List ℕ → ℕ) → talliedAll s k ts es (countsBy f es) ≡ countsBy (λ z. f z + countOf z (countedIn s k ts)) es
+all-counts : (s : Section) (k : ℕ) (ts es : List Entry) → TaughtOrders ts → (f : List ℕ → ℕ) → talliedAll s k ts es (countsBy f es) ≡ countsBy (λ z. f z + countOf z (countedIn s k ts)) es
 unfolding talliedAll teachingsIn countOf
 all-counts s k [] es o f = counts-same _ _ es (λ z. rw (none-in s k) (omega arith))
 all-counts s k (t ∷ ts) es o f =
     ap (talliedAll s k ts es) (tallied-counts (t .count) (partsIn s k (t .key)) es f)
-    ∙ all-counts s k ts es (later t ts o) (λ z. f z + (if has z (partsIn s k (t .key)) then t .count else 0))
+    ∙ all-counts s k ts es (later-taught t ts o) (λ z. f z + (if has z (partsIn s k (t .key)) then t .count else 0))
     ∙ counts-same _ _ es (λ z. omega (arith, count-more s k t ts o z))
 
 -- Tallied from zeros on, it is what they count.
-pub tallied-is : (s : Section) (k : ℕ) (ts es : List Entry) → Orders ts → talliedAll s k ts es (replicate (length es) 0) ≡ countsBy (λ z. countOf z (countedIn s k ts)) es
+pub tallied-is : (s : Section) (k : ℕ) (ts es : List Entry) → TaughtOrders ts → talliedAll s k ts es (replicate (length es) 0) ≡ countsBy (λ z. countOf z (countedIn s k ts)) es
 tallied-is s k ts es o = ap (talliedAll s k ts es) (counts-none es) ∙ all-counts s k ts es o (λ z. 0) ∙ counts-same _ _ es (λ z. omega arith)
 
 -- ---- the tests
@@ -157,21 +157,21 @@ known-each (o ∷ os) es h i (there m) = known-each os es (and-right _ _ h) i m
 
 module _ (s : Section) (k : ℕ) where
   -- All is known where each key that the orders count has an entry.
-  pub counted-known : (ts es : List Entry) → Orders ts → ((z : List ℕ) → 1 ≤ countOf z (countedIn s k ts) → has z es ≡ true) → allKnown s k ts es ≡ true
+  pub counted-known : (ts es : List Entry) → TaughtOrders ts → ((z : List ℕ) → 1 ≤ countOf z (countedIn s k ts) → has z es ≡ true) → allKnown s k ts es ≡ true
   unfolding allKnown if_then_else_ Sorted
   counted-known [] es o h = refl
   counted-known (t ∷ ts) es o h =
       and-both (each-known (partsIn s k (t .key)) es (λ i m. h (i .key) (part i m)))
-      (counted-known ts es (later t ts o) (λ z p. h z (omega (arith, count-more s k t ts o z))))
+      (counted-known ts es (later-taught t ts o) (λ z p. h z (omega (arith, count-more s k t ts o z))))
     where
       part : (i : Entry) → i ∈ partsIn s k (t .key) → 1 ≤ countOf (i .key) (countedIn s k (t ∷ ts))
       part i m = omega (arith, o .sorted .0, rw (entry-has (i .key) m refl) at (count-more s k t ts o (i .key)))
 
   -- Where all is known each key that the orders count has an entry.
-  pub known-counted : (ts es : List Entry) → Orders ts → allKnown s k ts es ≡ true → (z : List ℕ) → 1 ≤ countOf z (countedIn s k ts) → has z es ≡ true
+  pub known-counted : (ts es : List Entry) → TaughtOrders ts → allKnown s k ts es ≡ true → (z : List ℕ) → 1 ≤ countOf z (countedIn s k ts) → has z es ≡ true
   unfolding allKnown teachingsIn countOf if_then_else_
   known-counted [] es o h z p = absurd (omega (arith, ap (countOf z) (none-in s k)))
-  known-counted (t ∷ ts) es o h z p = go (has z (partsIn s k (t .key))) refl (count-more s k t ts o z) (known-counted ts es (later t ts o) (and-right _ _ h) z)
+  known-counted (t ∷ ts) es o h z p = go (has z (partsIn s k (t .key))) refl (count-more s k t ts o z) (known-counted ts es (later-taught t ts o) (and-right _ _ h) z)
     where
       go : (b : Bool) → has z (partsIn s k (t .key)) ≡ b → countOf z (countedIn s k (t ∷ ts)) ≡ (if b then t .count else 0) + countOf z (countedIn s k ts)
           → (1 ≤ countOf z (countedIn s k ts) → has z es ≡ true) → has z es ≡ true

@@ -3,7 +3,7 @@
 ghost use mathlib.Core.Path.{_≡_};
 ghost use mathlib.Core.Bool.{true};
 ghost use Prim.Native.Nat.{_+_, _≤_};
-ghost use lib.ListN.{length, getD, take, drop, replicate};
+ghost use lib.ListN.{length, drop, replicate};
 ghost use Rattle.figures.specs.Limits.{least-k};
 ghost use Rattle.figures.specs.Numbers.{done};
 ghost use Rattle.section.specs.Entries.{width, firstEntry};

@@ -37,19 +37,19 @@ use Rattle.effects.proofs.Counted.{taught-parts}
 -- ---- the teachings that a T counts
 
 -- A section T in form: sorted, and each key the words of an order within limits.
-pub record Orders (es : List Entry) : Type 0 where
+pub record TaughtOrders (es : List Entry) : Type 0 where
   pub sorted : Sorted es
   pub limits : (e : Entry) → e ∈ es → Fits 0 greatest-depth (e .key)
 
 -- That of a book in form is.
-pub form-orders : (b : Book) → inForm b ≡ true → Orders (b .T)
+pub form-orders : (b : Book) → inForm b ≡ true → TaughtOrders (b .T)
 unfolding sectionOf
 form-orders b f = record { sorted = form-sorted b f Taught; limits = λ e m. form-sound b f .taught .entry e m .tree }
 
 -- So are the entries past the first.
-pub later : (e : Entry) (es : List Entry) → Orders (e ∷ es) → Orders es
+pub later-taught : (e : Entry) (es : List Entry) → TaughtOrders (e ∷ es) → TaughtOrders es
 unfolding Sorted
-later e es o = record { sorted = o .sorted .2; limits = λ f m. o .limits f (there m) }
+later-taught e es o = record { sorted = o .sorted .2; limits = λ f m. o .limits f (there m) }
 
 -- An entry whose key is an order's words is so many teachings of the order.
 read-entry : (e : Entry) (es : List Entry) (t : Tree) → e .key ≡ words t → Fits 0 greatest-depth (e .key) → teachingsIn (e ∷ es) ≡ record { order = t; times = e .count } ∷ teachingsIn es
@@ -65,32 +65,32 @@ pub record First (e : Entry) (es : List Entry) : Type 0 where
   pub reads : teachingsIn (e ∷ es) ≡ record { order = tree; times = e .count } ∷ teachingsIn es
 
 -- It has one.
-pub first : (e : Entry) (es : List Entry) → Orders (e ∷ es) → First e es
+pub first : (e : Entry) (es : List Entry) → TaughtOrders (e ∷ es) → First e es
 first e es o =
     let f = o .limits e (here refl) in
     record { tree = f .tree; spelt = f .isOrder .spelt; reads = read-entry e es (f .tree) (f .isOrder .spelt) f }
 
 -- Each of the teachings is live.
-teachings-live : (es : List Entry) → Orders es → (o : Teaching) → o ∈ teachingsIn es → 1 ≤ o .times
+teachings-live : (es : List Entry) → TaughtOrders es → (o : Teaching) → o ∈ teachingsIn es → 1 ≤ o .times
 unfolding teachingsIn Sorted
 teachings-live [] s o m = absurd (List·Memᴰ·not-nil m)
-teachings-live (e ∷ es) s o m = let f = first e es s in go (f .tree) (rw (f .reads) at m) (teachings-live es (later e es s) o)
+teachings-live (e ∷ es) s o m = let f = first e es s in go (f .tree) (rw (f .reads) at m) (teachings-live es (later-taught e es s) o)
   where
     go : (t : Tree) → o ∈ record { order = t; times = e .count } ∷ teachingsIn es → (o ∈ teachingsIn es → 1 ≤ o .times) → 1 ≤ o .times
     go t (here q) ih = rw q (s .sorted .0)
     go t (there i) ih = ih i
 
 -- The sections of their book are sorted.
-pub teachings-sorted : (k : ℕ) (es : List Entry) → Orders es → (s : Section) → Sorted (sectionOf s (bookOf k (teachingsIn es)))
+pub teachings-sorted : (k : ℕ) (es : List Entry) → TaughtOrders es → (s : Section) → Sorted (sectionOf s (bookOf k (teachingsIn es)))
 teachings-sorted k es o s = taught-sorted k (teachingsIn es) (teachings-live es o) s
 
 -- Section T of their book is the T that counts them.
-teachings-taught : (k : ℕ) (es : List Entry) → Orders es → bookOf k (teachingsIn es) .T ≡ es
+teachings-taught : (k : ℕ) (es : List Entry) → TaughtOrders es → bookOf k (teachingsIn es) .T ≡ es
 unfolding teachingsIn bookOf taught Sorted
 teachings-taught k [] o = refl
 teachings-taught k (e ∷ es) o =
     let f = first e es o in
-    ap (λ (os : List Teaching). bookOf k os .T) (f .reads) ∙ ap₂ (add (e .count)) (sym (f .spelt)) (teachings-taught k es (later e es o)) ∙ add-below (e .count) (e .key) es (o .sorted .1)
+    ap (λ (os : List Teaching). bookOf k os .T) (f .reads) ∙ ap₂ (add (e .count)) (sym (f .spelt)) (teachings-taught k es (later-taught e es o)) ∙ add-below (e .count) (e .key) es (o .sorted .1)
 
 -- ---- agreeing
 
@@ -132,11 +132,11 @@ taught-twice m n t b p q sorted = same-books _ _ refl (λ s.
     ∙ sym (taught-section n t (taught m t b) s ∙ ap (addEach n ts) (taught-section m t b s)))
 
 -- The book of the teachings that a T counts with n more of an order is the one of those that it counts, with n teachings more.
-more-taught : (k n : ℕ) (t : Tree) (es : List Entry) → 1 ≤ n → Fits 0 greatest-depth (words t) → Orders es
+more-taught : (k n : ℕ) (t : Tree) (es : List Entry) → 1 ≤ n → Fits 0 greatest-depth (words t) → TaughtOrders es
     → bookOf k (teachingsIn (add n (words t) es)) ≡ taught n t (bookOf k (teachingsIn es))
 unfolding add bookOf
 more-taught k n t [] p l o = ap (bookOf k) (read-entry (counted (words t) n) [] t refl l) ∙ unfold teachingsIn in refl
-more-taught k n t (e ∷ es) p l o = go (compareOf (e .key) (words t)) refl (more-taught k n t es p l (later e es o))
+more-taught k n t (e ∷ es) p l o = go (compareOf (e .key) (words t)) refl (more-taught k n t es p l (later-taught e es o))
   where
     f : First e es
     f = first e es o
@@ -145,7 +145,7 @@ more-taught k n t (e ∷ es) p l o = go (compareOf (e .key) (words t)) refl (mor
     B = bookOf k (teachingsIn es)
 
     sorted : (s : Section) → Sorted (sectionOf s B)
-    sorted = teachings-sorted k es (later e es o)
+    sorted = teachings-sorted k es (later-taught e es o)
 
     some : 1 ≤ e .count
     some = unfold Sorted in o .sorted .0
@@ -176,7 +176,7 @@ module _ (t : Tree) (b : Book) (f : inForm b ≡ true) (l : Fits 0 greatest-dept
   left = bookOf (b .k) (teachingsIn (lower (words t) (b .T)))
 
   -- The T that counts them is in form.
-  left-orders : Orders (lower (words t) (b .T))
+  left-orders : TaughtOrders (lower (words t) (b .T))
   unfolding withdrawn
   left-orders = form-orders (withdrawn t b) (withdrawn-keeps-form t b f)
 

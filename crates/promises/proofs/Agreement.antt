@@ -27,7 +27,7 @@ use Rattle.teach.proofs.Adds.{taught-section}
 use Rattle.amend.proofs.Sections.{form-sorted}
 use Rattle.effects.specs.Conditions.{_exactly-when_}
 use Rattle.effects.proofs.Undoing.{times-counted, times-other, count-after-taught}
-use Rattle.effects.proofs.Agreeing.{Orders, form-orders, later, first, teachings-sorted, agreeing-is}
+use Rattle.effects.proofs.Agreeing.{TaughtOrders, form-orders, later-taught, first, teachings-sorted, agreeing-is}
 use Rattle.promises.specs.Remaining.{HasPart}
 use Rattle.promises.specs.Agreement.{CountsOf, no-entry, counts, counts-not, Agrees}
 use Rattle.promises.proofs.Orders.{top-part, part-top, low-part, part-low, middle-part, part-middle}
@@ -57,12 +57,12 @@ module _ (k : ℕ) (s : Section) where
   -- It counts a tree in a section by the counts of T's entries with a property, if an order has the property exactly where its teaching
   -- counts the tree there.
   counts-in : (u : Tree) (Q : List ℕ → Type 0) → ((os : List ℕ) (t : Tree) → IsOrder os t → u ∈ treesIn s k t → Q os) → ((os : List ℕ) (t : Tree) → IsOrder os t → Q os → u ∈ treesIn s k t)
-      → (es : List Entry) → Orders es → CountsOf Q es (countOf (words u) (sectionOf s (bookOf k (teachingsIn es))))
+      → (es : List Entry) → TaughtOrders es → CountsOf Q es (countOf (words u) (sectionOf s (bookOf k (teachingsIn es))))
   counts-in u Q from to [] all = unfold teachingsIn countOf in rw (none-in s k) no-entry
   counts-in u Q from to (e ∷ es) all =
       let f = first e es all in
       let o : IsOrder (e .key) (f .tree) = fits-order-of (e .key) (f .tree) (f .spelt) (all .limits e (here refl)) in
-      go (f .tree) o (entry-more u e es (f .tree) (f .reads)) (anyTree u (treesIn s k (f .tree))) refl (counts-in u Q from to es (later e es all))
+      go (f .tree) o (entry-more u e es (f .tree) (f .reads)) (anyTree u (treesIn s k (f .tree))) refl (counts-in u Q from to es (later-taught e es all))
     where
       -- What the tree counts by all the entries.
       whole : ℕ

@@ -165,12 +165,14 @@ module _ {M : Type 1} (𝓤 : URA.URA M) (H : Wp.Heap 𝓤) (A : Atoms.Atoms �
 
   -- `cuts::cut_into`
   pub cut-into-says : (κs args g r : _) → let c = cut-into.spec 𝓤 H A mem run κs args in
-      (c .ghost ≡ Unit {0}) × (c .requires g ≡ ⊤ₛ) × (c .ensures g r ≡ exits 𝓤 H A cut-into.signature (cut-into.ended .kept) κs args (λ end. ⌜ writing r (now (end .1 .1 .1 .0)) ≡ cutIntoOf (now (args .0)) (args .1 .0) (args .1 .1 .0) (now (args .1 .1 .1 .0)) ⌝))
+      (c .ghost ≡ Unit {0}) × (c .requires g ≡ ⊤ₛ)
+      × (c .ensures g r ≡ exits 𝓤 H A cut-into.signature (cut-into.ended .kept) κs args (λ end. ⌜ writing r (now (end .1 .1 .1 .0)) ≡ cutIntoOf (now (args .0)) (args .1 .0) (args .1 .1 .0) (now (args .1 .1 .1 .0)) ⌝))
   cut-into-says κs args g r = (refl, refl, refl)
 
   -- `parts::part_into`
   pub part-into-says : (κs args g r : _) → let c = part-into.spec 𝓤 H A mem run κs args in
-      (c .ghost ≡ Unit {0}) × (c .requires g ≡ ⊤ₛ) × (c .ensures g r ≡ exits 𝓤 H A part-into.signature (part-into.ended .kept) κs args (λ end. ⌜ partWriting r (now (end .1 .1 .1 .0)) ≡ partIntoOf (now (args .0)) (args .1 .0) (args .1 .1 .0 .k) (now (args .1 .1 .1 .0)) ⌝))
+      (c .ghost ≡ Unit {0}) × (c .requires g ≡ ⊤ₛ)
+      × (c .ensures g r ≡ exits 𝓤 H A part-into.signature (part-into.ended .kept) κs args (λ end. ⌜ partWriting r (now (end .1 .1 .1 .0)) ≡ partIntoOf (now (args .0)) (args .1 .0) (args .1 .1 .0 .k) (now (args .1 .1 .1 .0)) ⌝))
   part-into-says κs args g r = (refl, refl, refl)
 
   -- `form::read`
