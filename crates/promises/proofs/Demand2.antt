@@ -54,7 +54,7 @@ pub record InTens (code : ℕ) (text : List ℕ) : Type 0 where
   pub text-is : text ≡ space ∷ (digit-0 + a) ∷ (digit-0 + b) ∷ (digit-0 + c) ∷ (digit-0 + d) ∷ line-feed ∷ []
   pub code-is : code ≡ a * 1000 + b * 100 + c * 10 + d
 
--- So are the bytes that are written behind a level, for every code up to 9999.
+-- Such are the bytes that are written behind a level, for every code up to 9999.
 pub written-in-tens : (code : ℕ) → code ≤ greatest-code → InTens code (codeText code)
 unfolding codeText
 written-in-tens code most = record {
@@ -72,7 +72,7 @@ top-code : (s : Tree) → Good s → topCode s ≤ greatest-code
 unfolding topCode Good
 top-code (node c f) g = g .0 .1
 
--- So it is on every line that is written, and, since a text is read exactly if it is the text of an order (`read-rows`), on every line that
+-- Such they are on every line that is written, and, since a text is read exactly if it is the text of an order (`read-rows`), on every line that
 -- is read: the text of an order is the text of its lines (`textOf`), line i having the code of the top of the subtree of line i
 -- (`lines-subtrees`, form/proofs/TreeLines.antt).
 pub every-line-in-tens : (os : List ℕ) (t : Tree) → IsOrder os t → (x : Line) → x ∈ linesOf t 0 → InTens (x .code) (codeText (x .code))
