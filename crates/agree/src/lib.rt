@@ -13,7 +13,7 @@ ghost use Rattle.book.specs.Decoding.{bookIn};
 ghost use Rattle.book.specs.Holding.{Holds};
 ghost use Rattle.own.specs.Own.{list-words};
 ghost use Rattle.agree.specs.Checking.{checkOf};
-ghost use Rattle.agree.specs.Tallies.{partsIn, allKnown, talliedAll, agreeingIn};
+ghost use Rattle.agree.specs.Tallies.{most-entries, partsIn, allKnown, talliedAll, agreeingIn};
 use book::BookForm;
 use book::Places;
 use book::Section;
@@ -60,26 +60,29 @@ fn tally_order(
     known
 }
 
-// Tallies what all taught orders count in a section. Answers false where a part has no entry; what was tallied then is of no use.
+// Tallies what all taught orders count in a section, for the section's listed entries, by way of a scratch of zeros, which is zeros again in the
+// end. Answers false where a part has no entry; what was tallied then is of no use.
 fn tally_taught(
     book: &[u16],
     places: Places,
     section: Section,
     starts: &[u16],
     counts: &mut [u16],
+    list: &mut [u16],
 ) -> bool
     requires { ⌜ Holds (now book) places ⌝ }
     requires { ⌜ Indexed (now starts) (now book) ⌝ }
     requires { ⌜ (length (now counts) ≡ length (now starts)) × Few (talliedAll section (bookIn (now book) .k) (bookIn (now book) .T) (listed (now starts) (now book)) (now counts)) ⌝ }
+    requires { ⌜ (now list ≡ replicate (length (now list)) 0) × (length (now list) ≡ list-words) ⌝ }
     ensures known { λ r. ⌜ r ≡ allKnown section (bookIn (now (book .entry)) .k) (bookIn (now (book .entry)) .T) (listed (now (starts .entry)) (now (book .entry))) ⌝ }
     ensures counted { λ r. ⌜ (r ≡ true → now (counts .exit) ≡
         talliedAll section (bookIn (now (book .entry)) .k) (bookIn (now (book .entry)) .T) (listed (now (starts .entry)) (now (book .entry))) (now (counts .entry))) ⌝ }
+    ensures cleared { λ _. ⌜ now (list .exit) ≡ now (list .entry) ⌝ }
 {
-    let mut list = [0u16; own::LIST_WORDS];
     let mut at = limits::HEAD_WORDS;
     let mut left = book[limits::TAUGHT_WORD];
     while 0 < left {
-        if !tally_order(book, at, places.k, section, starts, counts, &mut list) {
+        if !tally_order(book, at, places.k, section, starts, counts, list) {
             return false;
         }
         at = past(book, at);
@@ -88,39 +91,75 @@ fn tally_taught(
     true
 }
 
-// Whether a section of a book in form is that of its T, trees and counts.
-fn section_agrees(book: &[u16], places: Places, section: Section) -> bool
+// Whether a section of a book in form is that of its T, trees and counts. Lent as scratch: places and counts for its entries, with any words in
+// them, and a list of zeros, which is zeros again in the end.
+fn section_agrees(
+    book: &[u16],
+    places: Places,
+    section: Section,
+    starts: &mut [u16],
+    counts: &mut [u16],
+    list: &mut [u16],
+) -> bool
     requires { ⌜ Holds (now book) places ⌝ }
-    ensures { λ r. ⌜ r ≡ agreeingIn section (bookIn (now (book .entry))) ⌝ }
+    requires { ⌜ length (now starts) ≡ most-entries ⌝ }
+    requires { ⌜ length (now counts) ≡ most-entries ⌝ }
+    requires { ⌜ (now list ≡ replicate (length (now list)) 0) × (length (now list) ≡ list-words) ⌝ }
+    ensures agrees { λ r. ⌜ r ≡ agreeingIn section (bookIn (now (book .entry))) ⌝ }
+    ensures cleared { λ _. ⌜ now (list .exit) ≡ now (list .entry) ⌝ }
 {
     let many = book[book::slot(section)] as usize;
-    let mut starts = [0u16; MOST_ENTRIES];
-    let mut counts = [0u16; MOST_ENTRIES];
-    tally::index(book, book::start(section, places), many, &mut starts);
+    words::clear(&mut counts[0..many]);
+    tally::index(book, book::start(section, places), many, starts);
     if !tally_taught(
         book,
         places,
         section,
         &starts[0..many],
         &mut counts[0..many],
+        list,
     ) {
         return false;
     }
     tally::same_counts(book, &starts[0..many], &counts[0..many])
 }
 
-// Whether the three sections of a book in form are those of its T: 9, or 0.
+// Whether the three sections of a book in form are those of its T: 9, or 0. They take turns with one scratch.
 fn check_sections(book: &[u16], places: Places) -> Answer
     requires { ⌜ Holds (now book) places ⌝ }
     ensures { λ r. ⌜ r ≡ checkOf (now (book .entry)) ⌝ }
 {
-    if !section_agrees(book, places, Section::Tops) {
+    let mut starts = [0u16; MOST_ENTRIES];
+    let mut counts = [0u16; MOST_ENTRIES];
+    let mut list = [0u16; own::LIST_WORDS];
+    if !section_agrees(
+        book,
+        places,
+        Section::Tops,
+        &mut starts,
+        &mut counts,
+        &mut list,
+    ) {
         return answered(numbers::NOT_AGREEING);
     }
-    if !section_agrees(book, places, Section::Lows) {
+    if !section_agrees(
+        book,
+        places,
+        Section::Lows,
+        &mut starts,
+        &mut counts,
+        &mut list,
+    ) {
         return answered(numbers::NOT_AGREEING);
     }
-    if !section_agrees(book, places, Section::Middles) {
+    if !section_agrees(
+        book,
+        places,
+        Section::Middles,
+        &mut starts,
+        &mut counts,
+        &mut list,
+    ) {
         return answered(numbers::NOT_AGREEING);
     }
     answered(numbers::DONE)

@@ -1,10 +1,10 @@
--- `agree::section_agrees` meets its contract: the places listed are those of the section's entries, and the counts begin at 0. Assumes nothing.
+-- `agree::section_agrees` meets its contract: the places listed are of the section's entries, and the counts in use begin at 0. Assumes nothing.
 use Prim.Native.Nat.{ℕ, _+_, _-_, _≤_}
 use mathlib.Core.Path.{_≡_, refl, sym, ap, ap₂, subst, _∙_}
 use mathlib.Core.Bool.{Bool, true, false}
 use mathlib.Core.List.{List, _++_}
 use native.Mathlib.Omega.{arith}
-use lib.ListN.{length, getD, take, drop, replicate, length-append, length-replicate, replicate-append-replicate}
+use lib.ListN.{length, getD, take, drop, replicate, length-append, length-take, length-replicate}
 use lib.Seq.{take-at}
 use borrow.Author.Needs.{needs}
 use borrow.Author.Tests.{not-true, not-false}
@@ -29,14 +29,26 @@ use Rattle.agree.proofs.section_agrees.Tie as tie
 
 -- ---- the section at its place
 
--- The first n of m zeros are n zeros.
-zeros-front : (m n : ℕ) → n ≤ m → take (n - 0) (replicate {A = ℕ} m 0) ≡ replicate n 0
-zeros-front m n fits =
-    let o : ℕ = 0 in
-    let whole : m ≡ n + (m - n) = omega arith in
-    let same : length (replicate n o) ≡ n - 0 = length-replicate n o ∙ omega arith in
-    ap (λ (j : ℕ). take (n - 0) (replicate j o)) (whole ∙ refl)
-    ∙ ap (take (n - 0)) (sym (replicate-append-replicate n (m - n) o)) ∙ take-at (replicate n o) (replicate (m - n) o) (n - 0) same
+-- The first n of the old words are zeroed.
+module _ (n : ℕ) (old zeros : List ℕ) (fits : n ≤ length old) (none : zeros ≡ replicate (length (take (n - 0) old)) 0) where
+  -- The new words are n zeros.
+  zeros-are : zeros ≡ replicate n 0
+  zeros-are =
+      let o : ℕ = 0 in
+      let wide : length (take (n - 0) old) ≡ n = simp length-take (omega arith) in
+      none ∙ ap (λ (j : ℕ). replicate j o) wide
+
+  -- Their number is n.
+  zeros-long : length zeros ≡ n
+  zeros-long = let o : ℕ = 0 in ap length zeros-are ∙ length-replicate n o
+
+  -- They are the first n words.
+  zeros-front : take (n - 0) (zeros ++ drop (n - 0) old) ≡ replicate n 0
+  zeros-front = take-at zeros (drop (n - 0) old) (n - 0) (zeros-long ∙ omega arith) ∙ zeros-are
+
+  -- With the old words behind them there are n words at least.
+  zeros-room : n ≤ length (zeros ++ drop (n - 0) old)
+  zeros-room = omega (arith, zeros-long, length-append zeros (drop (n - 0) old))
 
 -- The words are a book in form, one section of which starts at `at`, and whose number of entries is word `word` of the head.
 module _ (ws : List ℕ) (p : Places) (h : Holds ws p) (s : Section) (at word : ℕ) (begins : at ≡ startOf s p) (slot : word ≡ slotOf s) where
@@ -52,13 +64,13 @@ module _ (ws : List ℕ) (p : Places) (h : Holds ws p) (s : Section) (at word : 
   many-are : many ≡ length (sectionOf s (bookIn ws))
   many-are = sym (length-entries many (drop at ws)) ∙ ap length are
 
-  -- The arrays have room for them.
+  -- A scratch has room for them.
   many-fit : many ≤ most-entries
   many-fit = omega (arith, many-are, few-entries (bookIn ws) (h .form) s (omega (arith, used-fits ws (bookIn ws) (h .laid), h .short)))
 
-  -- Their places are written over the front of an array.
+  -- Their places are written over the front of a scratch.
   module _ (starts old : List ℕ) (wrote : starts ≡ over (startsOf at many (drop at ws)) old) where
-    -- The front of the array has their places.
+    -- The front of the scratch has their places.
     front-is : take (many - 0) starts ≡ startsOf at many (drop at ws)
     front-is = ap (take (many - 0)) wrote ∙ take-at (startsOf at many (drop at ws)) (drop (length (startsOf at many (drop at ws))) old) (many - 0) (length-starts at many (drop at ws) ∙ omega arith)
 
@@ -75,10 +87,10 @@ module _ (ws : List ℕ) (p : Places) (h : Holds ws p) (s : Section) (at word : 
     front-indexed = subst (λ (l : List ℕ). Indexed l ws) (sym front-is) (starts-indexed ws at many (ends-within ws p h s at word begins slot) (subst Sorted (sym are) (h .section s .sorted)))
 
     -- The counts begin at 0.
-    module _ (zeros : List ℕ) (none : zeros ≡ replicate most-entries 0) where
+    module _ (zeros : List ℕ) (none : take (many - 0) zeros ≡ replicate many 0) where
       -- As many as the section has entries.
       counts-are : take (many - 0) zeros ≡ replicate (length (sectionOf s (bookIn ws))) 0
-      counts-are = let o : ℕ = 0 in ap (take (many - 0)) none ∙ zeros-front most-entries many many-fit ∙ ap (λ (n : ℕ). replicate n o) many-are
+      counts-are = let o : ℕ = 0 in none ∙ ap (λ (n : ℕ). replicate n o) many-are
 
       -- There is one for each place.
       counts-long : length (take (many - 0) zeros) ≡ length (take (many - 0) starts)
@@ -112,103 +124,143 @@ module _ (ws : List ℕ) (p : Places) (h : Holds ws p) (s : Section) (at word : 
 
 -- ---- at each place
 
--- What the function was called with, seen from where the section's start is known.
-abbrev called : tie.After-start → tie.Start
-called a = a .before .before .before .before
+-- What the function was called with, seen from where the section's word in the head is known.
+abbrev called : tie.After-slot → tie.Start
+called w = w .before .before .before .before .before
 
 -- How many entries the section has by the head's word.
-abbrev told : tie.After-start → ℕ
-told a = getD (called a .args .book .now) (a .before .before .slot .result) 0
+abbrev told : tie.After-slot → ℕ
+told w = getD (called w .args .book .now) (w .slot .result) 0
+
+-- A scratch has room for its entries.
+fits : (w : tie.After-slot) → told w ≤ most-entries
+fits w = let x = called w .args in many-fit _ _ (called w .pre .0) (x .section) (startOf (x .section) (x .places)) _ refl (w .slot .ensures)
+
+-- The scratch lent for the counts has room for them.
+counts-fit : (w : tie.After-slot) → told w ≤ length (called w .args .counts .now)
+counts-fit w = omega (arith, fits w, called w .pre .1 .1 .0)
+
+-- The head's word, seen from where the counts are zeroed.
+abbrev worded : tie.After-clear → tie.After-slot
+worded z = z .before .before .before
+
+-- The counts as they begin.
+abbrev zeros : tie.After-clear → List ℕ
+zeros z = z .clear .last .0 ++ drop (told (worded z) - 0) (called (worded z) .args .counts .now)
+
+-- Those in use are 0.
+zeroed : (z : tie.After-clear) → take (told (worded z) - 0) (zeros z) ≡ replicate (told (worded z)) 0
+zeroed z = zeros-front (told (worded z)) (called (worded z) .args .counts .now) _ (counts-fit (worded z)) (z .clear .ensures)
+
+-- The head's word, seen from where the section's start is known.
+abbrev slotted : tie.After-start → tie.After-slot
+slotted a = a .before .before .before .before .before .before
 
 -- The section ends within the book.
-within : (a : tie.After-start) → a .start .result + span (told a) (drop (a .start .result) (called a .args .book .now)) ≤ length (called a .args .book .now)
-within a = ends-within _ _ (called a .pre) (called a .args .section) _ _ (a .start .ensures) (a .before .before .slot .ensures)
-
--- The arrays have room for its entries.
-fits : (a : tie.After-start) → told a ≤ most-entries
-fits a = many-fit _ _ (called a .pre) (called a .args .section) _ _ (a .start .ensures) (a .before .before .slot .ensures)
+within : (a : tie.After-start) → let x = called (slotted a) .args in a .start .result + span (told (slotted a)) (drop (a .start .result) (x .book .now)) ≤ length (x .book .now)
+within a = ends-within _ _ (called (slotted a) .pre .0) (called (slotted a) .args .section) _ _ (a .start .ensures) (slotted a .slot .ensures)
 
 -- The section's start, seen from where the places are written.
 abbrev begun : tie.After-index → tie.After-start
 begun i = i .before .before
 
--- The array with the places.
+-- The counts zeroed, seen from there.
+abbrev clean : tie.After-index → tie.After-clear
+clean i = i .before .before .before .before .before
+
+-- How many entries the section has, seen from there.
+abbrev many-at : tie.After-index → ℕ
+many-at i = told (slotted (begun i))
+
+-- The scratch with the places.
 abbrev starts : tie.After-index → List ℕ
 starts i = i .index .last .1 .1 .1 .0
 
 -- It has room for them.
-starts-room : (i : tie.After-index) → told (begun i) ≤ length (starts i)
-starts-room i = omega (arith, i .index .kept .1 .1 .1 .0, fits (begun i))
+starts-room : (i : tie.After-index) → many-at i ≤ length (starts i)
+starts-room i = omega (arith, i .index .kept .1 .1 .1 .0, fits (slotted (begun i)), called (slotted (begun i)) .pre .1 .0)
 
 -- The places are those of the section's entries.
-indexed : (i : tie.After-index) → Indexed (take (told (begun i) - 0) (starts i)) (called (begun i) .args .book .now)
+indexed : (i : tie.After-index) → Indexed (take (many-at i - 0) (starts i)) (called (slotted (begun i)) .args .book .now)
 indexed i =
     let a = begun i in
-    front-indexed _ _ (called a .pre) (called a .args .section) _ _ (a .start .ensures) (a .before .before .slot .ensures) (starts i) _ (i .index .ensures)
+    front-indexed _ _ (called (slotted a) .pre .0) (called (slotted a) .args .section) _ _ (a .start .ensures) (slotted a .slot .ensures) (starts i) _ (i .index .ensures)
 
--- The counts as they begin.
-abbrev zeros : List ℕ
-zeros = replicate most-entries 0
-
--- There is one for each place.
-long : (i : tie.After-index) → length (take (told (begun i) - 0) zeros) ≡ length (take (told (begun i) - 0) (starts i))
+-- There is one count for each place.
+long : (i : tie.After-index) → length (take (many-at i - 0) (zeros (clean i))) ≡ length (take (many-at i - 0) (starts i))
 long i =
     let a = begun i in
-    counts-long _ _ (called a .pre) (called a .args .section) _ _ (a .start .ensures) (a .before .before .slot .ensures) (starts i) _ (i .index .ensures) zeros refl
+    counts-long _ _ (called (slotted a) .pre .0) (called (slotted a) .args .section) _ _ (a .start .ensures) (slotted a .slot .ensures) (starts i) _ (i .index .ensures)
+    (zeros (clean i)) (zeroed (clean i))
 
 -- What is tallied stays within the greatest count.
-few : (i : tie.After-index) → let x = called (begun i) .args in
-    Few (talliedAll (x .section) (bookIn (x .book .now) .k) (bookIn (x .book .now) .T) (listed (take (told (begun i) - 0) (starts i)) (x .book .now)) (take (told (begun i) - 0) zeros))
+few : (i : tie.After-index) → let x = called (slotted (begun i)) .args in
+    Few (talliedAll (x .section) (bookIn (x .book .now) .k) (bookIn (x .book .now) .T) (listed (take (many-at i - 0) (starts i)) (x .book .now)) (take (many-at i - 0) (zeros (clean i))))
 few i =
     let a = begun i in
-    all-few _ _ (called a .pre) (called a .args .section) _ _ (a .start .ensures) (a .before .before .slot .ensures) (starts i) _ (i .index .ensures) zeros refl
+    all-few _ _ (called (slotted a) .pre .0) (called (slotted a) .args .section) _ _ (a .start .ensures) (slotted a .slot .ensures) (starts i) _ (i .index .ensures)
+    (zeros (clean i)) (zeroed (clean i))
 
 -- The places, seen from where the counts are tallied.
 abbrev listing : tie.After-tally-taught → tie.After-index
-listing t = t .before .before .before .before .before
+listing t = t .before .before .before .before .before .before .before
 
 -- The counts tallied.
 abbrev counts : tie.After-tally-taught → List ℕ
 counts t = t .tally-taught .last .1 .1 .1 .1 .0
 
--- There are as many as entries.
-counted : (t : tie.After-tally-taught) → length (counts t) ≡ told (begun (listing t))
+-- The words behind them.
+abbrev behind : tie.After-tally-taught → List ℕ
+behind t = drop (many-at (listing t) - 0) (zeros (clean (listing t)))
+
+-- There are as many counts as entries.
+counted : (t : tie.After-tally-taught) → length (counts t) ≡ many-at (listing t)
 counted t =
     let i = listing t in
     let a = begun i in
     t .tally-taught .kept .1 .1 .1 .1 .0 ∙ long i
-    ∙ front-long _ _ (called a .pre) (called a .args .section) _ _ (a .start .ensures) (a .before .before .slot .ensures) (starts i) _ (i .index .ensures)
+    ∙ front-long _ _ (called (slotted a) .pre .0) (called (slotted a) .args .section) _ _ (a .start .ensures) (slotted a .slot .ensures) (starts i) _ (i .index .ensures)
 
--- They are lent again from the front of their array.
-counts-lent : (t : tie.After-tally-taught) → take (told (begun (listing t)) - 0) (counts t ++ drop (told (begun (listing t)) - 0) zeros) ≡ counts t
-counts-lent t = take-at (counts t) (drop (told (begun (listing t)) - 0) zeros) (told (begun (listing t)) - 0) (counted t ∙ omega arith)
+-- They are lent again from the front of their scratch.
+counts-lent : (t : tie.After-tally-taught) → take (many-at (listing t) - 0) (counts t ++ behind t) ≡ counts t
+counts-lent t = take-at (counts t) (behind t) (many-at (listing t) - 0) (counted t ∙ omega arith)
 
--- Their array has room for them.
-counts-room : (t : tie.After-tally-taught) → told (begun (listing t)) ≤ length (counts t ++ drop (told (begun (listing t)) - 0) zeros)
-counts-room t = omega (arith, counted t, length-append (counts t) (drop (told (begun (listing t)) - 0) zeros))
+-- Their scratch has room for them.
+counts-room : (t : tie.After-tally-taught) → many-at (listing t) ≤ length (counts t ++ behind t)
+counts-room t = omega (arith, counted t, length-append (counts t) (behind t))
 
 slot-requires : tie.Need-slot-requires
 slot-requires c κs = search needs
 
 mul-many : tie.Need-mul-many
-mul-many c = omega (arith, slot-small (c .before .before .args .section), c .slot .ensures)
+mul-many c = omega (arith, slot-small (called c .args .section), c .slot .ensures)
 
 shared-slice-read-many : tie.Need-shared-slice-read-many
-shared-slice-read-many c = let b = c .before .before .before in slot-within _ _ (b .pre) (b .args .section) _ (c .before .slot .ensures)
+shared-slice-read-many c = let b = called (c .before) in slot-within _ _ (b .pre .0) (b .args .section) _ (c .before .slot .ensures)
 
 cast-many : tie.Need-cast-many
 cast-many c = omega (arith, c .shared-slice-known2 .given (c .before .slot .result))
 
+sub-clear : tie.Need-sub-clear
+sub-clear c = search needs
+
+part-clear-start : tie.Need-part-clear-start
+part-clear-start c = search needs
+
+part-clear-end : tie.Need-part-clear-end
+part-clear-end c = counts-fit (c .before)
+
+clear-requires : tie.Need-clear-requires
+clear-requires c κs = search needs
+
 start-requires : tie.Need-start-requires
 start-requires c κs = search needs
-
-slice-aggregate-index : tie.Need-slice-aggregate-index
-slice-aggregate-index c = search needs
 
 index-requires : tie.Need-index-requires
 index-requires c κs =
     let a = c .before in
-    (within a, (called a .pre .short, fits a))
+    let b = called (slotted a) in
+    (within a, (b .pre .0 .short, omega (arith, fits (slotted a), b .pre .1 .0)))
 
 sub-tally-taught : tie.Need-sub-tally-taught
 sub-tally-taught c = search needs
@@ -217,29 +269,43 @@ part-tally-taught-start : tie.Need-part-tally-taught-start
 part-tally-taught-start c = search needs
 
 part-tally-taught-end : tie.Need-part-tally-taught-end
-part-tally-taught-end c = starts-room (c .before .before)
+part-tally-taught-end c = starts-room (c .before .before .before)
 
 sub-tally-taught-2 : tie.Need-sub-tally-taught-2
 sub-tally-taught-2 c = search needs
 
-part-counts-start : tie.Need-part-counts-start
-part-counts-start c = search needs
+part-tally-taught-start-2 : tie.Need-part-tally-taught-start-2
+part-tally-taught-start-2 c = search needs
 
-part-counts-end : tie.Need-part-counts-end
-part-counts-end c = fits (begun (c .before .before .before))
+part-tally-taught-end-2 : tie.Need-part-tally-taught-end-2
+part-tally-taught-end-2 c =
+    let z = c .before .before .before .before .before .before .before .before .before in
+    zeros-room (told (worded z)) (called (worded z) .args .counts .now) _ (counts-fit (worded z)) (z .clear .ensures)
 
 tally-taught-requires : tie.Need-tally-taught-requires
 tally-taught-requires c κs =
-    let i = c .before .before .before .before in
-    (called (begun i) .pre, (indexed i, (long i, few i)))
+    let i = c .before .before .before .before .before .before in
+    let b = called (slotted (begun i)) in
+    (b .pre .0, (indexed i, ((long i, few i), b .pre .1 .1 .1)))
+
+same-length : tie.Need-same-length
+same-length c = search needs
+
+same-length-2 : tie.Need-same-length-2
+same-length-2 c = search needs
+
+same-length-3 : tie.Need-same-length-3
+same-length-3 c = search needs
 
 returns : tie.Need-returns
 returns c =
-    let t = c .before .before in
+    let t = c .before .before .before .before .before in
     let i = listing t in
-    let a = begun i in
-    unknown-disagrees _ _ (called a .pre) (called a .args .section) _ _ (a .start .ensures) (a .before .before .slot .ensures) (starts i) _ (i .index .ensures) zeros refl
-    (sym (t .tally-taught .ensures .0) ∙ not-true _ (c .if1 .taken))
+    let a = begun i in (
+      unknown-disagrees _ _ (called (slotted a) .pre .0) (called (slotted a) .args .section) _ _ (a .start .ensures) (slotted a .slot .ensures) (starts i) _ (i .index .ensures)
+          (zeros (clean i)) (zeroed (clean i)) (sym (t .tally-taught .ensures .0) ∙ not-true _ (c .if1 .taken)),
+      t .tally-taught .ensures .1 .1,
+    )
 
 sub-same-counts : tie.Need-sub-same-counts
 sub-same-counts c = search needs
@@ -248,7 +314,7 @@ part-same-counts-start : tie.Need-part-same-counts-start
 part-same-counts-start c = search needs
 
 part-same-counts-end : tie.Need-part-same-counts-end
-part-same-counts-end c = starts-room (c .before .before .before .before .before .before .before .before)
+part-same-counts-end c = starts-room (c .before .before .before .before .before .before .before .before .before .before .before .before .before)
 
 sub-same-counts-2 : tie.Need-sub-same-counts-2
 sub-same-counts-2 c = search needs
@@ -257,21 +323,32 @@ part-same-counts-start-2 : tie.Need-part-same-counts-start-2
 part-same-counts-start-2 c = search needs
 
 part-same-counts-end-2 : tie.Need-part-same-counts-end-2
-part-same-counts-end-2 c = counts-room (c .before .before .before .before .before)
+part-same-counts-end-2 c = counts-room (c .before .before .before .before .before .before .before .before)
 
 same-counts-requires : tie.Need-same-counts-requires
 same-counts-requires c κs =
-    let t = c .before .before .before .before .before .before in
+    let t = c .before .before .before .before .before .before .before .before .before in
     (indexed (listing t), ap length (counts-lent t) ∙ t .tally-taught .kept .1 .1 .1 .1 .0 ∙ long (listing t))
+
+same-length-4 : tie.Need-same-length-4
+same-length-4 c = search needs
+
+same-length-5 : tie.Need-same-length-5
+same-length-5 c = search needs
+
+same-length-6 : tie.Need-same-length-6
+same-length-6 c = search needs
 
 returns-2 : tie.Need-returns-2
 returns-2 c =
-    let t = c .before .before .before .before .before .before .before in
+    let t = c .before .before .before .before .before .before .before .before .before .before in
     let i = listing t in
     let a = begun i in
-    let known = not-false _ (c .before .before .before .before .before .if1 .left) in
-    known-agrees _ _ (called a .pre) (called a .args .section) _ _ (a .start .ensures) (a .before .before .slot .ensures) (starts i) _ (i .index .ensures) zeros refl _ _
-    (sym (t .tally-taught .ensures .0) ∙ known) (counts-lent t ∙ t .tally-taught .ensures .1 known) (c .same-counts .ensures)
+    let known = not-false _ (c .before .before .before .before .before .if1 .left) in (
+      known-agrees _ _ (called (slotted a) .pre .0) (called (slotted a) .args .section) _ _ (a .start .ensures) (slotted a .slot .ensures) (starts i) _ (i .index .ensures)
+          (zeros (clean i)) (zeroed (clean i)) _ _ (sym (t .tally-taught .ensures .0) ∙ known) (counts-lent t ∙ t .tally-taught .ensures .1 .0 known) (c .same-counts .ensures),
+      t .tally-taught .ensures .1 .1,
+    )
 
 pub section-agrees-spec : {M : Type 1} → statement M
 section-agrees-spec =
@@ -281,16 +358,22 @@ section-agrees-spec =
     mul-many
     shared-slice-read-many
     cast-many
+    sub-clear
+    part-clear-start
+    part-clear-end
+    clear-requires
     start-requires
-    slice-aggregate-index
     index-requires
     sub-tally-taught
     part-tally-taught-start
     part-tally-taught-end
     sub-tally-taught-2
-    part-counts-start
-    part-counts-end
+    part-tally-taught-start-2
+    part-tally-taught-end-2
     tally-taught-requires
+    same-length
+    same-length-2
+    same-length-3
     returns
     sub-same-counts
     part-same-counts-start
@@ -299,4 +382,7 @@ section-agrees-spec =
     part-same-counts-start-2
     part-same-counts-end-2
     same-counts-requires
+    same-length-4
+    same-length-5
+    same-length-6
     returns-2)

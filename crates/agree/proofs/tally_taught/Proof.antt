@@ -22,7 +22,7 @@ use Rattle.book.specs.declared.Section.{Section}
 use Rattle.book.specs.declared.Section.the-variants.{Taught}
 use Rattle.book.specs.declared.Places.{Places}
 use Rattle.own.specs.Own.{list-words}
-use Rattle.teach.proofs.Outcomes.{all-zeros, least}
+use Rattle.teach.proofs.Outcomes.{least}
 use Rattle.agree.specs.Tallies.{partsIn, allKnown, talliedAll}
 use Rattle.agree.proofs.Counting.{taught-cause}
 use Rattle.agree.proofs.tally_taught.Statement.{statement}
@@ -39,23 +39,23 @@ all-grow s k (t ∷ ts) es cs i = omega (arith, tallied-least (t .count) (partsI
 -- ---- the orders left
 
 -- The entries left lie within the book and are of its T; what all orders count from the first counts on is what those left count from these.
-record Left (book starts : List ℕ) (s : Section) (counts₀ counts list : List ℕ) (at left : ℕ) : Type 0 where
+-- The list is as it was at first.
+record Left (book starts : List ℕ) (s : Section) (counts₀ counts list₀ list : List ℕ) (at left : ℕ) : Type 0 where
   within : at + span left (drop at book) ≤ length book
   taught : (e : Entry) → e ∈ entries left (drop at book) → e ∈ bookIn book .T
   known : allKnown s (bookIn book .k) (bookIn book .T) (listed starts book) ≡ allKnown s (bookIn book .k) (entries left (drop at book)) (listed starts book)
   counted : talliedAll s (bookIn book .k) (bookIn book .T) (listed starts book) counts₀ ≡ talliedAll s (bookIn book .k) (entries left (drop at book)) (listed starts book) counts
   long : length counts ≡ length starts
-  zeros : list ≡ replicate (length list) 0
-  room : length list ≡ list-words
+  cleared : list ≡ list₀
 
 -- At first all entries of T are left.
-left-first : (book starts : List ℕ) (p : Places) (s : Section) (counts list : List ℕ) → Holds book p → length counts ≡ length starts → list ≡ replicate (length list) 0
-    → length list ≡ list-words → Left book starts s counts counts list head-words (getD book taught-word 0)
+left-first : (book starts : List ℕ) (p : Places) (s : Section) (counts list : List ℕ) → Holds book p → length counts ≡ length starts
+    → Left book starts s counts counts list list head-words (getD book taught-word 0)
 unfolding bookIn
-left-first book starts p s counts list h long zeros room =
-    record { within = h .section Taught .within; taught = λ e m. m; known = refl; counted = refl; long = long; zeros = zeros; room = room }
+left-first book starts p s counts list h long =
+    record { within = h .section Taught .within; taught = λ e m. m; known = refl; counted = refl; long = long; cleared = refl }
 
-module _ (book starts : List ℕ) (s : Section) (counts₀ counts list : List ℕ) (at left : ℕ) (i : Left book starts s counts₀ counts list at left) where
+module _ (book starts : List ℕ) (s : Section) (counts₀ counts list₀ list : List ℕ) (at left : ℕ) (i : Left book starts s counts₀ counts list₀ list at left) where
   -- With none left all that the orders count has an entry.
   last-known : left ≤ 0 → true ≡ allKnown s (bookIn book .k) (bookIn book .T) (listed starts book)
   unfolding allKnown entries
@@ -67,8 +67,8 @@ module _ (book starts : List ℕ) (s : Section) (counts₀ counts list : List �
   last-counted none = let z : left ≡ 0 = omega arith in sym (i .counted ∙ ap (λ (n : ℕ). talliedAll s (bookIn book .k) (entries n (drop at book)) (listed starts book) counts) z)
 
 -- The entry at `at` is the first of those left, and ends at `end`; k is the book's.
-module _ (book starts : List ℕ) (s : Section) (k : ℕ) (deep : k ≡ bookIn book .k) (counts₀ counts list : List ℕ) (at left end : ℕ) (more : 0 < left)
-    (ends : end ≡ at + 2 + 2 * getD book at 0) (i : Left book starts s counts₀ counts list at left) where
+module _ (book starts : List ℕ) (s : Section) (k : ℕ) (deep : k ≡ bookIn book .k) (counts₀ counts list₀ list : List ℕ) (at left end : ℕ) (more : 0 < left)
+    (ends : end ≡ at + 2 + 2 * getD book at 0) (i : Left book starts s counts₀ counts list₀ list at left) where
   -- The others start at its end.
   first-apart : entries left (drop at book) ≡ firstEntry (drop at book) ∷ entries (left - 1) (drop end book)
   first-apart = entries-step (drop at book) left more ∙ ap (λ (ws : List ℕ). firstEntry (drop at book) ∷ entries (left - 1) ws) (past-at book at left end more ends)
@@ -104,24 +104,23 @@ module _ (book starts : List ℕ) (s : Section) (k : ℕ) (deep : k ≡ bookIn b
   -- Once it is tallied those behind it are left.
   left-next : (counts′ list′ : List ℕ) → hasAll (partsIn s k (firstEntry (drop at book) .key)) (listed starts book) ≡ true
       → counts′ ≡ tallied (firstEntry (drop at book) .count) (partsIn s k (firstEntry (drop at book) .key)) (listed starts book) counts
-      → length counts′ ≡ length counts → list′ ≡ list → Left book starts s counts₀ counts′ list′ end (left - 1)
+      → length counts′ ≡ length counts → list′ ≡ list → Left book starts s counts₀ counts′ list₀ list′ end (left - 1)
   unfolding _and_
-  left-next counts′ list′ all now same cleared =
+  left-next counts′ list′ all now same again =
       record {
         within = omega (arith, i .within, span-at book at left end more ends);
         taught = λ e m. i .taught e (subst (λ (es : List Entry). e ∈ es) (sym first-apart) (there m));
         known = first-known ∙ ap (λ (b : Bool). b and allKnown s (bookIn book .k) (entries (left - 1) (drop end book)) (listed starts book)) all;
         counted = first-counted ∙ ap (talliedAll s (bookIn book .k) (entries (left - 1) (drop end book)) (listed starts book)) (sym now);
         long = same ∙ i .long;
-        zeros = subst (λ (l : List ℕ). l ≡ replicate (length l) 0) (sym cleared) (i .zeros);
-        room = ap length cleared ∙ i .room;
+        cleared = again ∙ i .cleared;
       }
 
 -- ---- the loop
 
 -- At each turn this is left.
 abbrev Inv-loop : tie.InvT-loop
-Inv-loop book places section starts counts₀ list₀ at₀ left₀ counts list at left = Left book starts section counts₀ counts list at left
+Inv-loop book places section starts counts₀ list₀ at₀ left₀ counts list at left = Left book starts section counts₀ counts list₀ list at left
 
 -- Each turn leaves one entry fewer.
 abbrev μ-loop : tie.MeasureT-loop
@@ -129,7 +128,7 @@ abbrev μ-loop : tie.MeasureT-loop
 
 -- What the function was called with, seen from the loop.
 abbrev called : tie.At-loop Inv-loop μ-loop → tie.Start Inv-loop μ-loop
-called l = l .before .before .before .before .before
+called l = l .before .before .before .before .before .before
 
 -- The words of the book, seen from the loop.
 abbrev book : tie.At-loop Inv-loop μ-loop → List ℕ
@@ -141,7 +140,7 @@ turn-few : (c : tie.In-loop Inv-loop μ-loop) → let l = c .before in let x = c
 turn-few c =
     let l = c .before in
     let b = called l in
-    first-few _ _ _ _ (b .pre .0 .depth) _ _ _ _ _ _ (c .loop-test .taken) refl (l .loop .inv) (b .pre .1 .1 .1)
+    first-few _ _ _ _ (b .pre .0 .depth) _ _ _ _ _ _ _ (c .loop-test .taken) refl (l .loop .inv) (b .pre .1 .1 .0 .1)
 
 -- The turn's entry is that of an order.
 turn-order : (c : tie.In-loop Inv-loop μ-loop) → causeOf (firstEntry (drop (c .before .loop .at) (book (c .before))) .key) ≡ done
@@ -149,7 +148,7 @@ turn-order c =
     let l = c .before in
     let b = called l in
     taught-cause (bookIn (book l)) (b .pre .0 .form) _
-    (first-taught _ _ _ _ (b .pre .0 .depth) _ _ _ _ _ _ (c .loop-test .taken) refl (l .loop .inv))
+    (first-taught _ _ _ _ (b .pre .0 .depth) _ _ _ _ _ _ _ (c .loop-test .taken) refl (l .loop .inv))
 
 -- The turn's entry lies within the book, by its width.
 turn-within : (c : tie.In-loop Inv-loop μ-loop) → c .before .loop .at + width (drop (c .before .loop .at) (book (c .before))) ≤ length (book (c .before))
@@ -159,42 +158,48 @@ turn-within c = let l = c .before in omega (arith, l .loop .inv .within, span-st
 turn-ends : (c : tie.In-loop Inv-loop μ-loop) → c .before .loop .at + 2 + 2 * getD (book (c .before)) (c .before .loop .at) 0 ≤ length (book (c .before))
 turn-ends c = let l = c .before in omega (arith, l .loop .inv .within, span-at (book l) (l .loop .at) (l .loop .left) _ (c .loop-test .taken) refl)
 
+-- The list is zeros again, with room as at first.
+turn-list : (l : tie.At-loop Inv-loop μ-loop) → (l .loop .list ≡ replicate (length (l .loop .list)) 0) × (length (l .loop .list) ≡ list-words)
+turn-list l = subst (λ (z : List ℕ). (z ≡ replicate (length z) 0) × (length z ≡ list-words)) (sym (l .loop .inv .cleared)) (called l .pre .1 .1 .1)
+
 shared-slice-read-left : tie.Need-shared-slice-read-left Inv-loop μ-loop
-shared-slice-read-left c = omega (arith, c .before .before .before .before .pre .0 .long)
+shared-slice-read-left c = omega (arith, c .before .before .before .before .before .pre .0 .long)
 
 loop-holds : tie.Need-loop-holds Inv-loop μ-loop
 loop-holds c =
-    let b = c .before .before .before .before in
-    left-first (b .args .book .now) (b .args .starts .now) _ (b .args .section) (b .args .counts .now) _ (b .pre .0) (b .pre .1 .1 .0) (all-zeros list-words) refl
-
-slice-aggregate-tally-order : tie.Need-slice-aggregate-tally-order Inv-loop μ-loop
-slice-aggregate-tally-order c = sym (c .before .before .before .loop .inv .room)
+    let b = c .before .before .before .before .before in
+    left-first (b .args .book .now) (b .args .starts .now) _ (b .args .section) (b .args .counts .now) _ (b .pre .0) (b .pre .1 .1 .0 .0)
 
 tally-order-requires : tie.Need-tally-order-requires Inv-loop μ-loop
 tally-order-requires c κs =
     let t = c .before .before in
     let b = called (t .before) in
-    let i = t .before .loop .inv in
-    ((turn-within t, turn-order t), (least _ _ (b .pre .0), (b .pre .1 .0, ((i .long, turn-few t), (i .zeros, i .room)))))
+    ((turn-within t, turn-order t), (least _ _ (b .pre .0), (b .pre .1 .0, ((t .before .loop .inv .long, turn-few t), turn-list (t .before)))))
 
 same-length : tie.Need-same-length Inv-loop μ-loop
 same-length c =
-    let l = c .before .before .before .before .before .before .before .before in
-    c .before .before .before .before .tally-order .kept .1 .1 .1 .1 .1 .0 ∙ l .loop .inv .long ∙ sym (called l .pre .1 .1 .0)
+    let a = c .before .before .before .before .before in
+    let l = a .before .before .before .before in
+    a .tally-order .kept .1 .1 .1 .1 .1 .0 ∙ l .loop .inv .long ∙ sym (called l .pre .1 .1 .0 .0)
+
+same-length-2 : tie.Need-same-length-2 Inv-loop μ-loop
+same-length-2 c =
+    let a = c .before .before .before .before .before in
+    a .tally-order .kept .1 .1 .1 .1 .1 .1 .0 ∙ ap length (a .before .before .before .before .loop .inv .cleared)
 
 returns : tie.Need-returns Inv-loop μ-loop
 returns c =
-    let a = c .before .before .before .before in
+    let a = c .before .before .before .before .before in
     let t = a .before .before .before in
     let l = t .before in
     let b = called l in (
-      first-unknown _ _ _ _ (b .pre .0 .depth) _ _ _ _ _ _ (t .loop-test .taken) refl (l .loop .inv)
+      first-unknown _ _ _ _ (b .pre .0 .depth) _ _ _ _ _ _ _ (t .loop-test .taken) refl (l .loop .inv)
           (sym (a .tally-order .ensures .0) ∙ not-true _ (c .if1 .taken)),
-      λ e. no-test e,
+      ((λ e. no-test e), a .tally-order .ensures .1 .1 ∙ l .loop .inv .cleared),
     )
 
 past-requires : tie.Need-past-requires Inv-loop μ-loop
-past-requires c κs = turn-ends (c .before .before .before .before .before .before .before)
+past-requires c κs = turn-ends (c .before .before .before .before .before .before .before .before)
 
 sub-left : tie.Need-sub-left Inv-loop μ-loop
 sub-left c = search needs
@@ -204,21 +209,24 @@ loop-less c = search needs
 
 loop-again : tie.Need-loop-again Inv-loop μ-loop
 loop-again c =
-    let a = c .before .before .before .before .before in
+    let a = c .before .before .before .before .before .before in
     let t = a .before .before .before in
     let l = t .before in
     let b = called l in
     let known = not-false _ (c .before .if1 .left) in
-    left-next _ _ _ _ (b .pre .0 .depth) _ _ _ _ _ _ (t .loop-test .taken) (c .past .ensures) (l .loop .inv)
+    left-next _ _ _ _ (b .pre .0 .depth) _ _ _ _ _ _ _ (t .loop-test .taken) (c .past .ensures) (l .loop .inv)
     _ _ (sym (a .tally-order .ensures .0) ∙ known) (a .tally-order .ensures .1 .0 known) (a .tally-order .kept .1 .1 .1 .1 .1 .0) (a .tally-order .ensures .1 .1)
 
-same-length-2 : tie.Need-same-length-2 Inv-loop μ-loop
-same-length-2 c = c .before .loop .inv .long ∙ sym (called (c .before) .pre .1 .1 .0)
+same-length-3 : tie.Need-same-length-3 Inv-loop μ-loop
+same-length-3 c = c .before .loop .inv .long ∙ sym (called (c .before) .pre .1 .1 .0 .0)
+
+same-length-4 : tie.Need-same-length-4 Inv-loop μ-loop
+same-length-4 c = ap length (c .before .loop .inv .cleared)
 
 returns-2 : tie.Need-returns-2 Inv-loop μ-loop
 returns-2 c =
     let l = c .before in
-    (last-known _ _ _ _ _ _ _ _ (l .loop .inv) (c .loop-test .left), λ e. last-counted _ _ _ _ _ _ _ _ (l .loop .inv) (c .loop-test .left))
+    (last-known _ _ _ _ _ _ _ _ _ (l .loop .inv) (c .loop-test .left), ((λ e. last-counted _ _ _ _ _ _ _ _ _ (l .loop .inv) (c .loop-test .left)), l .loop .inv .cleared))
 
 pub tally-taught-spec : {M : Type 1} → statement M
 tally-taught-spec =
@@ -228,13 +236,14 @@ tally-taught-spec =
     μ-loop
     shared-slice-read-left
     loop-holds
-    slice-aggregate-tally-order
     tally-order-requires
     same-length
+    same-length-2
     returns
     past-requires
     sub-left
     loop-less
     loop-again
-    same-length-2
+    same-length-3
+    same-length-4
     returns-2)
