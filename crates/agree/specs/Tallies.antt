@@ -11,7 +11,7 @@ use Rattle.book.specs.Taught.{bookOf, teachingsIn, sameSection}
 use Rattle.book.specs.declared.Section.{Section}
 use Rattle.own.specs.Own.{ownOf}
 
--- No section has more entries: the shortest, that of a single node, takes four words.
+-- No section has more entries: the shortest entry, that of a single node, takes four words.
 abbrev pub most-entries : ℕ
 most-entries = (most-book-words - head-words) / 4
 

@@ -24,7 +24,7 @@ use figures::limits;
 use figures::numbers;
 use section::past;
 
-// No section has more entries: the shortest, that of a single node, takes four words.
+// No section has more entries: the shortest entry, that of a single node, takes four words.
 const MOST_ENTRIES: usize = (limits::MOST_BOOK_WORDS - limits::HEAD_WORDS) / 4;
 
 // Tallies what the taught order at word `at` counts in a section, for the section's listed entries, by way of a scratch of zeros. Answers

@@ -6,10 +6,10 @@
 -- and say just the equations that stand here (`teach-says` and the like). What is lent by `&` comes back as it was, by the same theorem: so
 -- `order::check`, `cuts::subtree`, `book::in_form`, `judge::judge` and `agree::check`, which are lent nothing to write, change nothing. Of what the others
 -- leave this file speaks. Assumes nothing.
-use Prim.Native.Nat.{ℕ}
+use Prim.Native.Nat.{ℕ, _<_}
 use mathlib.Core.Path.{_≡_, sym, ap, _∙_}
 use mathlib.Core.List.{List}
-use Rattle.figures.specs.Numbers.{done}
+use Rattle.figures.specs.Numbers.{done, too-large, no-form, top-unknown}
 use Rattle.figures.specs.Answers.{depthOf}
 use Rattle.figures.specs.declared.depths.Asked.{Asked}
 use Rattle.figures.specs.declared.Answer.{Answer}
@@ -29,12 +29,13 @@ use Rattle.judge.proofs.Answers.{judged-is, judged-only}
 use Rattle.teach.specs.Calls.{teachOf, withdrawOf}
 use Rattle.effects.specs.Whys.{WhyTaught, WhyWithdrawn}
 use Rattle.effects.proofs.Whys.{teach-why, teach-only, withdraw-why, withdraw-only}
-use Rattle.effects.proofs.Conditions.{teach-refusal-leaves, withdraw-refusal-leaves}
+use Rattle.effects.proofs.Conditions.{teach-refusal-leaves, withdraw-refusal-leaves, teach-line, withdraw-line}
 use Rattle.agree.specs.Checking.{checkOf as agreesOf}
-use Rattle.promises.specs.Whys.{WhyNumbered, WhySubtree, WhyCut, WhyPart, WhyOpened, WhyChecked, WhyPrinted, WhyRead}
-use Rattle.promises.proofs.Whys.{opened-why, opened-only, printed-why, printed-only, read-why, read-only}
+use Rattle.promises.specs.Whys.{WhyNumbered, WhySubtree, WhyCut, WhyPart, WhyDepth, WhyOpened, WhyChecked, WhyPrinted, WhyRead}
+use Rattle.promises.proofs.Whys.{depth-why, depth-only, opened-why, opened-only, printed-why, printed-only, read-why, read-only}
 use Rattle.promises.proofs.PartWhys.{numbered-why, numbered-only, subtree-why, subtree-only, cut-why, cut-only, part-why, part-only}
 use Rattle.promises.proofs.Checks.{checked-why, checked-only}
+use Rattle.promises.proofs.LineNumbers.{check-line, cut-line, part-line, open-line, agrees-line, judge-line, print-line, read-line}
 use Rattle.promises.proofs.Refusals.{read-refusal-leaves, print-refusal-leaves, cut-refusal-leaves, part-refusal-leaves, open-refusal-leaves}
 
 -- ---- "the refusal number listed for it"
@@ -66,6 +67,10 @@ module _ (ws os text out : List ℕ) (k line d : ℕ) where
   pub form-rows : Exactly (WhyForm ws) (bookFormOf ws)
   form-rows = (why-is ws, why-only ws)
 
+  -- "3: k outside 2 to 6"
+  pub depth-rows : Exactly (WhyDepth k) (depthOf k)
+  depth-rows = (depth-why k, depth-only k)
+
   -- "Open: 4, 3."
   pub open-rows : Exactly (WhyOpened ws k) (openOf ws k)
   open-rows = (opened-why ws k, opened-only ws k)
@@ -93,6 +98,50 @@ module _ (ws os text out : List ℕ) (k line d : ℕ) where
   -- "Text: the first line at fault", "11 last. No bytes is line 1."
   pub read-rows : Exactly (WhyRead text out) (readOf text out)
   read-rows = (read-why text out, read-only text out)
+
+-- ---- the line
+
+-- "for every other answer, 0 and 11 included, it is 0": only a verdict of 20, 21 or 22, and 2 or 10 for a text, have another line.
+module _ (ws os text out : List ℕ) (k line d : ℕ) where
+  -- `order::check`
+  pub order-no-line : checkOf os .line ≡ 0
+  order-no-line = check-line os
+
+  -- `cuts::cut_into`
+  pub cut-no-line : cutIntoOf os line d out .answer .line ≡ 0
+  cut-no-line = cut-line os out line d
+
+  -- `parts::part_into`
+  pub part-no-line : partIntoOf os line k out .answer .written .line ≡ 0
+  part-no-line = part-line os out line k
+
+  -- `book::open`
+  pub open-no-line : openOf ws k .answer .line ≡ 0
+  open-no-line = open-line ws k
+
+  -- `teach::teach`
+  pub teach-no-line : teachOf ws os .answer .line ≡ 0
+  teach-no-line = teach-line ws os
+
+  -- `teach::withdraw`
+  pub withdraw-no-line : withdrawOf ws os .answer .line ≡ 0
+  withdraw-no-line = withdraw-line ws os
+
+  -- `agree::check`
+  pub check-no-line : agreesOf ws .line ≡ 0
+  check-no-line = agrees-line ws
+
+  -- `print::write`
+  pub write-no-line : writeOf os out .answer .line ≡ 0
+  write-no-line = print-line os out
+
+  -- `form::read`, where it answers neither 2 nor 10
+  pub read-no-line : (readOf text out .answer .number ≡ too-large → ⊥) → (readOf text out .answer .number ≡ no-form → ⊥) → readOf text out .answer .line ≡ 0
+  read-no-line = read-line text out
+
+  -- `judge::judge`, where it gives no verdict but 0
+  pub judge-no-line : judgeOf ws os .number < top-unknown → judgeOf ws os .line ≡ 0
+  judge-no-line = judge-line ws os
 
 -- ---- one outcome for each input
 

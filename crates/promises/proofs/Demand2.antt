@@ -6,7 +6,7 @@
 use Prim.Native.Nat.{ℕ, suc, _+_, _*_, _/_, _%_, _≤_, _<_}
 use mathlib.Core.Path.{_≡_, refl, sym, ap, subst, _∙_}
 use mathlib.Core.Bool.{false}
-use mathlib.Core.List.{List, [], _∷_, _++_, map, Memᴰ·map, Memᴰ·of-map}
+use mathlib.Core.List.{List, [], _∷_, _++_, append-assoc, map, Memᴰ·map, Memᴰ·of-map, List·Memᴰ·head as here, List·Memᴰ·tail as there}
 use native.Mathlib.Omega.{arith}
 use lib.ListN.{length, take}
 use Rattle.words.specs.Base.{over, _∈_}
@@ -19,7 +19,7 @@ use Rattle.order.specs.Fits.{IsOrder}
 use Rattle.order.specs.Answers.{writing, write}
 use Rattle.order.proofs.Cutting.{subtree-good}
 use Rattle.order.proofs.Fitting.{order-read}
-use Rattle.form.specs.Text.{Line, digit-0, space, line-feed, code-size, linesOf, levelText, codeText, textOf}
+use Rattle.form.specs.Text.{Line, digit-0, space, line-feed, code-size, linesOf, levelText, codeText, lineText, spell, textOf}
 use Rattle.form.specs.Reading.{isDigit, speltOf, form, readLines, readOf}
 use Rattle.form.specs.Faults.{greatest-level}
 use Rattle.form.specs.Writing.{writeOf}
@@ -38,9 +38,13 @@ use Rattle.promises.proofs.Refusals.{write-writes}
 
 -- "An order passes exactly when its top, its low parts and its middle parts are all in the book": `judge` answers 0 exactly if the words are a book
 -- in form and an order within limits, its r of index k-1 is in R, each of its l of index k-1 is in L and each of its p of index k is in P. For all
--- words; so no answer but 0 is given to an order that passes, and 0 to no other.
-pub passes-exactly : (ws os : List ℕ) → (judgeOf ws os ≡ answered done) exactly-when PassesBy ws os
-passes-exactly ws os = (λ e. answered-passes ws os (ap (λ (a : Answer). a .number) e), passes-answered ws os)
+-- words; so no number but 0 is given to an order that passes, and 0 to no other.
+pub passes-exactly : (ws os : List ℕ) → (judgeOf ws os .number ≡ done) exactly-when PassesBy ws os
+passes-exactly ws os = (answered-passes ws os, λ p. ap (λ (a : Answer). a .number) (passes-answered ws os p))
+
+-- An order that passes is answered with line 0.
+pub passing-line : (ws os : List ℕ) → judgeOf ws os .number ≡ done → judgeOf ws os ≡ answered done
+passing-line ws os e = passes-answered ws os (answered-passes ws os e)
 
 -- ---- "Codes are decimal."
 
@@ -72,15 +76,31 @@ top-code : (s : Tree) → Good s → topCode s ≤ greatest-code
 unfolding topCode Good
 top-code (node c f) g = g .0 .1
 
--- Such they are on every line that is written, and, since a text is read exactly if it is the text of an order (`read-rows`), on every line that
--- is read: the text of an order is the text of its lines (`textOf`), line i having the code of the top of the subtree of line i
--- (`lines-subtrees`, form/proofs/TreeLines.antt).
-pub every-line-in-tens : (os : List ℕ) (t : Tree) → IsOrder os t → (x : Line) → x ∈ linesOf t 0 → InTens (x .code) (codeText (x .code))
+-- A line stands in a text: behind some bytes its level, and behind that its code.
+pub record Stands (text : List ℕ) (x : Line) : Type 0 where
+  pub front : List ℕ
+  pub rest : List ℕ
+  pub is : text ≡ front ++ (levelText (x .level) ++ (codeText (x .code) ++ rest))
+
+-- Each of some lines stands in their text.
+spelt-stands : (xs : List Line) (x : Line) → x ∈ xs → Stands (spell xs) x
+unfolding spell lineText
+spelt-stands (y ∷ ys) x (here e) = record { front = []; rest = spell ys; is = rw e (append-assoc (levelText (y .level)) (codeText (y .code)) (spell ys)) }
+spelt-stands (y ∷ ys) x (there m) =
+    let s = spelt-stands ys x m in
+    let later : List ℕ = levelText (x .level) ++ (codeText (x .code) ++ s .rest) in
+    record { front = lineText y ++ s .front; rest = s .rest; is = ap (λ (r : List ℕ). lineText y ++ r) (s .is) ∙ sym (append-assoc (lineText y) (s .front) later) }
+
+-- Such they are on every line of the text that is written of an order, and, since a text is read exactly if it is the text of an order
+-- (`read-rows`), on every line that is read: each line stands in the order's text, and its code is in tens there. The text is that of its lines
+-- (`textOf`), line i having the code of the top of the subtree of line i (`lines-subtrees`, form/proofs/TreeLines.antt).
+pub every-line-in-tens : (os : List ℕ) (t : Tree) → IsOrder os t → (x : Line) → x ∈ linesOf t 0 → Stands (textOf t) x × InTens (x .code) (codeText (x .code))
+unfolding textOf
 every-line-in-tens os t o x m =
     let n : x .code ∈ map topCode (subtrees t) = subst (λ (cs : List ℕ). x .code ∈ cs) (lines-subtrees t 0) (Memᴰ·map (λ (y : Line). y .code) m) in
     let q = Memᴰ·of-map topCode (subtrees t) n in
     let most : x .code ≤ greatest-code = subst (λ (c : ℕ). c ≤ greatest-code) (q .2) (top-code (q .0) (subtree-good t (q .1) (o .good))) in
-    written-in-tens (x .code) most
+    (spelt-stands (linesOf t 0) x m, written-in-tens (x .code) most)
 
 -- On a line of any level four digits are read as the number that they are in tens.
 pub read-in-tens : (l a b c d : ℕ) (rest : List ℕ) → l ≤ greatest-level → a < 10 → b < 10 → c < 10 → d < 10

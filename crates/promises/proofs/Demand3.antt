@@ -20,7 +20,7 @@ use Rattle.teach.specs.Calls.{teachOf, withdrawOf}
 use Rattle.effects.specs.Conditions.{_exactly-when_}
 use Rattle.agree.specs.Checking.{checkOf}
 use Rattle.promises.specs.Remaining.{Call, after, remaining, timesOf, SameOrders, taughtAll, NoneRefused, booked, ExactlyThese, MadeOf}
-use Rattle.promises.proofs.Remaining.{opens, holds-exactly, taught-alone}
+use Rattle.promises.proofs.Remaining.{opens, kept-long, after-kept, holds-exactly, taught-alone}
 use Rattle.promises.proofs.Passing.{passes-made}
 use Rattle.promises.proofs.Conditions.{teaching-7, teaching-6, teaching-0, withdrawing-8, withdrawing-0}
 use Rattle.promises.proofs.Checks.{grown-agrees}
@@ -46,6 +46,10 @@ module _ (slice : List ℕ) (k : ℕ) (long : head-words ≤ length slice) (shor
     pub parts-and-counts : ExactlyThese k orders book
     parts-and-counts = holds-exactly slice k long short least greatest cs
 
+    -- The slice keeps its length, so that `exactly-one` (proofs/Uniqueness.antt) leaves no word open.
+    pub same-length : length book ≡ length slice
+    same-length = kept-long slice k long short least greatest orders book (after-kept slice k long short least greatest cs)
+
     -- "In every word it is the book you get by teaching just the remaining orders, each as often as it remains, in whichever order, and none of those
     -- teachings is refused": in any slice of the same length, whatever stood in it before it was opened.
     pub in-every-word : (other : List ℕ) → length other ≡ length slice → (qs : List (List ℕ)) → SameOrders qs orders
@@ -58,7 +62,7 @@ module _ (slice : List ℕ) (k : ℕ) (long : head-words ≤ length slice) (shor
 
     -- Demands 2 and 3 together: "A new order made only of parts the book has seen passes" and no other does. `judge::judge` answers 0 exactly if the
     -- order's r is the r of an order that remains, each of its l an l of one, and each of its p a p of one.
-    pub passes-by-remaining : (os : List ℕ) (t : Tree) → IsOrder os t → (judgeOf book os ≡ answered done) exactly-when MadeOf k orders t
+    pub passes-by-remaining : (os : List ℕ) (t : Tree) → IsOrder os t → (judgeOf book os .number ≡ done) exactly-when MadeOf k orders t
     passes-by-remaining os t = passes-made k orders book os t parts-and-counts
 
     -- Not all of this could be met by refusing everything: an order within limits is refused by 7 exactly if 65,535 orders remain,

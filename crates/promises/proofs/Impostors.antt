@@ -1,19 +1,22 @@
--- "Five impostors are tried against the promises." Each is shut out here: no teaching and no judging that answers by demand 1's rows, for any
--- words, is that impostor; nor is a judging that meets demand 2, or calls that meet demand 3's parts and counts. Assumes nothing.
-use Prim.Native.Nat.{ℕ, _≤_}
-use mathlib.Core.Path.{_≡_, refl, sym, ap, subst, _∙_}
+-- "Five impostors are tried against the promises." Each is shut out here by what the promises say, for any words:
+-- refusing everything by `Accepts`, the exact conditions of 6 and 7, and of judging by `Judging`, demand 2;
+-- passing everything, or one verdict for all, by `Judging`;
+-- teaching that writes nothing, learning the first order and nodding at the rest, and word 2 or a count invented, by `Keeps`, demand 3;
+-- and all of them by demand 1's rows, `Teaches` and `Judges`. Assumes nothing.
+use Prim.Native.Nat.{ℕ, _≤_, _<_}
+use mathlib.Core.Path.{_≡_, refl, sym, ap, ap₂, subst, _∙_}
 use mathlib.Core.List.{List, [], _∷_, _++_}
 use native.Mathlib.Omega.{arith}
 use lib.ListN.{length, getD}
 use Rattle.words.specs.Base.{if_then_else_}
-use Rattle.figures.specs.Limits.{head-words, most-book-words, least-k, greatest-k, live-word}
+use Rattle.figures.specs.Limits.{head-words, most-book-words, least-k, greatest-k, greatest-count, live-word}
 use Rattle.figures.specs.Numbers.{done, top-unknown}
 use Rattle.figures.specs.Answers.{answered}
 use Rattle.figures.specs.declared.Answer.{Answer}
 use Rattle.order.specs.Trees.{Tree, words}
 use Rattle.order.specs.Fits.{IsOrder}
 use Rattle.order.proofs.Fitting.{read-order}
-use Rattle.book.specs.Book.{Book, live}
+use Rattle.book.specs.Book.{Book, used, live, lay}
 use Rattle.book.specs.Sound.{IsBook}
 use Rattle.book.specs.Decoding.{bookIn}
 use Rattle.book.specs.Opening.{Outcome, outcome, openOf}
@@ -26,10 +29,11 @@ use Rattle.effects.specs.Conditions.{_exactly-when_}
 use Rattle.effects.specs.Whys.{WhyTaught}
 use Rattle.effects.proofs.Whys.{teach-only}
 use Rattle.promises.specs.Heard.{single, pair}
-use Rattle.promises.specs.Remaining.{Call, teach, outcomeOf, afterBy, remainBy, remainingBy, ExactlyThese}
+use Rattle.promises.specs.Remaining.{Call, teach, outcomeOf, afterBy, remainBy, remainingBy, booked, ExactlyThese}
 use Rattle.promises.proofs.Computed.{computes}
 use Rattle.promises.proofs.Demand2.{passes-exactly}
-use Rattle.promises.proofs.Demand3.{parts-and-counts}
+use Rattle.promises.proofs.Demand3.{parts-and-counts, same-length, taught-exactly}
+use Rattle.promises.proofs.Uniqueness.{booked-is}
 use Rattle.promises.proofs.Wordings.{after-last, remaining-last}
 
 -- ---- what meets the promises
@@ -154,22 +158,27 @@ module _ (g : List ℕ → List ℕ → Answer) (meets : Judges g) where
   judges-first = no-verdict-invented g meets one-taught (words single) ∙ passing-row
 
   -- "Refusing everything", of judging: some order passes by some book.
-  pub judges-none : ((ws os : List ℕ) → g ws os ≡ answered done → ⊥) → ⊥
-  judges-none none = none one-taught (words single) judges-first
+  pub judges-none : ((ws os : List ℕ) → g ws os .number ≡ done → ⊥) → ⊥
+  judges-none none = none one-taught (words single) (ap (λ (a : Answer). a .number) judges-first)
 
-  -- "Passing everything, or one verdict for all: demand 2." No one answer is given to all orders within limits by all books in form.
-  pub one-verdict : (a : Answer) → ((ws os : List ℕ) (b : Book) (t : Tree) → IsBook ws b → IsOrder os t → g ws os ≡ a) → ⊥
-  one-verdict a all =
-      let unknown = sym (no-verdict-invented g meets blank (words single) ∙ unknown-row) ∙ all blank (words single) (bookIn blank) single blank-book single-order in
-      let passes = sym judges-first ∙ all one-taught (words single) (bookIn one-taught) single taught-book single-order in
-      let same : top-unknown ≡ done = ap (λ (c : Answer). c .number) (unknown ∙ sym passes) in
-      omega arith
+  -- "Passing everything, or one verdict for all: demand 2." No one number is given to all orders within limits by all books in form.
+  pub one-verdict : (n : ℕ) → ((ws os : List ℕ) (b : Book) (t : Tree) → IsBook ws b → IsOrder os t → g ws os .number ≡ n) → ⊥
+  one-verdict n all =
+      let unknown : g blank (words single) .number ≡ top-unknown = ap (λ (a : Answer). a .number) (no-verdict-invented g meets blank (words single) ∙ unknown-row) in
+      let passes : g one-taught (words single) .number ≡ done = ap (λ (a : Answer). a .number) judges-first in
+      omega (
+        arith,
+        unknown,
+        passes,
+        all blank (words single) (bookIn blank) single blank-book single-order,
+        all one-taught (words single) (bookIn one-taught) single taught-book single-order,
+      )
 
 -- ---- by demand 2
 
--- A judging that passes an order exactly when demand 2 says so. It may answer anything else by any other answer.
+-- A judging that passes an order exactly when demand 2 says so. It may answer anything else by any other number, and give any line.
 abbrev pub Judging : (List ℕ → List ℕ → Answer) → Type 0
-Judging g = (ws os : List ℕ) → (g ws os ≡ answered done) exactly-when PassesBy ws os
+Judging g = (ws os : List ℕ) → (g ws os .number ≡ done) exactly-when PassesBy ws os
 
 -- The judging here is such.
 pub judging-here : Judging judgeOf
@@ -178,37 +187,42 @@ judging-here = passes-exactly
 -- The node does not pass by the book of no orders.
 blank-unpassed : PassesBy blank (words single) → ⊥
 blank-unpassed p =
-    let same : top-unknown ≡ done = ap (λ (a : Answer). a .number) (sym unknown-row ∙ passes-exactly blank (words single) .1 p) in
+    let same : top-unknown ≡ done = ap (λ (a : Answer). a .number) (sym unknown-row) ∙ passes-exactly blank (words single) .1 p in
     omega arith
+
+-- It passes by its own book.
+taught-passed : PassesBy one-taught (words single)
+taught-passed = passes-exactly one-taught (words single) .0 (ap (λ (a : Answer). a .number) passing-row)
 
 module _ (g : List ℕ → List ℕ → Answer) (meets : Judging g) where
   -- "Refusing everything: shut out by demand 2", of judging: some order passes by some book.
-  pub passing-none : ((ws os : List ℕ) → g ws os ≡ answered done → ⊥) → ⊥
-  passing-none none = none one-taught (words single) (meets one-taught (words single) .1 (passes-exactly one-taught (words single) .0 passing-row))
+  pub passing-none : ((ws os : List ℕ) → g ws os .number ≡ done → ⊥) → ⊥
+  passing-none none = none one-taught (words single) (meets one-taught (words single) .1 taught-passed)
 
   -- "Passing everything": not every order within limits passes by every book in form.
-  pub passing-all : ((ws os : List ℕ) (b : Book) (t : Tree) → IsBook ws b → IsOrder os t → g ws os ≡ answered done) → ⊥
+  pub passing-all : ((ws os : List ℕ) (b : Book) (t : Tree) → IsBook ws b → IsOrder os t → g ws os .number ≡ done) → ⊥
   passing-all all = blank-unpassed (meets blank (words single) .0 (all blank (words single) (bookIn blank) single blank-book single-order))
 
-  -- "or one verdict for all: demand 2." No one answer is given to all orders within limits by all books in form.
-  pub answering-alike : (a : Answer) → ((ws os : List ℕ) (b : Book) (t : Tree) → IsBook ws b → IsOrder os t → g ws os ≡ a) → ⊥
-  answering-alike a all =
-      let passed : g one-taught (words single) ≡ answered done = meets one-taught (words single) .1 (passes-exactly one-taught (words single) .0 passing-row) in
-      let is-done : a ≡ answered done = sym (all one-taught (words single) (bookIn one-taught) single taught-book single-order) ∙ passed in
+  -- "or one verdict for all: demand 2." No one number is given to all orders within limits by all books in form.
+  pub answering-alike : (n : ℕ) → ((ws os : List ℕ) (b : Book) (t : Tree) → IsBook ws b → IsOrder os t → g ws os .number ≡ n) → ⊥
+  answering-alike n all =
+      let passed : g one-taught (words single) .number ≡ done = meets one-taught (words single) .1 taught-passed in
+      let is-done : n ≡ done = sym (all one-taught (words single) (bookIn one-taught) single taught-book single-order) ∙ passed in
       passing-all (λ ws os b t i o. all ws os b t i o ∙ is-done)
 
 -- ---- by demand 3's parts and counts
 
 -- What answers calls so that, after any of them on a book opened at an allowed k and size, "its parts and counts are exactly those of the
--- orders that remain". What refuses every call and changes no word meets this too: `taught-exactly` (proofs/Demand3.antt) shuts it out.
+-- orders that remain", and the slice has its length. What refuses every call and changes no word meets this too: `Accepts` shuts it out.
 abbrev pub Keeps : (Call → List ℕ → Outcome) → Type 0
 Keeps answers =
     (slice : List ℕ) (k : ℕ) → head-words ≤ length slice → length slice ≤ most-book-words → least-k ≤ k → k ≤ greatest-k → (cs : List Call)
     → ExactlyThese k (remainingBy answers cs (openOf slice k .words) []) (afterBy answers cs (openOf slice k .words))
+    × (length (afterBy answers cs (openOf slice k .words)) ≡ length slice)
 
 -- The teaching and withdrawing here do.
 pub keeping-here : Keeps outcomeOf
-keeping-here = parts-and-counts
+keeping-here slice k long short least greatest cs = (parts-and-counts slice k long short least greatest cs, same-length slice k long short least greatest cs)
 
 -- No words hold exactly some orders and exactly these with one more: they have one book, and it has one number of live teachings.
 one-more-differs : (k : ℕ) (orders : List (List ℕ)) (os ws : List ℕ) → ExactlyThese k orders ws → ExactlyThese k (os ∷ orders) ws → ⊥
@@ -234,8 +248,8 @@ module _ (answers : Call → List ℕ → Outcome) (keeps : Keeps answers)
       let more : remainingBy answers (cs ++ (teach os ∷ [])) opened [] ≡ os ∷ orders = remaining-last answers (teach os) cs opened [] ∙ done-one-more os _ orders is-done in
       let unchanged : afterBy answers (cs ++ (teach os ∷ [])) opened ≡ ws = after-last answers (teach os) cs opened ∙ same in
       let later : ExactlyThese k (os ∷ orders) (afterBy answers (cs ++ (teach os ∷ [])) opened) =
-      subst (λ (ps : List (List ℕ)). ExactlyThese k ps (afterBy answers (cs ++ (teach os ∷ [])) opened)) more (keeps slice k long short least greatest (cs ++ (teach os ∷ []))) in
-      one-more-differs k orders os ws (keeps slice k long short least greatest cs) (subst (ExactlyThese k (os ∷ orders)) unchanged later)
+      subst (λ (ps : List (List ℕ)). ExactlyThese k ps (afterBy answers (cs ++ (teach os ∷ [])) opened)) more (keeps slice k long short least greatest (cs ++ (teach os ∷ [])) .0) in
+      one-more-differs k orders os ws (keeps slice k long short least greatest cs .0) (subst (ExactlyThese k (os ∷ orders)) unchanged later)
 
   -- "Teaching that writes nothing: demand 3's parts and counts, which are demand 2's definitions over the remaining orders." A teaching of the
   -- opened book that is done changes the words.
@@ -246,4 +260,40 @@ module _ (answers : Call → List ℕ → Outcome) (keeps : Keeps answers)
   -- "Word 2 or a count invented: the definition of counts and demand 3." After any calls word 2 is the number of orders that remain.
   pub live-counted : (cs : List Call) → getD (afterBy answers cs opened) live-word 0 ≡ length (remainingBy answers cs opened [])
   unfolding live
-  live-counted cs = let x = keeps slice k long short least greatest cs in head-says (afterBy answers cs opened) (x .book) (x .isBook) .2 ∙ x .lives
+  live-counted cs = let x = keeps slice k long short least greatest cs .0 in head-says (afterBy answers cs opened) (x .book) (x .isBook) .2 ∙ x .lives
+
+  -- "Word 2 or a count invented: the definition of counts and demand 3." No word is left to invent: after any calls the slice is that of the book
+  -- of the orders that remain.
+  pub counts-kept : (cs : List Call) → afterBy answers cs opened ≡ lay (length slice) (booked k (remainingBy answers cs opened []))
+  counts-kept cs =
+      let x = keeps slice k long short least greatest cs in
+      sym (x .0 .isBook .laid) ∙ ap₂ lay (x .1) (booked-is k (remainingBy answers cs opened []) (afterBy answers cs opened) (x .0))
+
+-- ---- by the exact conditions of 6 and 7
+
+-- What answers calls so that, after any of them on a book opened at an allowed k and size, an order within limits is taught exactly if fewer
+-- than 65,535 orders remain and the book of these with this one more has room.
+abbrev pub Accepts : (Call → List ℕ → Outcome) → Type 0
+Accepts answers =
+    (slice : List ℕ) (k : ℕ) → head-words ≤ length slice → length slice ≤ most-book-words → least-k ≤ k → k ≤ greatest-k
+    → (cs : List Call) (os : List ℕ) (t : Tree) → IsOrder os t
+    → (answers (teach os) (afterBy answers cs (openOf slice k .words)) .answer .number ≡ done) exactly-when
+    ((length (remainingBy answers cs (openOf slice k .words) []) < greatest-count)
+    × (used (booked k (os ∷ remainingBy answers cs (openOf slice k .words) [])) ≤ length slice))
+
+-- The teaching and withdrawing here do.
+pub accepting-here : Accepts outcomeOf
+accepting-here = taught-exactly
+
+-- The book of the node needs 19 words.
+node-needs : used (booked 2 (words single ∷ [])) ≡ 19
+unfolding computes booked
+node-needs = refl
+
+-- "Refusing everything: shut out by demand 2 and the exact conditions of 6 and 7." Some teaching is done: that of the node, in a book just opened
+-- at k = 2 in 31 words.
+pub refusing-calls : (answers : Call → List ℕ → Outcome) → Accepts answers → ((os ws : List ℕ) → answers (teach os) ws .answer .number ≡ done → ⊥) → ⊥
+unfolding afterBy remainingBy
+refusing-calls answers accepts none =
+    let first = accepts blank 2 (omega arith) (omega arith) (omega arith) (omega arith) [] (words single) single single-order in
+    none (words single) (openOf blank 2 .words) (first .1 (omega arith, omega (arith, node-needs)))

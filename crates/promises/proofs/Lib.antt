@@ -8,6 +8,7 @@ pub mod Whys
 pub mod PartWhys
 pub mod Conditions
 pub mod Checks
+pub mod LineNumbers
 pub mod Contracts
 mod Computed
 pub mod Cases

@@ -5,7 +5,6 @@ use mathlib.Core.List.{List, List·Memᴰ·head as here, List·Memᴰ·tail as t
 use native.Mathlib.Omega.{arith}
 use Rattle.words.specs.Base.{_∈_}
 use Rattle.figures.specs.Numbers.{done}
-use Rattle.figures.specs.Answers.{answered}
 use Rattle.figures.specs.declared.Answer.{Answer}
 use Rattle.section.specs.Entries.{Entry, countOf, Sorted}
 use Rattle.section.proofs.Counts.{has-entry, entry-has, has-counts, counts-has}
@@ -104,7 +103,7 @@ module _ (k : ℕ) (orders : List (List ℕ)) (ws : List ℕ) (x : ExactlyThese 
 
 -- Where the words are exactly the book of the orders that remain, judging an order answers 0 exactly if it is "made only of parts the book has
 -- seen".
-pub passes-made : (k : ℕ) (orders : List (List ℕ)) (ws os : List ℕ) (t : Tree) → ExactlyThese k orders ws → IsOrder os t → (judgeOf ws os ≡ answered done) exactly-when MadeOf k orders t
+pub passes-made : (k : ℕ) (orders : List (List ℕ)) (ws os : List ℕ) (t : Tree) → ExactlyThese k orders ws → IsOrder os t → (judgeOf ws os .number ≡ done) exactly-when MadeOf k orders t
 passes-made k orders ws os t x o = (from, to)
   where
     -- What passes by a book and an order passes by this book and this order.
@@ -114,9 +113,11 @@ passes-made k orders ws os t x o = (from, to)
         (subst (Passes (p .lent .book)) (one-tree (p .lent .isOrder) o) (p .passes))
 
     -- What is answered by 0 is made of parts of the orders,
-    from : judgeOf ws os ≡ answered done → MadeOf k orders t
-    from e = passing-made k orders ws x t (passes-this (answered-passes ws os (ap (λ (a : Answer). a .number) e)))
+    from : judgeOf ws os .number ≡ done → MadeOf k orders t
+    from e = passing-made k orders ws x t (passes-this (answered-passes ws os e))
 
     -- and what is made of them is answered by 0.
-    to : MadeOf k orders t → judgeOf ws os ≡ answered done
-    to g = passes-answered ws os (record { lent = record { book = x .book; tree = t; isBook = x .isBook; isOrder = o }; passes = made-passes k orders ws x t g })
+    to : MadeOf k orders t → judgeOf ws os .number ≡ done
+    to g =
+        let p : PassesBy ws os = record { lent = record { book = x .book; tree = t; isBook = x .isBook; isOrder = o }; passes = made-passes k orders ws x t g } in
+        ap (λ (a : Answer). a .number) (passes-answered ws os p)

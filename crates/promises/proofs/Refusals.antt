@@ -1,13 +1,13 @@
 -- For all inputs: a refusal "leaves all lent words and bytes as they came" and counts 0, and what a call writes stands at the front of the
 -- output, with the words behind it as they came. Assumes nothing.
-use Prim.Native.Nat.{ℕ, _+_, _-_, _≤_, _<_}
+use Prim.Native.Nat.{ℕ, _≤_, _<_}
 use mathlib.Core.Path.{_≡_, refl, sym, ap, _∙_}
 use mathlib.Core.Bool.{Bool, true, false}
 use mathlib.Core.List.{List, []}
 use native.Mathlib.Decide.{decLt}
 use native.Mathlib.Omega.{arith}
-use lib.ListN.{length, drop, getD}
-use lib.Seq.{getD-append-add, getD-drop}
+use lib.ListN.{length, drop, length-append, length-drop}
+use lib.Seq.{drop-append-seam}
 use Rattle.words.specs.Base.{if_then_else_, within, over}
 use Rattle.figures.specs.Limits.{least-k, greatest-k}
 use Rattle.figures.specs.Numbers.{done, k-outside, book-size, short-output}
@@ -52,22 +52,16 @@ module _ (new out : List ℕ) where
       go e (yes h) = h
       go e (no h) = absurd (omega (arith, ap (λ (w : Writing). w .answer .number) (write-writes (omega arith))))
 
-  -- A word behind those written over the front is the one that stood there.
-  over-stays : (i : ℕ) → length new ≤ i → getD (over new out) i 0 ≡ getD out i 0
-  over-stays i h =
-      let e : length new + (i - length new) ≡ i = omega arith in
-      ap (λ (j : ℕ). getD (over new out) j 0) (sym e)
-      ∙ getD-append-add new (drop (length new) out) (i - length new) 0
-      ∙ getD-drop (length new) out (i - length new) 0
-      ∙ ap (λ (j : ℕ). getD out j 0) e
-
   -- "later output words stay"
-  pub later-words-stay : (i : ℕ) → length new ≤ i → getD (write new out .out) i 0 ≡ getD out i 0
-  later-words-stay i l = go (decLt (length out) (length new))
+  pub later-words-stay : (drop (length new) (write new out .out) ≡ drop (length new) out) × (length (write new out .out) ≡ length out)
+  later-words-stay = go (decLt (length out) (length new))
     where
-      go : Dec (length out < length new) → getD (write new out .out) i 0 ≡ getD out i 0
-      go (yes h) = ap (λ (w : Writing). getD (w .out) i 0) (write-refuses h)
-      go (no h) = ap (λ (w : Writing). getD (w .out) i 0) (write-writes (omega arith)) ∙ over-stays i l
+      go : Dec (length out < length new) → (drop (length new) (write new out .out) ≡ drop (length new) out) × (length (write new out .out) ≡ length out)
+      go (yes h) = (ap (λ (w : Writing). drop (length new) (w .out)) (write-refuses h), ap (λ (w : Writing). length (w .out)) (write-refuses h))
+      go (no h) =
+          let l : length new ≤ length out = omega arith in
+          let all : length (over new out) ≡ length out = omega (arith, length-append new (drop (length new) out), length-drop (length new) out) in
+          (ap (λ (w : Writing). drop (length new) (w .out)) (write-writes l) ∙ drop-append-seam new (drop (length new) out), ap (λ (w : Writing). length (w .out)) (write-writes l) ∙ all)
 
 -- ---- the calls that write
 

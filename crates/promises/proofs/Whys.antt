@@ -1,16 +1,20 @@
--- Opening, and reading and writing a form, answer exactly by the rows of 01's table, as specs/Whys.antt states them, for any words: every answer
--- has its row, and what has a row is the answer. Assumes nothing.
+-- Asking for a k, opening, and reading and writing a form, answer exactly by the rows of 01's table, as specs/Whys.antt states them, for any
+-- words: every answer has its row, and what has a row is the answer. Assumes nothing.
 use Prim.Native.Nat.{ℕ, _≤_, _<_}
 use mathlib.Core.Path.{_≡_, refl, sym, ap, subst, _∙_}
+use mathlib.Core.Bool.{true, false}
 use mathlib.Core.List.{List, [], _∷_}
 use native.Mathlib.Decide.{decLt}
 use native.Mathlib.Omega.{arith}
-use borrow.Author.Tests.{lt-leb}
+use borrow.Author.Tests.{le-leb, lt-leb}
 use lib.ListN.{length}
-use Rattle.words.proofs.Tests.{fails-left, fails-right}
+use Rattle.words.specs.Base.{if_then_else_, within}
+use Rattle.words.proofs.Tests.{and-both, fails-left, fails-right}
 use Rattle.figures.specs.Limits.{head-words, most-book-words, least-k, greatest-k}
 use Rattle.figures.specs.Numbers.{done, k-outside, book-size}
-use Rattle.figures.specs.Answers.{answered}
+use Rattle.figures.specs.Answers.{depthOf, answered}
+use Rattle.figures.specs.declared.depths.Asked.{Asked}
+use Rattle.figures.specs.declared.depths.Asked.the-variants.{Allowed, Outside}
 use Rattle.order.specs.Trees.{Tree, words}
 use Rattle.order.specs.Reading.{causeOf}
 use Rattle.order.specs.Causes.{Cause}
@@ -27,8 +31,44 @@ use Rattle.book.specs.Taught.{emptyBook, bookOf}
 use Rattle.book.specs.Opening.{Outcome, leave, writeBook, openOf}
 use Rattle.book.proofs.Heads.{too-short, too-long, is-sized}
 use Rattle.book.proofs.Openings.{open-unsized, no-depth, opened as opening}
-use Rattle.promises.specs.Whys.{WhyOpened, slice-short, slice-long, k-below, k-above, opened, WhyPrinted, print-no-order, print-short, printed, WhyRead, no-bytes, at-fault, read-short, read}
+use Rattle.promises.specs.Whys.{WhyDepth, depth-below, depth-above, depth-allowed, WhyOpened, slice-short, slice-long, k-below, k-above, opened, WhyPrinted, print-no-order, print-short, printed, WhyRead, no-bytes, at-fault, read-short, read}
 use Rattle.promises.proofs.Refusals.{write-refuses, write-writes}
+
+-- ---- asking for a k
+
+module _ (k : ℕ) where
+  -- A k that the test fails is outside.
+  depth-fails : within least-k greatest-k k ≡ false → depthOf k ≡ Outside
+  unfolding depthOf if_then_else_
+  depth-fails e = rw e refl
+
+  -- A k that is too low is outside.
+  below-outside : k < least-k → depthOf k ≡ Outside
+  below-outside h = depth-fails (fails-left _ _ (lt-leb least-k k h))
+
+  -- So is one that is too high.
+  above-outside : greatest-k < k → depthOf k ≡ Outside
+  above-outside h = depth-fails (fails-right _ _ (lt-leb k greatest-k h))
+
+  -- Any other k is allowed.
+  between-allowed : least-k ≤ k → k ≤ greatest-k → depthOf k ≡ Allowed (record { k = k })
+  unfolding depthOf if_then_else_
+  between-allowed a z = let e : within least-k greatest-k k ≡ true = and-both (le-leb least-k k a) (le-leb k greatest-k z) in rw e refl
+
+  -- Asking for a k gives what a row of 01's table says.
+  pub depth-why : WhyDepth k (depthOf k)
+  depth-why = go (decLt k least-k) (decLt greatest-k k)
+    where
+      go : Dec (k < least-k) → Dec (greatest-k < k) → WhyDepth k (depthOf k)
+      go (yes h) d = depth-below (below-outside h) h
+      go (no h) (yes g) = depth-above (above-outside g) g
+      go (no h) (no g) = depth-allowed (between-allowed (omega arith) (omega arith)) (omega arith) (omega arith)
+
+  -- It gives by no other row: what has one is what it gives.
+  pub depth-only : (a : Asked) → WhyDepth k a → depthOf k ≡ a
+  depth-only a (depth-below e h) = below-outside h ∙ sym e
+  depth-only a (depth-above e h) = above-outside h ∙ sym e
+  depth-only a (depth-allowed e l g) = between-allowed l g ∙ sym e
 
 -- ---- opening
 

@@ -47,6 +47,39 @@ rearranged-same (as-they-are ps) = same-orders ps
 rearranged-same (exchanged ps qs a b) = neighbours-exchanged ps qs a b
 rearranged-same (and-then {ps} {qs} {rs} r s) = exchanged-again ps qs rs (rearranged-same r) (rearranged-same s)
 
+-- Orders behind the same first one are rearranged as they are without it.
+behind-first : (p : List ℕ) {ps qs : List (List ℕ)} → Rearranged ps qs → Rearranged (p ∷ ps) (p ∷ qs)
+behind-first p (as-they-are ps) = as-they-are (p ∷ ps)
+behind-first p (exchanged ps qs a b) = exchanged (p ∷ ps) qs a b
+behind-first p (and-then r s) = and-then (behind-first p r) (behind-first p s)
+
+-- An order that stands among orders can be brought to their front.
+from-front : (os : List ℕ) (orders : List (List ℕ)) → 1 ≤ timesOf os orders → Rearranged (os ∷ without os orders) orders
+unfolding without timesOf if_then_else_
+from-front os [] h = absurd (omega arith)
+from-front os (q ∷ qs) h = go (sameWords q os) refl (from-front os qs)
+  where
+    -- By whether the first is such an order.
+    go : (b : Bool) → sameWords q os ≡ b → (1 ≤ timesOf os qs → Rearranged (os ∷ without os qs) qs) → Rearranged (os ∷ (if b then qs else q ∷ without os qs)) (q ∷ qs)
+    go true e next = rw (words-same q os e) (as-they-are (os ∷ qs))
+    go false e next =
+        let i : 1 ≤ 0 + timesOf os qs = rw e at h in
+        and-then (exchanged [] (without os qs) os q) (behind-first q (next (omega arith)))
+
+-- The same orders are some rearrangement of one another: "in whichever order" is neither more nor less than that.
+pub same-rearranged : (ps qs : List (List ℕ)) → SameOrders ps qs → Rearranged ps qs
+unfolding timesOf if_then_else_
+same-rearranged [] [] e = as-they-are []
+same-rearranged [] (q ∷ qs) e =
+    let one : timesOf q (q ∷ qs) ≡ 1 + timesOf q qs = rw (same-words q) refl in
+    let none : timesOf q (q ∷ qs) ≡ 0 = sym (e q) in
+    absurd (omega (arith, one, none))
+same-rearranged (p ∷ ps) qs e =
+    let one : timesOf p (p ∷ ps) ≡ 1 + timesOf p ps = rw (same-words p) refl in
+    let all : timesOf p (p ∷ ps) ≡ timesOf p qs = e p in
+    let stands : 1 ≤ timesOf p qs = omega (arith, one, all) in
+    and-then (behind-first p (same-rearranged ps (without p qs) (λ os. omega (arith, e os, times-without p os qs stands)))) (from-front p qs stands)
+
 -- ---- "each as often as it remains"
 
 -- Orders with one more are not the same orders.

@@ -83,7 +83,7 @@ unfoldable pub NoneRefused : List (List ℕ) → List ℕ → Type 0
 NoneRefused [] ws = Unit {0}
 NoneRefused (os ∷ rest) ws = (teachOf ws os .answer ≡ answered done) × NoneRefused rest (teachOf ws os .words)
 
--- The book of these orders, each taught as often as it stands there: what `bookOf` makes of them.
+-- The book of these orders, one teaching for each as often as it stands there; words of no tree count nothing.
 unfoldable pub booked : ℕ → List (List ℕ) → Book
 booked k [] = bookOf k []
 booked k (os ∷ rest) = byFound (treeOf os) (booked k rest) (λ t. taught 1 t (booked k rest))

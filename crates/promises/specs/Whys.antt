@@ -1,7 +1,7 @@
--- The rows of 01's table that numbering an order, handing out and writing its parts, opening, checking, and reading and writing a form can
--- answer, by trees, lines and sizes, apart from the tests of their definitions ("Numbers the desk hears"). Those of a book's form are in
--- book/specs/Sound.antt, of judging in judge/specs/Verdicts.antt, of teaching and withdrawing in effects/specs/Whys.antt. Assumes nothing: these are
--- definitions.
+-- The rows of 01's table that numbering an order, handing out and writing its parts, asking for a k, opening, checking, and reading and
+-- writing a form can answer, by trees, lines and sizes, apart from the tests of their definitions ("Numbers the desk hears"). Those of a
+-- book's form are in book/specs/Sound.antt, of judging in judge/specs/Verdicts.antt, of teaching and withdrawing in effects/specs/Whys.antt.
+-- Assumes nothing: these are definitions.
 use Prim.Native.Nat.{ℕ, _-_, _*_, _≤_, _<_}
 use mathlib.Core.Path.{_≡_}
 use mathlib.Core.List.{List, []}
@@ -11,6 +11,8 @@ use Rattle.figures.specs.Limits.{head-words, most-book-words, least-k, greatest
 use Rattle.figures.specs.Numbers.{done, k-outside, book-size, not-agreeing, no-form, short-output}
 use Rattle.figures.specs.Answers.{answered, wrote, refusedAt}
 use Rattle.figures.specs.declared.Answer.{Answer}
+use Rattle.figures.specs.declared.depths.Asked.{Asked}
+use Rattle.figures.specs.declared.depths.Asked.the-variants.{Allowed, Outside}
 use Rattle.order.specs.Trees.{Tree, words, depth, cut, subtrees}
 use Rattle.order.specs.Reading.{found}
 use Rattle.order.specs.Causes.{Cause}
@@ -63,7 +65,7 @@ pub data WhyCut (os out : List ℕ) (line d : ℕ) (w : Writing) : Type 0 where
       → length (words (cut s d)) ≤ length out → WhyCut os out line d w
 
 -- Why writing the part that a line stands for at k gives w: 1, 2, 11, with the kind of part, which is told with 11 as well. "The depth of the
--- uncut subtree decides between L and P": as `isLow` has it, it is low at k-2 or less, and middle if deeper; k-2 is 0 for a k below 2.
+-- uncut subtree decides between L and P": it is low at k-2 or less, and middle if deeper; k-2 is 0 for a k below 2.
 pub data WhyPart (os out : List ℕ) (line k : ℕ) (w : PartWriting) : Type 0 where
   -- 1 and 2, by the order: no part
   part-no-order : (n : ℕ) → w ≡ partWriting (noPart n) out → Cause os n → (n ≡ done → ⊥) → WhyPart os out line k w
@@ -83,6 +85,15 @@ pub data WhyPart (os out : List ℕ) (line k : ℕ) (w : PartWriting) : Type 0 w
       → lineOf line (subtrees t) ≡ found s → k - 2 < depth s → length (words (cut s (k - 1))) ≤ length out → WhyPart os out line k w
 
 -- ---- books
+
+-- Why asking for a k gives a: "3: k outside 2 to 6".
+pub data WhyDepth (k : ℕ) (a : Asked) : Type 0 where
+  -- "k outside 2 to 6": below
+  depth-below : a ≡ Outside → k < least-k → WhyDepth k a
+  -- or above
+  depth-above : a ≡ Outside → greatest-k < k → WhyDepth k a
+  -- "k is 2 to 6": the depth of that k
+  depth-allowed : a ≡ Allowed (record { k = k }) → least-k ≤ k → k ≤ greatest-k → WhyDepth k a
 
 -- Why opening at k answers and leaves the words as o has them: "Open: 4, 3."
 pub data WhyOpened (ws : List ℕ) (k : ℕ) (o : Outcome) : Type 0 where

@@ -1,0 +1,145 @@
+-- The line of an answer, for all inputs: 0 but for a verdict that names a line and for a text with a line at fault. Assumes nothing.
+use Prim.Native.Nat.{ℕ, _≤_, _<_}
+use mathlib.Core.Path.{_≡_, ap, _∙_}
+use mathlib.Core.List.{List}
+use native.Mathlib.Omega.{arith}
+use Rattle.figures.specs.Numbers.{too-large, no-form, top-unknown}
+use Rattle.figures.specs.declared.Answer.{Answer}
+use Rattle.order.specs.Answers.{checkOf, Writing, cutIntoOf, PartWriting, partIntoOf}
+use Rattle.form.specs.Text.{Line}
+use Rattle.form.specs.Reading.{readOf}
+use Rattle.form.specs.Faults.{Why, past, misspelt, no-option, not-allowed, too-deep, ninth-child}
+use Rattle.form.specs.Writing.{writeOf}
+use Rattle.book.specs.Opening.{Outcome, openOf}
+use Rattle.judge.specs.Judging.{judgeOf}
+use Rattle.judge.specs.Verdicts.{passing, no-top, no-low, no-middle, Judged, no-book, no-order, judged}
+use Rattle.judge.proofs.Answers.{judged-is}
+use Rattle.agree.specs.Checking.{checkOf as agreesOf}
+use Rattle.promises.specs.Whys.{WhyNumbered, numbered, WhyCut, cut-no-order, cut-lacks, cut-short, cut-written}
+use Rattle.promises.specs.Whys.{WhyPart, part-no-order, part-lacks, low-short, low-written, middle-short, middle-written}
+use Rattle.promises.specs.Whys.{WhyOpened, slice-short, slice-long, k-below, k-above, opened, WhyChecked, check-no-book, disagrees, agrees}
+use Rattle.promises.specs.Whys.{WhyPrinted, print-no-order, print-short, printed, WhyRead, no-bytes, at-fault, read-short, read}
+use Rattle.promises.proofs.Whys.{opened-why, printed-why, read-why}
+use Rattle.promises.proofs.PartWhys.{numbered-why, cut-why, part-why}
+use Rattle.promises.proofs.Checks.{checked-why}
+
+-- ---- lines of equal answers
+
+-- The line of an answer that is known.
+line-of : {a b : Answer} → a ≡ b → a .line ≡ b .line
+line-of e = ap (λ (a : Answer). a .line) e
+
+-- The line of an outcome that is known.
+outcome-line : {o p : Outcome} → o ≡ p → o .answer .line ≡ p .answer .line
+outcome-line e = ap (λ (o : Outcome). o .answer .line) e
+
+-- The line of a writing that is known.
+writing-line : {v w : Writing} → v ≡ w → v .answer .line ≡ w .answer .line
+writing-line e = ap (λ (w : Writing). w .answer .line) e
+
+-- The line of a part's writing that is known.
+part-line-of : {v w : PartWriting} → v ≡ w → v .answer .written .line ≡ w .answer .written .line
+part-line-of e = ap (λ (w : PartWriting). w .answer .written .line) e
+
+-- ---- orders and their parts
+
+-- Numbering an order: line 0.
+pub check-line : (os : List ℕ) → checkOf os .line ≡ 0
+check-line os = go (numbered-why os)
+  where
+    go : WhyNumbered os (checkOf os) → checkOf os .line ≡ 0
+    go (numbered n e c) = line-of e
+
+-- Writing a cut: line 0.
+pub cut-line : (os out : List ℕ) (line d : ℕ) → cutIntoOf os line d out .answer .line ≡ 0
+cut-line os out line d = go (cut-why os out line d)
+  where
+    go : WhyCut os out line d (cutIntoOf os line d out) → cutIntoOf os line d out .answer .line ≡ 0
+    go (cut-no-order n e c x) = writing-line e
+    go (cut-lacks t e q l) = writing-line e
+    go (cut-short t s e q f l) = writing-line e
+    go (cut-written t s e q f l) = writing-line e
+
+-- Writing a part: line 0.
+pub part-line : (os out : List ℕ) (line k : ℕ) → partIntoOf os line k out .answer .written .line ≡ 0
+part-line os out line k = go (part-why os out line k)
+  where
+    go : WhyPart os out line k (partIntoOf os line k out) → partIntoOf os line k out .answer .written .line ≡ 0
+    go (part-no-order n e c x) = part-line-of e
+    go (part-lacks t e q l) = part-line-of e
+    go (low-short t s e q f h l) = part-line-of e
+    go (low-written t s e q f h l) = part-line-of e
+    go (middle-short t s e q f h l) = part-line-of e
+    go (middle-written t s e q f h l) = part-line-of e
+
+-- ---- books
+
+-- Opening: line 0.
+pub open-line : (ws : List ℕ) (k : ℕ) → openOf ws k .answer .line ≡ 0
+open-line ws k = go (opened-why ws k)
+  where
+    go : WhyOpened ws k (openOf ws k) → openOf ws k .answer .line ≡ 0
+    go (slice-short e h) = outcome-line e
+    go (slice-long e h) = outcome-line e
+    go (k-below e l s h) = outcome-line e
+    go (k-above e l s h) = outcome-line e
+    go (opened e l s a z) = outcome-line e
+
+-- Checking a book: line 0.
+pub agrees-line : (ws : List ℕ) → agreesOf ws .line ≡ 0
+agrees-line ws = go (checked-why ws)
+  where
+    go : WhyChecked ws (agreesOf ws) → agreesOf ws .line ≡ 0
+    go (check-no-book n e w) = line-of e
+    go (disagrees b e i x) = line-of e
+    go (agrees b e i g) = line-of e
+
+-- Judging: line 0, where the number is below 20.
+pub judge-line : (ws os : List ℕ) → judgeOf ws os .number < top-unknown → judgeOf ws os .line ≡ 0
+judge-line ws os low = go (judged-is ws os)
+  where
+    -- A number of 20 or more is no such answer.
+    none : {n line : ℕ} → judgeOf ws os ≡ record { number = n; line = line } → top-unknown ≤ n → judgeOf ws os .line ≡ 0
+    none e h = absurd (omega (arith, low, h, ap (λ (a : Answer). a .number) e))
+
+    go : Judged ws os (judgeOf ws os) → judgeOf ws os .line ≡ 0
+    go (no-book n e w) = line-of e
+    go (no-order b n e i c x) = line-of e
+    go (judged b t i q (passing e p)) = line-of e
+    go (judged b t i q (no-top e u)) = none e (omega arith)
+    go (judged b t i q (no-low line s e r l u)) = none e (omega arith)
+    go (judged b t i q (no-middle line s e r l u)) = none e (omega arith)
+
+-- ---- forms
+
+-- Writing a form: line 0.
+pub print-line : (os out : List ℕ) → writeOf os out .answer .line ≡ 0
+print-line os out = go (printed-why os out)
+  where
+    go : WhyPrinted os out (writeOf os out) → writeOf os out .answer .line ≡ 0
+    go (print-no-order n e c x) = writing-line e
+    go (print-short t e q h) = writing-line e
+    go (printed t e q l) = writing-line e
+
+-- A line at fault is refused by 2 or 10.
+fault-number : {A : Type 0} (before : List Line) (rest : List ℕ) (n : ℕ) → Why before rest n → (n ≡ too-large → A) → (n ≡ no-form → A) → A
+fault-number before rest n (past e l) two ten = two e
+fault-number before rest n (misspelt e l s) two ten = ten e
+fault-number before rest n (no-option e l x s z) two ten = ten e
+fault-number before rest n (not-allowed e l x s o a) two ten = ten e
+fault-number before rest n (too-deep e l x s o a d) two ten = two e
+fault-number before rest n (ninth-child e l x s o a d c) two ten = ten e
+
+-- Reading a form: line 0, where the number is neither 2 nor 10.
+pub read-line : (text out : List ℕ) → (readOf text out .answer .number ≡ too-large → ⊥) → (readOf text out .answer .number ≡ no-form → ⊥) → readOf text out .answer .line ≡ 0
+read-line text out not-2 not-10 = go (read-why text out)
+  where
+    -- The number of the writing that is known.
+    number : {w : Writing} → readOf text out ≡ w → readOf text out .answer .number ≡ w .answer .number
+    number e = ap (λ (w : Writing). w .answer .number) e
+
+    go : WhyRead text out (readOf text out) → readOf text out .answer .line ≡ 0
+    go (no-bytes e z) = absurd (not-10 (number e))
+    go (at-fault n line e o f) = absurd (fault-number _ _ n (f .why) (λ i. not-2 (number e ∙ i)) (λ i. not-10 (number e ∙ i)))
+    go (read-short t e x q h) = writing-line e
+    go (read t e x q l) = writing-line e
