@@ -125,7 +125,7 @@ fn section_agrees(
 }
 
 // Whether the three sections of a book in form are those of its T: 9, or 0. They take turns with one scratch.
-fn check_sections(book: &[u16], places: Places) -> Answer
+pub fn check_sections(book: &[u16], places: Places) -> Answer
     requires { ⌜ Holds (now book) places ⌝ }
     ensures { λ r. ⌜ r ≡ checkOf (now (book .entry)) ⌝ }
 {

@@ -219,7 +219,7 @@ head-says ws b i = (word 0, word 1, word 2, word 3, word 4, word 5, word 6)
     word n = ap (λ (l : List ℕ). getD l n 0) (sym (i .laid))
 
 -- A book has as many words as it uses.
-encode-length : (b : Book) → length (encode b) ≡ used b
+pub encode-length : (b : Book) → length (encode b) ≡ used b
 unfolding encode used
 encode-length b = omega arith
 

@@ -75,7 +75,7 @@ pub fn slot(section: Section) -> usize
 }
 
 // Whether a slice of so many words has the size of a book.
-fn is_book_size(words: usize) -> bool
+pub fn is_book_size(words: usize) -> bool
     ensures { λ r. ⌜ r ≡ within head-words most-book-words words ⌝ }
 {
     if words < limits::HEAD_WORDS {

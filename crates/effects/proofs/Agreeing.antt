@@ -122,7 +122,7 @@ count-each-sum m n z (t ∷ ts) =
     omega (arith, count-add (m + n) (words t) z (addEach (m + n) ts []), count-add m (words t) z (addEach m ts []), count-add n (words t) z (addEach n ts []), counts-sum (words t) z m n, count-each-sum m n z ts)
 
 -- More teachings of an order and then more of it are all of them at once.
-taught-twice : (m n : ℕ) (t : Tree) (b : Book) → 1 ≤ m → 1 ≤ n → ((s : Section) → Sorted (sectionOf s b)) → taught (m + n) t b ≡ taught n t (taught m t b)
+pub taught-twice : (m n : ℕ) (t : Tree) (b : Book) → 1 ≤ m → 1 ≤ n → ((s : Section) → Sorted (sectionOf s b)) → taught (m + n) t b ≡ taught n t (taught m t b)
 unfolding taught
 taught-twice m n t b p q sorted = same-books _ _ refl (λ s.
     let ts : List Tree = treesIn s (b .k) t in

@@ -1,4 +1,4 @@
--- The numbers of 01, "Numbers the desk hears", that an order, a part, a form or a book can be answered with. Assumes nothing: these are definitions.
+-- The numbers of 01, "Numbers the desk hears", that an order, a part, a form, a book or a file can be answered with. Assumes nothing: these are definitions.
 use Prim.Native.Nat.{ℕ}
 
 -- done
@@ -37,7 +37,7 @@ too-many = 7
 abbrev pub not-taught : ℕ
 not-taught = 8
 
--- withdrawing: a part of the order is missing from R, L or P; checking: the book does not agree with itself
+-- withdrawing: a part of the order is missing from R, L or P; checking, writing or reading a book: it does not agree with itself
 abbrev pub not-agreeing : ℕ
 not-agreeing = 9
 
@@ -48,6 +48,18 @@ no-form = 10
 -- the lent output is too short
 abbrev pub short-output : ℕ
 short-output = 11
+
+-- stored: under 5 bytes, or another mark
+abbrev pub no-mark : ℕ
+no-mark = 12
+
+-- stored: the version is not 1
+abbrev pub other-version : ℕ
+other-version = 13
+
+-- stored: the rest is not the used words of a book in form
+abbrev pub no-stored-book : ℕ
+no-stored-book = 14
 
 -- judged: the order's top is not in the book
 abbrev pub top-unknown : ℕ

@@ -27,7 +27,7 @@ pub const TOO_MANY: u16 = 7;
 // the order has no entry in T
 pub const NOT_TAUGHT: u16 = 8;
 
-// withdrawing: a part of the order is missing from R, L or P; checking: the book does not agree with itself
+// withdrawing: a part of the order is missing from R, L or P; checking, writing or reading a book: it does not agree with itself
 pub const NOT_AGREEING: u16 = 9;
 
 // the text is no form
@@ -35,6 +35,15 @@ pub const NO_FORM: u16 = 10;
 
 // the lent output is too short
 pub const SHORT_OUTPUT: u16 = 11;
+
+// stored: under 5 bytes, or another mark
+pub const NO_MARK: u16 = 12;
+
+// stored: the version is not 1
+pub const OTHER_VERSION: u16 = 13;
+
+// stored: the rest is not the used words of a book in form
+pub const NO_STORED_BOOK: u16 = 14;
 
 // judged: the order's top is not in the book
 pub const TOP_UNKNOWN: u16 = 20;

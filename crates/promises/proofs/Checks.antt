@@ -1,13 +1,11 @@
 -- Checking answers exactly by the rows of 01's table, as specs/Whys.antt states them, for any words; and it answers 0 for a book grown from an
 -- opened one. Assumes nothing.
-use Prim.Native.Nat.{ℕ, _≤_}
+use Prim.Native.Nat.{ℕ}
 use mathlib.Core.Path.{_≡_, refl, sym, ap, _∙_}
 use mathlib.Core.Bool.{Bool, true, false}
 use mathlib.Core.List.{List}
-use lib.ListN.{length}
 use Rattle.words.specs.Base.{if_then_else_}
 use Rattle.words.proofs.Tests.{no-test}
-use Rattle.figures.specs.Limits.{least-k, greatest-k, head-words, most-book-words}
 use Rattle.figures.specs.Numbers.{done, book-size, not-in-form, not-agreeing}
 use Rattle.figures.specs.Answers.{answered}
 use Rattle.figures.specs.declared.Answer.{Answer}
@@ -15,7 +13,6 @@ use Rattle.book.specs.Book.{Book}
 use Rattle.book.specs.Decoding.{bookFormOf}
 use Rattle.book.specs.Sound.{IsBook, WhyForm, shorter, longer, formless, book}
 use Rattle.book.specs.Taught.{agreeing}
-use Rattle.book.specs.Opening.{openOf}
 use Rattle.book.specs.declared.BookForm.the-variants.{Refused}
 use Rattle.book.proofs.Sound.{sound-form, decode-book, why-is, why-only}
 use Rattle.agree.specs.Checking.{checkOf}
@@ -25,7 +22,7 @@ use Rattle.promises.specs.Remaining.{Call, after}
 use Rattle.promises.specs.Agreement.{Agrees}
 use Rattle.promises.specs.Whys.{WhyChecked, check-no-book, disagrees, agrees}
 use Rattle.promises.proofs.Agreement.{agreeing-exactly}
-use Rattle.promises.proofs.Remaining.{holds-exactly, agrees as agrees-after}
+use Rattle.promises.proofs.Remaining.{Begun, holds-exactly, after-agrees}
 
 module _ (ws : List ℕ) where
   -- What is answered by a book that passes the test of agreeing or does not.
@@ -82,14 +79,9 @@ module _ (ws : List ℕ) where
       fails false p = failed-9 b i p
   checked-only a (agrees b e i g) = passed-0 b i (test-exact b i .1 g) ∙ sym e
 
-module _ (slice : List ℕ) (k : ℕ) (long : head-words ≤ length slice) (short : length slice ≤ most-book-words) (least : least-k ≤ k) (greatest : k ≤ greatest-k) where
-  -- The words of the slice once a book is opened in it.
-  abbrev opened : List ℕ
-  opened = openOf slice k .words
-
-  -- After any calls the book is checked with 0.
-  pub grown-agrees : (cs : List Call) → checkOf (after cs opened) ≡ answered done
-  grown-agrees cs =
-      let a = agrees-after slice k long short least greatest cs in
-      let i = holds-exactly slice k long short least greatest cs .isBook in
-      passed-0 (after cs opened) (a .0) (decode-book (after cs opened) (a .0) (i .long) (i .short) (a .1)) (a .2)
+-- After any calls the book is checked with 0.
+pub grown-agrees : (slice : List ℕ) (k : ℕ) (first : List (List ℕ)) (ws : List ℕ) → Begun slice k first ws → (cs : List Call) → checkOf (after cs ws) ≡ answered done
+grown-agrees slice k first ws begun cs =
+    let a = after-agrees slice k first ws begun cs in
+    let i = holds-exactly slice k first ws begun cs .isBook in
+    passed-0 (after cs ws) (a .0) (decode-book (after cs ws) (a .0) (i .long) (i .short) (a .1)) (a .2)

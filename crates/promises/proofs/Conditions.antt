@@ -1,9 +1,9 @@
--- When teaching and withdrawing are refused in a book grown from an opened one, by the orders that remain: 7 where there are 65,535 of them, 6
+-- When teaching and withdrawing are refused in a book after any calls, by the orders that remain: 7 where there are 65,535 of them, 6
 -- where their book with one order more has no room, and 8 where the order does not stand among them; and when they are done. Assumes nothing.
 use Prim.Native.Nat.{ℕ, _≤_, _<_}
 use mathlib.Core.Path.{_≡_, sym, ap, _∙_}
 use mathlib.Core.Bool.{true}
-use mathlib.Core.List.{List, [], _∷_}
+use mathlib.Core.List.{List, _∷_}
 use native.Mathlib.Decide.{decLt}
 use native.Mathlib.Omega.{arith}
 use borrow.Author.Tests.{lt-ltb, le-ltb, ltb-true, ltb-false}
@@ -18,7 +18,6 @@ use Rattle.order.specs.Fits.{IsOrder}
 use Rattle.order.proofs.Fitting.{order-read}
 use Rattle.book.specs.Book.{sectionOf, used}
 use Rattle.book.specs.Taught.{taught, agreeing}
-use Rattle.book.specs.Opening.{openOf}
 use Rattle.book.specs.declared.Section.the-variants.{Taught}
 use Rattle.teach.specs.Calls.{teachOf, withdrawOf}
 use Rattle.effects.specs.Conditions.{_exactly-when_, BookAndOrder, WouldPass, lives}
@@ -27,7 +26,7 @@ use Rattle.effects.proofs.Reasons.{within-none}
 use Rattle.effects.proofs.Sequences.{agreeing-withdraws}
 use Rattle.promises.specs.Remaining.{Call, after, remaining, timesOf, booked}
 use Rattle.promises.proofs.Orders.{booked-first, booked-sorted, booked-live, count-times, more-within}
-use Rattle.promises.proofs.Remaining.{Kept, kept-form, kept-long, kept-met, after-kept, agrees}
+use Rattle.promises.proofs.Remaining.{Kept, kept-form, kept-long, kept-met, Begun, after-kept, after-agrees}
 
 -- ---- in the book of orders
 
@@ -133,44 +132,43 @@ module _ (slice : List ℕ) (k : ℕ) (long : head-words ≤ length slice) (shor
       to : 1 ≤ timesOf os orders → withdrawOf ws os .answer .number ≡ done
       to h = agreeing-withdraws ws os (booked k orders) t both-met a (entry-test ∙ lt-ltb 0 (timesOf os orders) h)
 
--- ---- in a book grown from an opened one
+-- ---- in a book after calls
 
-module _ (slice : List ℕ) (k : ℕ) (long : head-words ≤ length slice) (short : length slice ≤ most-book-words) (least : least-k ≤ k) (greatest : k ≤ greatest-k) where
-  -- The words of the slice once a book is opened in it.
-  abbrev opened : List ℕ
-  opened = openOf slice k .words
+module _ (slice : List ℕ) (k : ℕ) (first : List (List ℕ)) (ws : List ℕ) (begun : Begun slice k first ws) (cs : List Call) where
+  -- The orders that remain.
+  abbrev orders : List (List ℕ)
+  orders = remaining cs ws first
 
-  module _ (cs : List Call) where
-    -- After the calls the book is that of the orders that remain.
-    grown : Kept (length slice) k (remaining cs opened []) (after cs opened)
-    grown = after-kept slice k long short least greatest cs
+  -- After the calls the book is that of the orders that remain.
+  grown : Kept (length slice) k orders (after cs ws)
+  grown = after-kept slice k first ws begun cs
 
-    -- 7, "live teachings or a touched count would pass 65,535", is answered exactly where 65,535 orders remain.
-    pub teaching-7 : (os : List ℕ) (t : Tree) → IsOrder os t → (teachOf (after cs opened) os .answer .number ≡ too-many) exactly-when (length (remaining cs opened []) ≡ greatest-count)
-    teaching-7 os t o = kept-7 slice k long short least greatest _ _ grown os t o
+  -- 7, "live teachings or a touched count would pass 65,535", is answered exactly where 65,535 orders remain.
+  pub teaching-7 : (os : List ℕ) (t : Tree) → IsOrder os t → (teachOf (after cs ws) os .answer .number ≡ too-many) exactly-when (length orders ≡ greatest-count)
+  teaching-7 os t o = kept-7 slice k (begun .long) (begun .short) (begun .least) (begun .greatest) _ _ grown os t o
 
-    -- 6, "the result needs more words than the book slice has", exactly where fewer remain and the book of these and the order uses more.
-    pub teaching-6 : (os : List ℕ) (t : Tree) → IsOrder os t
-        → (teachOf (after cs opened) os .answer .number ≡ no-room) exactly-when ((length (remaining cs opened []) < greatest-count) × (length slice < used (booked k (os ∷ remaining cs opened []))))
-    teaching-6 os t o = kept-6 slice k long short least greatest _ _ grown os t o
+  -- 6, "the result needs more words than the book slice has", exactly where fewer remain and the book of these and the order uses more.
+  pub teaching-6 : (os : List ℕ) (t : Tree) → IsOrder os t
+      → (teachOf (after cs ws) os .answer .number ≡ no-room) exactly-when ((length orders < greatest-count) × (length slice < used (booked k (os ∷ orders))))
+  teaching-6 os t o = kept-6 slice k (begun .long) (begun .short) (begun .least) (begun .greatest) _ _ grown os t o
 
-    -- 0, "done", exactly where fewer remain and that book uses no more.
-    pub teaching-0 : (os : List ℕ) (t : Tree) → IsOrder os t
-        → (teachOf (after cs opened) os .answer .number ≡ done) exactly-when ((length (remaining cs opened []) < greatest-count) × (used (booked k (os ∷ remaining cs opened [])) ≤ length slice))
-    teaching-0 os t o = kept-0 slice k long short least greatest _ _ grown os t o
+  -- 0, "done", exactly where fewer remain and that book uses no more.
+  pub teaching-0 : (os : List ℕ) (t : Tree) → IsOrder os t
+      → (teachOf (after cs ws) os .answer .number ≡ done) exactly-when ((length orders < greatest-count) × (used (booked k (os ∷ orders)) ≤ length slice))
+  teaching-0 os t o = kept-0 slice k (begun .long) (begun .short) (begun .least) (begun .greatest) _ _ grown os t o
 
-    -- 8, "order has no entry in T", exactly where the order is none of those that remain.
-    pub withdrawing-8 : (os : List ℕ) (t : Tree) → IsOrder os t → (withdrawOf (after cs opened) os .answer .number ≡ not-taught) exactly-when (timesOf os (remaining cs opened []) ≡ 0)
-    withdrawing-8 os t o = kept-8 slice k long short least greatest _ _ grown os t o
+  -- 8, "order has no entry in T", exactly where the order is none of those that remain.
+  pub withdrawing-8 : (os : List ℕ) (t : Tree) → IsOrder os t → (withdrawOf (after cs ws) os .answer .number ≡ not-taught) exactly-when (timesOf os orders ≡ 0)
+  withdrawing-8 os t o = kept-8 slice k (begun .long) (begun .short) (begun .least) (begun .greatest) _ _ grown os t o
 
-    -- That book agrees with itself: it is the one that its words are decoded to.
-    grown-agreeing : (os : List ℕ) (t : Tree) → IsOrder os t → agreeing (booked k (remaining cs opened [])) ≡ true
-    grown-agreeing os t o =
-        let a = agrees slice k long short least greatest cs in
-        let met = both-met slice k long short least greatest _ _ grown os t o in
-        let same : a .0 ≡ booked k (remaining cs opened []) = cc (a .1, met .isBook) in
-        ap agreeing (sym same) ∙ a .2
+  -- That book agrees with itself: it is the one that its words are decoded to.
+  grown-agreeing : (os : List ℕ) (t : Tree) → IsOrder os t → agreeing (booked k orders) ≡ true
+  grown-agreeing os t o =
+      let a = after-agrees slice k first ws begun cs in
+      let met = both-met slice k (begun .long) (begun .short) (begun .least) (begun .greatest) _ _ grown os t o in
+      let same : a .0 ≡ booked k orders = cc (a .1, met .isBook) in
+      ap agreeing (sym same) ∙ a .2
 
-    -- 0, "done", exactly where the order is one of those that remain.
-    pub withdrawing-0 : (os : List ℕ) (t : Tree) → IsOrder os t → (withdrawOf (after cs opened) os .answer .number ≡ done) exactly-when (1 ≤ timesOf os (remaining cs opened []))
-    withdrawing-0 os t o = kept-withdrawn slice k long short least greatest _ _ grown os t o (grown-agreeing os t o)
+  -- 0, "done", exactly where the order is one of those that remain.
+  pub withdrawing-0 : (os : List ℕ) (t : Tree) → IsOrder os t → (withdrawOf (after cs ws) os .answer .number ≡ done) exactly-when (1 ≤ timesOf os orders)
+  withdrawing-0 os t o = kept-withdrawn slice k (begun .long) (begun .short) (begun .least) (begun .greatest) _ _ grown os t o (grown-agreeing os t o)

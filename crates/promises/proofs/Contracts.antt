@@ -25,6 +25,7 @@ use Rattle.book.specs.Opening.{outcome, openOf}
 use Rattle.judge.specs.Judging.{judgeOf}
 use Rattle.teach.specs.Calls.{teachOf, withdrawOf}
 use Rattle.agree.specs.Checking.{checkOf as agreesOf}
+use Rattle.store.specs.Files.{writeFileOf, readFileOf}
 use Rattle.order.proofs.check as order-check
 use Rattle.cuts.proofs.subtree
 use Rattle.cuts.proofs.cut_into as cut-into
@@ -37,6 +38,8 @@ use Rattle.judge.proofs.judge
 use Rattle.teach.proofs.teach
 use Rattle.teach.proofs.withdraw
 use Rattle.agree.proofs.check as agree-check
+use Rattle.store.proofs.write as store-write
+use Rattle.store.proofs.read as store-read
 use Rattle.order.proofs.check.Statement as order-check-statement
 use Rattle.order.proofs.check.Met as order-check-met
 use Rattle.cuts.proofs.subtree.Statement as subtree-statement
@@ -61,6 +64,10 @@ use Rattle.teach.proofs.withdraw.Statement as withdraw-statement
 use Rattle.teach.proofs.withdraw.Met as withdraw-met
 use Rattle.agree.proofs.check.Statement as agree-check-statement
 use Rattle.agree.proofs.check.Met as agree-check-met
+use Rattle.store.proofs.write.Statement as store-write-statement
+use Rattle.store.proofs.write.Met as store-write-met
+use Rattle.store.proofs.read.Statement as store-read-statement
+use Rattle.store.proofs.read.Met as store-read-met
 use Rattle.figures.proofs.depths.Depth.new as depth-new
 use Rattle.figures.proofs.depths.Depth.new.Statement as depth-new-statement
 use Rattle.figures.proofs.depths.Depth.new.Met as depth-new-met
@@ -127,6 +134,14 @@ module _ {M : Type 1} where
   -- `agree::check`
   pub check-meets : agree-check-statement.statement M
   check-meets = agree-check-met.met
+
+  -- `store::write`
+  pub write-file-meets : store-write-statement.statement M
+  write-file-meets = store-write-met.met
+
+  -- `store::read`
+  pub read-file-meets : store-read-statement.statement M
+  read-file-meets = store-read-met.met
 
   -- `figures::Depth::new`
   pub depth-new-meets : depth-new-statement.statement M
@@ -214,6 +229,16 @@ module _ {M : Type 1} (𝓤 : URA.URA M) (H : Wp.Heap 𝓤) (A : Atoms.Atoms �
   pub check-says : (κs args g r : _) → let c = agree-check.spec 𝓤 H A mem run κs args in
       (c .ghost ≡ Unit {0}) × (c .requires g ≡ ⊤ₛ) × (c .ensures g r ≡ exits 𝓤 H A agree-check.signature (agree-check.ended .kept) κs args (λ end. ⌜ r ≡ agreesOf (now (args .0)) ⌝))
   check-says κs args g r = (refl, refl, refl)
+
+  -- `store::write`
+  pub write-file-says : (κs args g r : _) → let c = store-write.spec 𝓤 H A mem run κs args in
+      (c .ghost ≡ Unit {0}) × (c .requires g ≡ ⊤ₛ) × (c .ensures g r ≡ exits 𝓤 H A store-write.signature (store-write.ended .kept) κs args (λ end. ⌜ writing r (now (end .1 .0)) ≡ writeFileOf (now (args .0)) (now (args .1 .0)) ⌝))
+  write-file-says κs args g r = (refl, refl, refl)
+
+  -- `store::read`
+  pub read-file-says : (κs args g r : _) → let c = store-read.spec 𝓤 H A mem run κs args in
+      (c .ghost ≡ Unit {0}) × (c .requires g ≡ ⊤ₛ) × (c .ensures g r ≡ exits 𝓤 H A store-read.signature (store-read.ended .kept) κs args (λ end. ⌜ outcome r (now (end .1 .0)) ≡ readFileOf (now (args .0)) (now (args .1 .0)) ⌝))
+  read-file-says κs args g r = (refl, refl, refl)
 
   -- `figures::Depth::new`
   pub depth-new-says : (κs args g r : _) → let c = depth-new.spec 𝓤 H A mem run κs args in

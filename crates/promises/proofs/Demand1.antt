@@ -31,12 +31,14 @@ use Rattle.effects.specs.Whys.{WhyTaught, WhyWithdrawn}
 use Rattle.effects.proofs.Whys.{teach-why, teach-only, withdraw-why, withdraw-only}
 use Rattle.effects.proofs.Conditions.{teach-refusal-leaves, withdraw-refusal-leaves, teach-line, withdraw-line}
 use Rattle.agree.specs.Checking.{checkOf as agreesOf}
-use Rattle.promises.specs.Whys.{WhyNumbered, WhySubtree, WhyCut, WhyPart, WhyDepth, WhyOpened, WhyChecked, WhyPrinted, WhyRead}
+use Rattle.store.specs.Files.{writeFileOf, readFileOf}
+use Rattle.promises.specs.Whys.{WhyNumbered, WhySubtree, WhyCut, WhyPart, WhyDepth, WhyOpened, WhyChecked, WhyPrinted, WhyRead, WhyFiled, WhyRestored}
 use Rattle.promises.proofs.Whys.{depth-why, depth-only, opened-why, opened-only, printed-why, printed-only, read-why, read-only}
 use Rattle.promises.proofs.PartWhys.{numbered-why, numbered-only, subtree-why, subtree-only, cut-why, cut-only, part-why, part-only}
 use Rattle.promises.proofs.Checks.{checked-why, checked-only}
-use Rattle.promises.proofs.LineNumbers.{check-line, cut-line, part-line, open-line, agrees-line, judge-line, print-line, read-line}
-use Rattle.promises.proofs.Refusals.{read-refusal-leaves, print-refusal-leaves, cut-refusal-leaves, part-refusal-leaves, open-refusal-leaves}
+use Rattle.promises.proofs.FileWhys.{filed-why, filed-only, restored-why, restored-only}
+use Rattle.promises.proofs.LineNumbers.{check-line, cut-line, part-line, open-line, agrees-line, judge-line, print-line, read-line, filed-line, restored-line}
+use Rattle.promises.proofs.Refusals.{read-refusal-leaves, print-refusal-leaves, cut-refusal-leaves, part-refusal-leaves, open-refusal-leaves, file-refusal-leaves, restore-refusal-leaves}
 
 -- ---- "the refusal number listed for it"
 
@@ -46,7 +48,7 @@ Exactly {A} Row a = Row a × ((b : A) → Row b → a ≡ b)
 
 -- The rows of 01's table for each call, in their order of checks: every answer, with its line, its count and all that was lent, has its row, and a
 -- row has no other answer. So two calls on the same input answer the same.
-module _ (ws os text out : List ℕ) (k line d : ℕ) where
+module _ (ws os text file out : List ℕ) (k line d : ℕ) where
   -- "Within an order: empty or odd length, over 128 words, the other causes of 1, depth."
   pub order-rows : Exactly (WhyNumbered os) (checkOf os)
   order-rows = (numbered-why os, numbered-only os)
@@ -99,10 +101,18 @@ module _ (ws os text out : List ℕ) (k line d : ℕ) where
   pub read-rows : Exactly (WhyRead text out) (readOf text out)
   read-rows = (read-why text out, read-only text out)
 
+  -- "Write file: 4, 5, 9, 11."
+  pub write-file-rows : Exactly (WhyFiled ws out) (writeFileOf ws out)
+  write-file-rows = (filed-why ws out, filed-only ws out)
+
+  -- "Read file: 4, 12, 13, 14, 9, 6."
+  pub read-file-rows : Exactly (WhyRestored file ws) (readFileOf file ws)
+  read-file-rows = (restored-why file ws, restored-only file ws)
+
 -- ---- the line
 
 -- "for every other answer, 0 and 11 included, it is 0": only a verdict of 20, 21 or 22, and 2 or 10 for a text, have another line.
-module _ (ws os text out : List ℕ) (k line d : ℕ) where
+module _ (ws os text file out : List ℕ) (k line d : ℕ) where
   -- `order::check`
   pub order-no-line : checkOf os .line ≡ 0
   order-no-line = check-line os
@@ -135,6 +145,14 @@ module _ (ws os text out : List ℕ) (k line d : ℕ) where
   pub write-no-line : writeOf os out .answer .line ≡ 0
   write-no-line = print-line os out
 
+  -- `store::write`
+  pub write-file-no-line : writeFileOf ws out .answer .line ≡ 0
+  write-file-no-line = filed-line ws out
+
+  -- `store::read`
+  pub read-file-no-line : readFileOf file ws .answer .line ≡ 0
+  read-file-no-line = restored-line file ws
+
   -- `form::read`, where it answers neither 2 nor 10
   pub read-no-line : (readOf text out .answer .number ≡ too-large → ⊥) → (readOf text out .answer .number ≡ no-form → ⊥) → readOf text out .answer .line ≡ 0
   read-no-line = read-line text out
@@ -159,7 +177,7 @@ two-writings e f = (ap (λ (o : Writing). o .answer) (same e f), ap (λ (o : Wri
 
 -- "Two outcomes allowed by one promise are shown equal": r and s are two answers that the contract allows, and what stands beside them what was lent
 -- to be written, right after each call.
-module _ (ws os text out : List ℕ) (k line d : ℕ) where
+module _ (ws os text file out : List ℕ) (k line d : ℕ) where
   -- `order::check`
   pub one-check : {r s : Answer} → r ≡ checkOf os → s ≡ checkOf os → r ≡ s
   one-check = same
@@ -208,6 +226,14 @@ module _ (ws os text out : List ℕ) (k line d : ℕ) where
   pub one-agreement : {r s : Answer} → r ≡ agreesOf ws → s ≡ agreesOf ws → r ≡ s
   one-agreement = same
 
+  -- `store::write`
+  pub one-write-file : {r s : Written} {u v : List ℕ} → writing r u ≡ writeFileOf ws out → writing s v ≡ writeFileOf ws out → (r ≡ s) × (u ≡ v)
+  one-write-file = two-writings
+
+  -- `store::read`
+  pub one-read-file : {r s : Answer} {u v : List ℕ} → outcome r u ≡ readFileOf file ws → outcome s v ≡ readFileOf file ws → (r ≡ s) × (u ≡ v)
+  one-read-file = two-outcomes
+
   -- `figures::Depth::new`
   pub one-depth : {r s : Asked} → r ≡ depthOf k → s ≡ depthOf k → r ≡ s
   one-depth = same
@@ -219,7 +245,7 @@ module _ (ws os text out : List ℕ) (k line d : ℕ) where
 -- ---- "a refusal changes nothing lent to the call"
 
 -- A refusal leaves all words and bytes that were lent to be written as they came, and counts none as written.
-module _ (ws os text out : List ℕ) (k line d : ℕ) where
+module _ (ws os text file out : List ℕ) (k line d : ℕ) where
   -- `book::open`
   pub open-leaves : (openOf ws k .answer .number ≡ done → ⊥) → openOf ws k .words ≡ ws
   open-leaves = open-refusal-leaves ws k
@@ -239,6 +265,14 @@ module _ (ws os text out : List ℕ) (k line d : ℕ) where
   -- `print::write`
   pub write-leaves : (writeOf os out .answer .number ≡ done → ⊥) → (writeOf os out .out ≡ out) × (writeOf os out .answer .count ≡ 0)
   write-leaves = print-refusal-leaves os out
+
+  -- `store::write`
+  pub write-file-leaves : (writeFileOf ws out .answer .number ≡ done → ⊥) → (writeFileOf ws out .out ≡ out) × (writeFileOf ws out .answer .count ≡ 0)
+  write-file-leaves = file-refusal-leaves ws out
+
+  -- `store::read`
+  pub read-file-leaves : (readFileOf file ws .answer .number ≡ done → ⊥) → readFileOf file ws .words ≡ ws
+  read-file-leaves = restore-refusal-leaves file ws
 
   -- `cuts::cut_into`
   pub cut-leaves : (cutIntoOf os line d out .answer .number ≡ done → ⊥) → (cutIntoOf os line d out .out ≡ out) × (cutIntoOf os line d out .answer .count ≡ 0)

@@ -1,5 +1,6 @@
 -- Demand 2: "An order passes exactly when its top, its low parts and its middle parts are all in the book, as García's paper (document 000) defines
--- them. Codes are decimal. A sound form goes to text and back unchanged".
+-- them. Codes are decimal. A sound form goes to text and back unchanged; so does a book that agrees with itself, to file and back into a slice of its own
+-- length."
 --
 -- Document 000's r, l and p are `IsR`, `IsL` and `IsP` (order/specs/Paper.antt), said by positions and labels. A tree is in a section if one of its
 -- entries has the tree's words (`In`, judge/specs/Verdicts.antt). Assumes nothing.
@@ -28,10 +29,17 @@ use Rattle.form.proofs.Digits.{value-digits}
 use Rattle.form.proofs.Letters.{NotFour, NotRead, decimal, code-decimal, decimal-read, code-refused, byte-refused}
 use Rattle.form.proofs.TreeLines.{topCode, lines-subtrees}
 use Rattle.form.proofs.Trips.{order-text, order-write, form-write, written-read, read-written}
+use Rattle.book.specs.Book.{Book}
+use Rattle.book.specs.Sound.{IsBook}
+use Rattle.book.specs.Opening.{outcome}
 use Rattle.judge.specs.Judging.{judgeOf}
 use Rattle.judge.specs.Verdicts.{PassesBy}
 use Rattle.judge.proofs.Answers.{answered-passes, passes-answered}
 use Rattle.effects.specs.Conditions.{_exactly-when_}
+use Rattle.store.specs.Files.{fileOf, writeFileOf, readFileOf}
+use Rattle.promises.specs.Agreement.{Agrees}
+use Rattle.promises.proofs.FileWhys.{agrees-filed}
+use Rattle.promises.proofs.FileTrips.{file-back, filed-back, read-back-filed}
 use Rattle.promises.proofs.Refusals.{write-writes}
 
 -- ---- passing
@@ -143,3 +151,20 @@ written-then-read = written-read
 pub read-then-written : (text out : List ℕ) → readOf text out .answer .number ≡ done → (later : List ℕ)
     → writeOf (take (readOf text out .answer .count) (readOf text out .out)) later ≡ write text later
 read-then-written = read-written
+
+-- ---- "so does a book that agrees with itself, to file and back into a slice of its own length"
+
+-- A book that agrees with itself is written as its file at the front of any output with room, and that file is read back into any slice of the
+-- book's length, whatever stood there, to the same words, every one. A file that is read is the file of such a book (`read-file-rows`).
+pub to-file-and-back : (ws : List ℕ) (b : Book) → IsBook ws b → Agrees b → (out slice : List ℕ) → length (fileOf b) ≤ length out → length slice ≡ length ws
+    → (writeFileOf ws out ≡ writing (wrote done (length (fileOf b))) (over (fileOf b) out)) × (readFileOf (fileOf b) slice ≡ outcome (answered done) ws)
+to-file-and-back ws b i g out slice room same = (agrees-filed ws out b i g ∙ write-writes (fileOf b) out room, file-back ws b i g slice same)
+
+-- The bytes that were written without refusal are read back into any slice of the book's length to the same words.
+pub filed-then-read : (ws out : List ℕ) → writeFileOf ws out .answer .number ≡ done → (slice : List ℕ) → length slice ≡ length ws
+    → readFileOf (take (writeFileOf ws out .answer .count) (writeFileOf ws out .out)) slice ≡ outcome (answered done) ws
+filed-then-read = filed-back
+
+-- What reads without refusal is written back to the same bytes, or answered by 11 where the output is too short.
+pub read-then-filed : (file slice : List ℕ) → readFileOf file slice .answer .number ≡ done → (out : List ℕ) → writeFileOf (readFileOf file slice .words) out ≡ write file out
+read-then-filed = read-back-filed

@@ -1,11 +1,11 @@
 -- Demand 3: "Open an empty book of an allowed k and size, then teach and withdraw in any sequence, refused calls included. Its parts and counts are
 -- exactly those of the orders that remain. In every word it is the book you get by teaching just the remaining orders, each as often as it remains,
--- in whichever order, and none of those teachings is refused."
+-- in whichever order, and none of those teachings is refused." And 01: "A run that starts by reading a file counts that file's orders as taught first."
 --
--- A call has any words as its order; `after` is the slice after a list of calls, and `remaining` the orders that remain of them by the calls' own
--- answers (specs/Remaining.antt). Assumes nothing.
+-- A run starts with an opened book or a file that is read (`Start`, specs/Starts.antt). A call has any words as its order; `after` is the slice after a
+-- list of calls, and `remaining` the orders that remain of those taught first and of the calls by the calls' own answers (specs/Remaining.antt). Assumes nothing.
 use Prim.Native.Nat.{ℕ, _≤_, _<_}
-use mathlib.Core.Path.{_≡_}
+use mathlib.Core.Path.{_≡_, refl}
 use mathlib.Core.List.{List, [], _∷_}
 use lib.ListN.{length}
 use Rattle.figures.specs.Limits.{head-words, most-book-words, least-k, greatest-k, greatest-count}
@@ -19,46 +19,53 @@ use Rattle.judge.specs.Judging.{judgeOf}
 use Rattle.teach.specs.Calls.{teachOf, withdrawOf}
 use Rattle.effects.specs.Conditions.{_exactly-when_}
 use Rattle.agree.specs.Checking.{checkOf}
-use Rattle.promises.specs.Remaining.{Call, after, remaining, timesOf, SameOrders, taughtAll, NoneRefused, booked, ExactlyThese, MadeOf}
-use Rattle.promises.proofs.Remaining.{opens, kept-long, after-kept, holds-exactly, taught-alone}
+use Rattle.store.specs.Files.{readFileOf}
+use Rattle.promises.specs.Remaining.{Call, afterBy, after, remainingBy, remaining, timesOf, SameOrders, taughtAll, NoneRefused, booked, ExactlyThese, MadeOf}
+use Rattle.promises.specs.Starts.{Start, reading, startOf, taughtFirst, startK}
+use Rattle.promises.proofs.Remaining.{after-long, holds-exactly, taught-alone}
+use Rattle.promises.proofs.Starting.{opens, begins}
 use Rattle.promises.proofs.Passing.{passes-made}
 use Rattle.promises.proofs.Conditions.{teaching-7, teaching-6, teaching-0, withdrawing-8, withdrawing-0}
 use Rattle.promises.proofs.Checks.{grown-agrees}
 
--- "Open an empty book of an allowed k and size"
-module _ (slice : List ℕ) (k : ℕ) (long : head-words ≤ length slice) (short : length slice ≤ most-book-words) (least : least-k ≤ k) (greatest : k ≤ greatest-k) where
-  -- Opening is done.
-  pub opening-done : openOf slice k .answer ≡ answered done
-  opening-done = opens slice k long short least greatest
+-- "Open an empty book of an allowed k and size": it is done.
+pub opening-done : (slice : List ℕ) (k : ℕ) → head-words ≤ length slice → length slice ≤ most-book-words → least-k ≤ k → k ≤ greatest-k → openOf slice k .answer ≡ answered done
+opening-done = opens
 
-  -- "then teach and withdraw in any sequence, refused calls included"
+-- A start that was done, with an opened book or a file that was read,
+module _ (start : Start) (slice : List ℕ) (started : startOf start slice .answer .number ≡ done) where
+  -- at this k: the one opened at, or the file's,
+  abbrev pub k : ℕ
+  k = startK start
+
+  -- "then teach and withdraw in any sequence, refused calls included".
   module _ (cs : List Call) where
     -- The slice then.
     abbrev pub book : List ℕ
-    book = after cs (openOf slice k .words)
+    book = after cs (startOf start slice .words)
 
-    -- The orders that remain, each as often as it remains.
+    -- The orders that remain, each as often as it remains: of an opened book those of the calls, and of a file that was read its orders too.
     abbrev pub orders : List (List ℕ)
-    orders = remaining cs (openOf slice k .words) []
+    orders = remaining cs (startOf start slice .words) (taughtFirst start)
 
     -- "Its parts and counts are exactly those of the orders that remain": by document 000's r, l and p, as demand 2 has them. So it is in form, of
     -- this k, and word 2 is how many orders remain.
     pub parts-and-counts : ExactlyThese k orders book
-    parts-and-counts = holds-exactly slice k long short least greatest cs
+    parts-and-counts = holds-exactly slice k (taughtFirst start) (startOf start slice .words) (begins start slice started) cs
 
     -- The slice keeps its length, so that `exactly-one` (proofs/Uniqueness.antt) leaves no word open.
     pub same-length : length book ≡ length slice
-    same-length = kept-long slice k long short least greatest orders book (after-kept slice k long short least greatest cs)
+    same-length = after-long slice k (taughtFirst start) (startOf start slice .words) (begins start slice started) cs
 
     -- "In every word it is the book you get by teaching just the remaining orders, each as often as it remains, in whichever order, and none of those
     -- teachings is refused": in any slice of the same length, whatever stood in it before it was opened.
     pub in-every-word : (other : List ℕ) → length other ≡ length slice → (qs : List (List ℕ)) → SameOrders qs orders
         → NoneRefused qs (openOf other k .words) × (taughtAll qs (openOf other k .words) ≡ book)
-    in-every-word = taught-alone slice k long short least greatest cs
+    in-every-word = taught-alone slice k (taughtFirst start) (startOf start slice .words) (begins start slice started) cs
 
     -- It "agrees with itself": `agree::check` answers 0.
     pub agrees-with-itself : checkOf book ≡ answered done
-    agrees-with-itself = grown-agrees slice k long short least greatest cs
+    agrees-with-itself = grown-agrees slice k (taughtFirst start) (startOf start slice .words) (begins start slice started) cs
 
     -- Demands 2 and 3 together: "A new order made only of parts the book has seen passes" and no other does. `judge::judge` answers 0 exactly if the
     -- order's r is the r of an order that remains, each of its l an l of one, and each of its p a p of one.
@@ -67,22 +74,31 @@ module _ (slice : List ℕ) (k : ℕ) (long : head-words ≤ length slice) (shor
 
     -- Not all of this could be met by refusing everything: an order within limits is refused by 7 exactly if 65,535 orders remain,
     pub refused-by-7 : (os : List ℕ) (t : Tree) → IsOrder os t → (teachOf book os .answer .number ≡ too-many) exactly-when (length orders ≡ greatest-count)
-    refused-by-7 = teaching-7 slice k long short least greatest cs
+    refused-by-7 = teaching-7 slice k (taughtFirst start) (startOf start slice .words) (begins start slice started) cs
 
     -- by 6 exactly if fewer remain and the book of these with this one more needs more words than the slice has,
     pub refused-by-6 : (os : List ℕ) (t : Tree) → IsOrder os t
         → (teachOf book os .answer .number ≡ no-room) exactly-when ((length orders < greatest-count) × (length slice < used (booked k (os ∷ orders))))
-    refused-by-6 = teaching-6 slice k long short least greatest cs
+    refused-by-6 = teaching-6 slice k (taughtFirst start) (startOf start slice .words) (begins start slice started) cs
 
     -- and is taught exactly if fewer remain and that book has room.
     pub taught-exactly : (os : List ℕ) (t : Tree) → IsOrder os t
         → (teachOf book os .answer .number ≡ done) exactly-when ((length orders < greatest-count) × (used (booked k (os ∷ orders)) ≤ length slice))
-    taught-exactly = teaching-0 slice k long short least greatest cs
+    taught-exactly = teaching-0 slice k (taughtFirst start) (startOf start slice .words) (begins start slice started) cs
 
     -- A withdrawal of an order within limits is refused by 8, "order has no entry in T", exactly if no such order remains,
     pub refused-by-8 : (os : List ℕ) (t : Tree) → IsOrder os t → (withdrawOf book os .answer .number ≡ not-taught) exactly-when (timesOf os orders ≡ 0)
-    refused-by-8 = withdrawing-8 slice k long short least greatest cs
+    refused-by-8 = withdrawing-8 slice k (taughtFirst start) (startOf start slice .words) (begins start slice started) cs
 
     -- and is done exactly if such an order remains.
     pub withdrawn-exactly : (os : List ℕ) (t : Tree) → IsOrder os t → (withdrawOf book os .answer .number ≡ done) exactly-when (1 ≤ timesOf os orders)
-    withdrawn-exactly = withdrawing-0 slice k long short least greatest cs
+    withdrawn-exactly = withdrawing-0 slice k (taughtFirst start) (startOf start slice .words) (begins start slice started) cs
+
+-- "A run that starts by reading a file counts that file's orders as taught first": a slice into which a file was read is in every word the one in which
+-- a book of the file's k was opened and the orders that its T counts were taught, each as often as it counts, and none of these teachings is refused.
+-- So every later call answers and writes the same on both.
+pub read-as-taught : (file slice : List ℕ) → readFileOf file slice .answer .number ≡ done → (other : List ℕ) → length other ≡ length slice
+    → NoneRefused (taughtFirst (reading file)) (openOf other (startK (reading file)) .words)
+    × (taughtAll (taughtFirst (reading file)) (openOf other (startK (reading file)) .words) ≡ readFileOf file slice .words)
+unfolding afterBy remainingBy
+read-as-taught file slice started other same = in-every-word (reading file) slice started [] other same (taughtFirst (reading file)) (λ os. refl)

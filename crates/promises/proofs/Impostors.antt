@@ -9,7 +9,7 @@ use mathlib.Core.List.{List, [], _∷_, _++_}
 use native.Mathlib.Omega.{arith}
 use lib.ListN.{length, getD}
 use Rattle.words.specs.Base.{if_then_else_}
-use Rattle.figures.specs.Limits.{head-words, most-book-words, least-k, greatest-k, greatest-count, live-word}
+use Rattle.figures.specs.Limits.{greatest-count, live-word}
 use Rattle.figures.specs.Numbers.{done, top-unknown}
 use Rattle.figures.specs.Answers.{answered}
 use Rattle.figures.specs.declared.Answer.{Answer}
@@ -30,9 +30,10 @@ use Rattle.effects.specs.Whys.{WhyTaught}
 use Rattle.effects.proofs.Whys.{teach-only}
 use Rattle.promises.specs.Heard.{single, pair}
 use Rattle.promises.specs.Remaining.{Call, teach, outcomeOf, afterBy, remainBy, remainingBy, booked, ExactlyThese}
+use Rattle.promises.specs.Starts.{Start, opening, startOf, taughtFirst, startK}
 use Rattle.promises.proofs.Computed.{computes}
 use Rattle.promises.proofs.Demand2.{passes-exactly}
-use Rattle.promises.proofs.Demand3.{parts-and-counts, same-length, taught-exactly}
+use Rattle.promises.proofs.Demand3.{opening-done, parts-and-counts, same-length, taught-exactly}
 use Rattle.promises.proofs.Uniqueness.{booked-is}
 use Rattle.promises.proofs.Wordings.{after-last, remaining-last}
 
@@ -212,17 +213,17 @@ module _ (g : List ℕ → List ℕ → Answer) (meets : Judging g) where
 
 -- ---- by demand 3's parts and counts
 
--- What answers calls so that, after any of them on a book opened at an allowed k and size, "its parts and counts are exactly those of the
--- orders that remain", and the slice has its length. What refuses every call and changes no word meets this too: `Accepts` shuts it out.
+-- What answers calls so that, after any of them on a book opened at an allowed k and size or read from a file, "its parts and counts are exactly
+-- those of the orders that remain", and the slice has its length. What refuses every call and changes no word meets this too: `Accepts` shuts it out.
 abbrev pub Keeps : (Call → List ℕ → Outcome) → Type 0
 Keeps answers =
-    (slice : List ℕ) (k : ℕ) → head-words ≤ length slice → length slice ≤ most-book-words → least-k ≤ k → k ≤ greatest-k → (cs : List Call)
-    → ExactlyThese k (remainingBy answers cs (openOf slice k .words) []) (afterBy answers cs (openOf slice k .words))
-    × (length (afterBy answers cs (openOf slice k .words)) ≡ length slice)
+    (start : Start) (slice : List ℕ) → startOf start slice .answer .number ≡ done → (cs : List Call)
+    → ExactlyThese (startK start) (remainingBy answers cs (startOf start slice .words) (taughtFirst start)) (afterBy answers cs (startOf start slice .words))
+    × (length (afterBy answers cs (startOf start slice .words)) ≡ length slice)
 
 -- The teaching and withdrawing here do.
 pub keeping-here : Keeps outcomeOf
-keeping-here slice k long short least greatest cs = (parts-and-counts slice k long short least greatest cs, same-length slice k long short least greatest cs)
+keeping-here start slice started cs = (parts-and-counts start slice started cs, same-length start slice started cs)
 
 -- No words hold exactly some orders and exactly these with one more: they have one book, and it has one number of live teachings.
 one-more-differs : (k : ℕ) (orders : List (List ℕ)) (os ws : List ℕ) → ExactlyThese k orders ws → ExactlyThese k (os ∷ orders) ws → ⊥
@@ -233,53 +234,56 @@ done-one-more : (os : List ℕ) (n : ℕ) (orders : List (List ℕ)) → n ≡ d
 unfolding if_then_else_
 done-one-more os n orders e = rw e refl
 
-module _ (answers : Call → List ℕ → Outcome) (keeps : Keeps answers)
-    (slice : List ℕ) (k : ℕ) (long : head-words ≤ length slice) (short : length slice ≤ most-book-words) (least : least-k ≤ k) (greatest : k ≤ greatest-k) where
-  -- The words of the slice once a book is opened in it.
-  abbrev opened : List ℕ
-  opened = openOf slice k .words
+module _ (answers : Call → List ℕ → Outcome) (keeps : Keeps answers) (start : Start) (slice : List ℕ) (started : startOf start slice .answer .number ≡ done) where
+  -- The words of the slice once the run is started.
+  abbrev begun : List ℕ
+  begun = startOf start slice .words
+
+  -- The orders that count as taught first.
+  abbrev early : List (List ℕ)
+  early = taughtFirst start
 
   -- "Learning the first order and nodding at the rest: demands 2 and 3 together." After any calls a teaching that is done changes the words.
-  pub done-writes-again : (cs : List Call) (os : List ℕ) → answers (teach os) (afterBy answers cs opened) .answer .number ≡ done
-      → answers (teach os) (afterBy answers cs opened) .words ≡ afterBy answers cs opened → ⊥
+  pub done-writes-again : (cs : List Call) (os : List ℕ) → answers (teach os) (afterBy answers cs begun) .answer .number ≡ done
+      → answers (teach os) (afterBy answers cs begun) .words ≡ afterBy answers cs begun → ⊥
   done-writes-again cs os is-done same =
-      let orders : List (List ℕ) = remainingBy answers cs opened [] in
-      let ws : List ℕ = afterBy answers cs opened in
-      let more : remainingBy answers (cs ++ (teach os ∷ [])) opened [] ≡ os ∷ orders = remaining-last answers (teach os) cs opened [] ∙ done-one-more os _ orders is-done in
-      let unchanged : afterBy answers (cs ++ (teach os ∷ [])) opened ≡ ws = after-last answers (teach os) cs opened ∙ same in
-      let later : ExactlyThese k (os ∷ orders) (afterBy answers (cs ++ (teach os ∷ [])) opened) =
-      subst (λ (ps : List (List ℕ)). ExactlyThese k ps (afterBy answers (cs ++ (teach os ∷ [])) opened)) more (keeps slice k long short least greatest (cs ++ (teach os ∷ [])) .0) in
-      one-more-differs k orders os ws (keeps slice k long short least greatest cs .0) (subst (ExactlyThese k (os ∷ orders)) unchanged later)
+      let orders : List (List ℕ) = remainingBy answers cs begun early in
+      let ws : List ℕ = afterBy answers cs begun in
+      let more : remainingBy answers (cs ++ (teach os ∷ [])) begun early ≡ os ∷ orders = remaining-last answers (teach os) cs begun early ∙ done-one-more os _ orders is-done in
+      let unchanged : afterBy answers (cs ++ (teach os ∷ [])) begun ≡ ws = after-last answers (teach os) cs begun ∙ same in
+      let later : ExactlyThese (startK start) (os ∷ orders) (afterBy answers (cs ++ (teach os ∷ [])) begun) =
+      subst (λ (ps : List (List ℕ)). ExactlyThese (startK start) ps (afterBy answers (cs ++ (teach os ∷ [])) begun)) more (keeps start slice started (cs ++ (teach os ∷ [])) .0) in
+      one-more-differs (startK start) orders os ws (keeps start slice started cs .0) (subst (ExactlyThese (startK start) (os ∷ orders)) unchanged later)
 
   -- "Teaching that writes nothing: demand 3's parts and counts, which are demand 2's definitions over the remaining orders." A teaching of the
-  -- opened book that is done changes the words.
-  pub done-writes : (os : List ℕ) → answers (teach os) opened .answer .number ≡ done → answers (teach os) opened .words ≡ opened → ⊥
+  -- book that a run starts with, if it is done, changes the words.
+  pub done-writes : (os : List ℕ) → answers (teach os) begun .answer .number ≡ done → answers (teach os) begun .words ≡ begun → ⊥
   unfolding afterBy
   done-writes os = done-writes-again [] os
 
   -- "Word 2 or a count invented: the definition of counts and demand 3." After any calls word 2 is the number of orders that remain.
-  pub live-counted : (cs : List Call) → getD (afterBy answers cs opened) live-word 0 ≡ length (remainingBy answers cs opened [])
+  pub live-counted : (cs : List Call) → getD (afterBy answers cs begun) live-word 0 ≡ length (remainingBy answers cs begun early)
   unfolding live
-  live-counted cs = let x = keeps slice k long short least greatest cs .0 in head-says (afterBy answers cs opened) (x .book) (x .isBook) .2 ∙ x .lives
+  live-counted cs = let x = keeps start slice started cs .0 in head-says (afterBy answers cs begun) (x .book) (x .isBook) .2 ∙ x .lives
 
   -- "Word 2 or a count invented: the definition of counts and demand 3." No word is left to invent: after any calls the slice is that of the book
   -- of the orders that remain.
-  pub counts-kept : (cs : List Call) → afterBy answers cs opened ≡ lay (length slice) (booked k (remainingBy answers cs opened []))
+  pub counts-kept : (cs : List Call) → afterBy answers cs begun ≡ lay (length slice) (booked (startK start) (remainingBy answers cs begun early))
   counts-kept cs =
-      let x = keeps slice k long short least greatest cs in
-      sym (x .0 .isBook .laid) ∙ ap₂ lay (x .1) (booked-is k (remainingBy answers cs opened []) (afterBy answers cs opened) (x .0))
+      let x = keeps start slice started cs in
+      sym (x .0 .isBook .laid) ∙ ap₂ lay (x .1) (booked-is (startK start) (remainingBy answers cs begun early) (afterBy answers cs begun) (x .0))
 
 -- ---- by the exact conditions of 6 and 7
 
--- What answers calls so that, after any of them on a book opened at an allowed k and size, an order within limits is taught exactly if fewer
--- than 65,535 orders remain and the book of these with this one more has room.
+-- What answers calls so that, after any of them on a book opened at an allowed k and size or read from a file, an order within limits is taught
+-- exactly if fewer than 65,535 orders remain and the book of these with this one more has room.
 abbrev pub Accepts : (Call → List ℕ → Outcome) → Type 0
 Accepts answers =
-    (slice : List ℕ) (k : ℕ) → head-words ≤ length slice → length slice ≤ most-book-words → least-k ≤ k → k ≤ greatest-k
+    (start : Start) (slice : List ℕ) → startOf start slice .answer .number ≡ done
     → (cs : List Call) (os : List ℕ) (t : Tree) → IsOrder os t
-    → (answers (teach os) (afterBy answers cs (openOf slice k .words)) .answer .number ≡ done) exactly-when
-    ((length (remainingBy answers cs (openOf slice k .words) []) < greatest-count)
-    × (used (booked k (os ∷ remainingBy answers cs (openOf slice k .words) [])) ≤ length slice))
+    → (answers (teach os) (afterBy answers cs (startOf start slice .words)) .answer .number ≡ done) exactly-when
+    ((length (remainingBy answers cs (startOf start slice .words) (taughtFirst start)) < greatest-count)
+    × (used (booked (startK start) (os ∷ remainingBy answers cs (startOf start slice .words) (taughtFirst start))) ≤ length slice))
 
 -- The teaching and withdrawing here do.
 pub accepting-here : Accepts outcomeOf
@@ -295,5 +299,6 @@ node-needs = refl
 pub refusing-calls : (answers : Call → List ℕ → Outcome) → Accepts answers → ((os ws : List ℕ) → answers (teach os) ws .answer .number ≡ done → ⊥) → ⊥
 unfolding afterBy remainingBy
 refusing-calls answers accepts none =
-    let first = accepts blank 2 (omega arith) (omega arith) (omega arith) (omega arith) [] (words single) single single-order in
+    let opens : openOf blank 2 .answer .number ≡ done = ap (λ (a : Answer). a .number) (opening-done blank 2 (omega arith) (omega arith) (omega arith) (omega arith)) in
+    let first = accepts (opening 2) blank opens [] (words single) single single-order in
     none (words single) (openOf blank 2 .words) (first .1 (omega arith, omega (arith, node-needs)))

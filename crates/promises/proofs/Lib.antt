@@ -8,6 +8,9 @@ pub mod Whys
 pub mod PartWhys
 pub mod Conditions
 pub mod Checks
+pub mod FileWhys
+pub mod Starting
+pub mod FileTrips
 pub mod LineNumbers
 pub mod Contracts
 mod Computed
@@ -19,3 +22,4 @@ pub mod Uniqueness
 pub mod Wordings
 pub mod Impostors
 mod Rows
+mod FileRows

@@ -15,13 +15,17 @@ use Rattle.judge.specs.Judging.{judgeOf}
 use Rattle.judge.specs.Verdicts.{passing, no-top, no-low, no-middle, Judged, no-book, no-order, judged}
 use Rattle.judge.proofs.Answers.{judged-is}
 use Rattle.agree.specs.Checking.{checkOf as agreesOf}
+use Rattle.store.specs.Files.{writeFileOf, readFileOf}
 use Rattle.promises.specs.Whys.{WhyNumbered, numbered, WhyCut, cut-no-order, cut-lacks, cut-short, cut-written}
 use Rattle.promises.specs.Whys.{WhyPart, part-no-order, part-lacks, low-short, low-written, middle-short, middle-written}
 use Rattle.promises.specs.Whys.{WhyOpened, slice-short, slice-long, k-below, k-above, opened, WhyChecked, check-no-book, disagrees, agrees}
 use Rattle.promises.specs.Whys.{WhyPrinted, print-no-order, print-short, printed, WhyRead, no-bytes, at-fault, read-short, read}
+use Rattle.promises.specs.Whys.{WhyFiled, file-no-book, file-disagrees, file-short, filed}
+use Rattle.promises.specs.Whys.{WhyRestored, restore-shorter, restore-longer, few-bytes, wrong-mark, wrong-version, no-used-words, restore-disagrees, restore-no-room, restores}
 use Rattle.promises.proofs.Whys.{opened-why, printed-why, read-why}
 use Rattle.promises.proofs.PartWhys.{numbered-why, cut-why, part-why}
 use Rattle.promises.proofs.Checks.{checked-why}
+use Rattle.promises.proofs.FileWhys.{filed-why, restored-why}
 
 -- ---- lines of equal answers
 
@@ -143,3 +147,32 @@ read-line text out not-2 not-10 = go (read-why text out)
     go (at-fault n line e o f) = absurd (fault-number _ _ n (f .why) (λ i. not-2 (number e ∙ i)) (λ i. not-10 (number e ∙ i)))
     go (read-short t e x q h) = writing-line e
     go (read t e x q l) = writing-line e
+
+-- ---- files
+
+-- Writing a file: line 0.
+pub filed-line : (ws out : List ℕ) → writeFileOf ws out .answer .line ≡ 0
+filed-line ws out = go (filed-why ws out)
+  where
+    -- By the row of writing.
+    go : WhyFiled ws out (writeFileOf ws out) → writeFileOf ws out .answer .line ≡ 0
+    go (file-no-book n e w) = writing-line e
+    go (file-disagrees b e i x) = writing-line e
+    go (file-short b e i g h) = writing-line e
+    go (filed b e i g h) = writing-line e
+
+-- Reading a file: line 0.
+pub restored-line : (file ws : List ℕ) → readFileOf file ws .answer .line ≡ 0
+restored-line file ws = go (restored-why file ws)
+  where
+    -- By the row of reading.
+    go : WhyRestored file ws (readFileOf file ws) → readFileOf file ws .answer .line ≡ 0
+    go (restore-shorter e h) = outcome-line e
+    go (restore-longer e h) = outcome-line e
+    go (few-bytes e z h) = outcome-line e
+    go (wrong-mark e z l x) = outcome-line e
+    go (wrong-version high low rest e z f x) = outcome-line e
+    go (no-used-words high low rest e z f v x) = outcome-line e
+    go (restore-disagrees b e z f x) = outcome-line e
+    go (restore-no-room b e z f g h) = outcome-line e
+    go (restores b e z f g h) = outcome-line e

@@ -229,54 +229,70 @@ calls-agree (withdraw os ∷ cs) ws b is a = let c = withdraw-agrees ws os b is 
 
 -- ---- the book after calls
 
-module _ (slice : List ℕ) (k : ℕ) (long : head-words ≤ length slice) (short : length slice ≤ most-book-words) (least : least-k ≤ k) (greatest : k ≤ greatest-k) where
-  -- The words of the slice once a book is opened in it.
-  abbrev pub opened : List ℕ
-  opened = openOf slice k .words
+-- What a run starts with: a slice of a size for a book, an allowed k, and words that are the book of the orders that count as taught first, which
+-- agrees with itself.
+pub record Begun (slice : List ℕ) (k : ℕ) (first : List (List ℕ)) (ws : List ℕ) : Type 0 where
+  pub long : head-words ≤ length slice
+  pub short : length slice ≤ most-book-words
+  pub least : least-k ≤ k
+  pub greatest : k ≤ greatest-k
+  pub kept : Kept (length slice) k first ws
+  pub agrees : (b : Book) × (decode ws ≡ some b) × (agreeing b ≡ true)
 
-  -- Opening is done.
-  pub opens : openOf slice k .answer ≡ answered done
-  opens = ap (λ (o : Outcome). o .answer) (opening slice k long short least greatest)
+-- A run may start with an opened book, of no orders.
+pub opened-begun : (slice : List ℕ) (k : ℕ) → head-words ≤ length slice → length slice ≤ most-book-words → least-k ≤ k → k ≤ greatest-k → Begun slice k [] (openOf slice k .words)
+opened-begun slice k long short least greatest = record {
+  long = long;
+  short = short;
+  least = least;
+  greatest = greatest;
+  kept = opened-kept slice k long short least greatest;
+  agrees = (bookOf k [], book-decode (openOf slice k .words) (bookOf k []) (opening-book slice k long short least greatest), empty-agrees k);
+}
 
-  module _ (cs : List Call) where
-    -- After the calls the book is that of the orders that remain.
-    pub after-kept : Kept (length slice) k (remaining cs opened []) (after cs opened)
-    after-kept = calls-keep slice k long short least greatest cs [] opened (opened-kept slice k long short least greatest)
+module _ (slice : List ℕ) (k : ℕ) (first : List (List ℕ)) (ws : List ℕ) (begun : Begun slice k first ws) (cs : List Call) where
+  -- After the calls the book is that of the orders that remain.
+  pub after-kept : Kept (length slice) k (remaining cs ws first) (after cs ws)
+  after-kept = calls-keep slice k (begun .long) (begun .short) (begun .least) (begun .greatest) cs first ws (begun .kept)
 
-    -- "Its parts and counts are exactly those of the orders that remain."
-    pub holds-exactly : ExactlyThese k (remaining cs opened []) (after cs opened)
-    holds-exactly =
-        let orders : List (List ℕ) = remaining cs opened [] in
-        let all : Orders orders = after-kept .limits in
-        record {
-          book = booked k orders;
-          isBook = kept-book slice k long short least greatest orders (after cs opened) after-kept;
-          depth = booked-k k orders all;
-          lives = booked-live k orders all;
-          taught = counts-taught k orders all;
-          tops = λ u. counts-tops k orders all u least;
-          lows = λ u. counts-lows k orders all u least;
-          middles = λ u. counts-middles k orders all u least;
-        }
+  -- The slice keeps its length.
+  pub after-long : length (after cs ws) ≡ length slice
+  after-long = kept-long slice k (begun .long) (begun .short) (begun .least) (begun .greatest) (remaining cs ws first) (after cs ws) after-kept
 
-    -- Just the orders that remain, taught in whichever order in a book opened elsewhere at the same k in as many words, are taught with no
-    -- refusal, and every word is then the same.
-    pub taught-alone : (other : List ℕ) → length other ≡ length slice → (qs : List (List ℕ)) → SameOrders qs (remaining cs opened [])
-        → NoneRefused qs (openOf other k .words) × (taughtAll qs (openOf other k .words) ≡ after cs opened)
-    unfolding timesOf
-    taught-alone other same-length qs same =
-        let orders : List (List ℕ) = remaining cs opened [] in
-        let kept = after-kept in
-        let turned : SameOrders (onto qs []) orders = λ os. omega (arith, times-onto os qs [], same os) in
-        let book : booked k (onto qs []) ≡ booked k orders = same-book k (onto qs []) orders turned (kept .limits) in
-        let all : Orders (onto qs []) = same-fit (onto qs []) orders turned (kept .limits) in
-        let many : length (onto qs []) ≡ length orders = sym (booked-live k (onto qs []) all) ∙ ap live book ∙ booked-live k orders (kept .limits) in
-        let l : head-words ≤ length other = omega arith in
-        let s : length other ≤ most-book-words = omega arith in
-        let t = teaches-all other k l s least greatest qs [] (openOf other k .words) (opened-kept other k l s least greatest) (same-fit qs orders same (kept .limits))
-        (omega (arith, kept .few)) (omega (arith, kept .room, ap used book)) in
-        (t .0, t .1 ∙ ap₂ lay same-length book ∙ sym (kept .laid))
+  -- "Its parts and counts are exactly those of the orders that remain."
+  pub holds-exactly : ExactlyThese k (remaining cs ws first) (after cs ws)
+  holds-exactly =
+      let orders : List (List ℕ) = remaining cs ws first in
+      let all : Orders orders = after-kept .limits in
+      record {
+        book = booked k orders;
+        isBook = kept-book slice k (begun .long) (begun .short) (begun .least) (begun .greatest) orders (after cs ws) after-kept;
+        depth = booked-k k orders all;
+        lives = booked-live k orders all;
+        taught = counts-taught k orders all;
+        tops = λ u. counts-tops k orders all u (begun .least);
+        lows = λ u. counts-lows k orders all u (begun .least);
+        middles = λ u. counts-middles k orders all u (begun .least);
+      }
 
-    -- The book "agrees with itself".
-    pub agrees : (b : Book) × (decode (after cs opened) ≡ some b) × (agreeing b ≡ true)
-    agrees = calls-agree cs opened (bookOf k []) (book-decode opened (bookOf k []) (opening-book slice k long short least greatest)) (empty-agrees k)
+  -- Just the orders that remain, taught in whichever order in a book opened elsewhere at the same k in as many words, are taught with no
+  -- refusal, and every word is then the same.
+  pub taught-alone : (other : List ℕ) → length other ≡ length slice → (qs : List (List ℕ)) → SameOrders qs (remaining cs ws first)
+      → NoneRefused qs (openOf other k .words) × (taughtAll qs (openOf other k .words) ≡ after cs ws)
+  unfolding timesOf
+  taught-alone other same-length qs same =
+      let orders : List (List ℕ) = remaining cs ws first in
+      let kept = after-kept in
+      let turned : SameOrders (onto qs []) orders = λ os. omega (arith, times-onto os qs [], same os) in
+      let book : booked k (onto qs []) ≡ booked k orders = same-book k (onto qs []) orders turned (kept .limits) in
+      let all : Orders (onto qs []) = same-fit (onto qs []) orders turned (kept .limits) in
+      let many : length (onto qs []) ≡ length orders = sym (booked-live k (onto qs []) all) ∙ ap live book ∙ booked-live k orders (kept .limits) in
+      let l : head-words ≤ length other = omega (arith, begun .long) in
+      let s : length other ≤ most-book-words = omega (arith, begun .short) in
+      let t = teaches-all other k l s (begun .least) (begun .greatest) qs [] (openOf other k .words) (opened-kept other k l s (begun .least) (begun .greatest)) (same-fit qs orders same (kept .limits))
+      (omega (arith, kept .few)) (omega (arith, kept .room, ap used book)) in
+      (t .0, t .1 ∙ ap₂ lay same-length book ∙ sym (kept .laid))
+
+  -- The book "agrees with itself".
+  pub after-agrees : (b : Book) × (decode (after cs ws) ≡ some b) × (agreeing b ≡ true)
+  after-agrees = calls-agree cs ws (begun .agrees .0) (begun .agrees .1) (begun .agrees .2)

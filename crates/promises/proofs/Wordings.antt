@@ -1,17 +1,20 @@
 -- That what demand 3 is said with is no less than its words: the same orders in whichever order, as often as each remains, none refused, and
--- the orders that remain after any sequence by what its last call does. Assumes nothing.
-use Prim.Native.Nat.{ℕ, _+_, _≤_}
+-- the orders that remain after any sequence by what its last call does, and a file's orders by what its T counts. Assumes nothing.
+use Prim.Native.Nat.{ℕ, zero, suc, _+_, _≤_}
 use mathlib.Core.Path.{_≡_, refl, sym, _∙_}
 use mathlib.Core.Bool.{Bool, true, false}
 use mathlib.Core.List.{List, [], _∷_, _++_}
 use native.Mathlib.Omega.{arith}
+use lib.ListN.{replicate}
 use Rattle.words.specs.Base.{if_then_else_, sameWords}
 use Rattle.words.proofs.Tests.{same-words, words-same}
 use Rattle.figures.specs.Numbers.{done}
 use Rattle.figures.specs.Answers.{answered}
+use Rattle.section.specs.Entries.{Entry, countsFor, countOf}
 use Rattle.book.specs.Opening.{Outcome}
 use Rattle.teach.specs.Calls.{teachOf}
 use Rattle.promises.specs.Remaining.{Call, outcomeOf, afterBy, after, without, remainBy, remainingBy, remaining, timesOf, SameOrders, taughtAll, NoneRefused}
+use Rattle.promises.specs.Starts.{ordersIn}
 use Rattle.promises.proofs.Orders.{times-without}
 
 -- ---- "in whichever order"
@@ -141,3 +144,28 @@ pub each-done : (ps rest : List (List ℕ)) (os ws : List ℕ) → NoneRefused (
 unfolding NoneRefused taughtAll
 each-done [] rest os ws n = n .0
 each-done (p ∷ ps) rest os ws n = each-done ps rest os (teachOf ws p .words) (n .1)
+
+-- ---- "counts that file's orders as taught first"
+
+-- An order so many times and others: it stands among them so many times more,
+own-more : (os : List ℕ) (n : ℕ) (rest : List (List ℕ)) → timesOf os (replicate n os ++ rest) ≡ n + timesOf os rest
+unfolding timesOf if_then_else_
+own-more os zero rest = omega arith
+own-more os (suc n) rest = rw (same-words os) (omega (arith, own-more os n rest))
+
+-- and another as often as without it.
+others-more : (ps os : List ℕ) (n : ℕ) (rest : List (List ℕ)) → sameWords ps os ≡ false → timesOf os (replicate n ps ++ rest) ≡ timesOf os rest
+unfolding timesOf if_then_else_
+others-more ps os zero rest x = refl
+others-more ps os (suc n) rest x = rw x (omega (arith, others-more ps os n rest x))
+
+-- Among the orders that a T counts each stands as often as T counts it: a file's orders are those of its T, neither more nor fewer.
+pub first-as-counted : (os : List ℕ) (es : List Entry) → timesOf os (ordersIn es) ≡ countOf os es
+unfolding ordersIn timesOf countOf countsFor if_then_else_
+first-as-counted os [] = refl
+first-as-counted os (e ∷ es) = go (sameWords (e .key) os) refl (first-as-counted os es)
+  where
+    -- By whether the first entry is the order's.
+    go : (b : Bool) → sameWords (e .key) os ≡ b → timesOf os (ordersIn es) ≡ countOf os es → timesOf os (replicate (e .count) (e .key) ++ ordersIn es) ≡ (if b then e .count else 0) + countOf os es
+    go true x next = rw (words-same (e .key) os x) (omega (arith, own-more os (e .count) (ordersIn es), next))
+    go false x next = omega (arith, others-more (e .key) os (e .count) (ordersIn es) x, next)

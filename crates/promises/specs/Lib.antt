@@ -1,5 +1,6 @@
 -- The definitions that the demands are said with.
 pub mod Remaining
+pub mod Starts
 pub mod Heard
 pub mod Agreement
 pub mod Whys

@@ -1,14 +1,14 @@
 -- The rows of 01's table that numbering an order, handing out and writing its parts, asking for a k, opening, checking, and reading and
--- writing a form can answer, by trees, lines and sizes, apart from the tests of their definitions ("Numbers the desk hears"). Those of a
+-- writing a form or a file can answer, by trees, lines and sizes, apart from the tests of their definitions ("Numbers the desk hears"). Those of a
 -- book's form are in book/specs/Sound.antt, of judging in judge/specs/Verdicts.antt, of teaching and withdrawing in effects/specs/Whys.antt.
 -- Assumes nothing: these are definitions.
-use Prim.Native.Nat.{ℕ, _-_, _*_, _≤_, _<_}
+use Prim.Native.Nat.{ℕ, _+_, _-_, _*_, _≤_, _<_}
 use mathlib.Core.Path.{_≡_}
-use mathlib.Core.List.{List, []}
+use mathlib.Core.List.{List, [], _∷_, _++_}
 use lib.ListN.{length, take, drop}
 use Rattle.words.specs.Base.{over}
 use Rattle.figures.specs.Limits.{head-words, most-book-words, least-k, greatest-k}
-use Rattle.figures.specs.Numbers.{done, k-outside, book-size, not-agreeing, no-form, short-output}
+use Rattle.figures.specs.Numbers.{done, k-outside, book-size, no-room, not-agreeing, no-form, short-output, no-mark, other-version, no-stored-book}
 use Rattle.figures.specs.Answers.{answered, wrote, refusedAt}
 use Rattle.figures.specs.declared.Answer.{Answer}
 use Rattle.figures.specs.declared.depths.Asked.{Asked}
@@ -21,11 +21,12 @@ use Rattle.order.specs.Answers.{lineOf, Writing, writing, refuse, PartWriting, 
 use Rattle.order.specs.declared.Kind.the-variants.{Low, Middle}
 use Rattle.form.specs.Text.{textOf}
 use Rattle.form.specs.Faults.{FirstFault}
-use Rattle.book.specs.Book.{Book}
-use Rattle.book.specs.Sound.{IsBook, WhyForm}
+use Rattle.book.specs.Book.{Book, used}
+use Rattle.book.specs.Sound.{SoundBook, IsBook, WhyForm}
 use Rattle.book.specs.Taught.{emptyBook}
 use Rattle.book.specs.Opening.{Outcome, leave, writeBook}
 use Rattle.book.specs.declared.BookForm.the-variants.{Refused}
+use Rattle.store.specs.Files.{mark, mark-bytes, version, front-bytes, fileOf}
 use Rattle.promises.specs.Agreement.{Agrees}
 
 -- ---- orders and their parts
@@ -138,3 +139,48 @@ pub data WhyRead (text out : List ℕ) (w : Writing) : Type 0 where
   read-short : (t : Tree) → w ≡ refuse short-output out → text ≡ textOf t → IsOrder (words t) t → length out < length (words t) → WhyRead text out w
   -- 0: the order's words at the front of the output
   read : (t : Tree) → w ≡ writing (wrote done (length (words t))) (over (words t) out) → text ≡ textOf t → IsOrder (words t) t → length (words t) ≤ length out → WhyRead text out w
+
+-- ---- files
+
+-- The bytes are the file of a book in form: "Bytes "OFB", version 1 as 16 bits, then the used words".
+pub record IsFile (file : List ℕ) (b : Book) : Type 0 where
+  pub sound : SoundBook b
+  pub short : used b ≤ most-book-words
+  pub bytes : file ≡ fileOf b
+
+-- "A lent slice of 7 to 16,384 words."
+abbrev pub BookSized : List ℕ → Type 0
+BookSized ws = (head-words ≤ length ws) × (length ws ≤ most-book-words)
+
+-- Why writing a book's file gives w: "Write file: 4, 5, 9, 11."
+pub data WhyFiled (ws out : List ℕ) (w : Writing) : Type 0 where
+  -- 4 and 5
+  file-no-book : (n : ℕ) → w ≡ refuse n out → WhyForm ws (Refused n) → WhyFiled ws out w
+  -- 9: "Only a book that agrees with itself is written."
+  file-disagrees : (b : Book) → w ≡ refuse not-agreeing out → IsBook ws b → (Agrees b → ⊥) → WhyFiled ws out w
+  -- 11: "lent output too short"
+  file-short : (b : Book) → w ≡ refuse short-output out → IsBook ws b → Agrees b → length out < length (fileOf b) → WhyFiled ws out w
+  -- 0: the file at the front of the output
+  filed : (b : Book) → w ≡ writing (wrote done (length (fileOf b))) (over (fileOf b) out) → IsBook ws b → Agrees b → length (fileOf b) ≤ length out → WhyFiled ws out w
+
+-- Why reading a file into a slice gives o: "Read file: 4, 12, 13, 14, 9, 6."
+pub data WhyRestored (file ws : List ℕ) (o : Outcome) : Type 0 where
+  -- 4: "book slice shorter than 7"
+  restore-shorter : o ≡ leave ws book-size → length ws < head-words → WhyRestored file ws o
+  -- 4: "or longer than 16,384 words"
+  restore-longer : o ≡ leave ws book-size → most-book-words < length ws → WhyRestored file ws o
+  -- 12: "under 5 bytes"
+  few-bytes : o ≡ leave ws no-mark → BookSized ws → length file < front-bytes → WhyRestored file ws o
+  -- 12: "or wrong mark"
+  wrong-mark : o ≡ leave ws no-mark → BookSized ws → front-bytes ≤ length file → (take mark-bytes file ≡ mark → ⊥) → WhyRestored file ws o
+  -- 13: "version not 1"
+  wrong-version : (high low : ℕ) (rest : List ℕ) → o ≡ leave ws other-version → BookSized ws → file ≡ mark ++ (high ∷ low ∷ rest) → (high * 256 + low ≡ version → ⊥) → WhyRestored file ws o
+  -- 14: "the rest is not the used words of a book in form"
+  no-used-words : (high low : ℕ) (rest : List ℕ) → o ≡ leave ws no-stored-book → BookSized ws → file ≡ mark ++ (high ∷ low ∷ rest) → high * 256 + low ≡ version
+      → ((b : Book) → IsFile file b → ⊥) → WhyRestored file ws o
+  -- 9: "book does not agree with itself"
+  restore-disagrees : (b : Book) → o ≡ leave ws not-agreeing → BookSized ws → IsFile file b → (Agrees b → ⊥) → WhyRestored file ws o
+  -- 6: "the result needs more words than the book slice has"
+  restore-no-room : (b : Book) → o ≡ leave ws no-room → BookSized ws → IsFile file b → Agrees b → length ws < used b → WhyRestored file ws o
+  -- 0: the book, in the whole slice
+  restores : (b : Book) → o ≡ writeBook ws b → BookSized ws → IsFile file b → Agrees b → used b ≤ length ws → WhyRestored file ws o

@@ -1,0 +1,84 @@
+-- A book that agrees with itself goes to its file and back into a slice of its own length in every word, and what reads without refusal is written back
+-- to the same bytes. Assumes nothing.
+use Prim.Native.Nat.{ℕ}
+use mathlib.Core.Path.{_≡_, refl, sym, ap, _∙_}
+use mathlib.Core.List.{List}
+use native.Mathlib.Omega.{arith}
+use lib.ListN.{length, take}
+use lib.Seq.{take-append-seam}
+use Rattle.figures.specs.Numbers.{done}
+use Rattle.figures.specs.Answers.{answered}
+use Rattle.order.specs.Answers.{Writing, writing, write}
+use Rattle.book.specs.Book.{Book, lay}
+use Rattle.book.specs.Sound.{IsBook}
+use Rattle.book.specs.Opening.{Outcome, outcome}
+use Rattle.book.proofs.Meaning.{lay-long, used-fits}
+use Rattle.effects.proofs.Calling.{number-is}
+use Rattle.store.specs.Files.{fileOf, writeFileOf, readFileOf}
+use Rattle.promises.specs.Agreement.{Agrees}
+use Rattle.promises.specs.Whys.{IsFile, WhyFiled, file-no-book, file-disagrees, file-short, filed}
+use Rattle.promises.specs.Whys.{BookSized, WhyRestored, restore-shorter, restore-longer, few-bytes, wrong-mark, wrong-version, no-used-words, restore-disagrees, restore-no-room, restores}
+use Rattle.promises.proofs.FileWhys.{form-refuses, agrees-filed, filed-why, file-read, restored-why}
+
+-- ---- a book that agrees with itself
+
+module _ (ws : List ℕ) (b : Book) (i : IsBook ws b) (g : Agrees b) where
+  -- Its file is a file of it.
+  own-file : IsFile (fileOf b) b
+  own-file = record { sound = i .sound; short = omega (arith, used-fits ws b (i .laid), i .short); bytes = refl }
+
+  -- Its file is read back into a slice of its own length to the same words.
+  pub file-back : (slice : List ℕ) → length slice ≡ length ws → readFileOf (fileOf b) slice ≡ outcome (answered done) ws
+  file-back slice e =
+      let z : BookSized slice = (omega (arith, i .long), omega (arith, i .short)) in
+      file-read (fileOf b) slice z b own-file g (omega (arith, used-fits ws b (i .laid)))
+      ∙ ap (outcome (answered done)) (ap (λ (n : ℕ). lay n b) e ∙ i .laid)
+
+-- ---- any words
+
+-- The bytes that were written without refusal are read back into a slice of the book's length to the same words.
+pub filed-back : (ws out : List ℕ) → writeFileOf ws out .answer .number ≡ done → (slice : List ℕ) → length slice ≡ length ws
+    → readFileOf (take (writeFileOf ws out .answer .count) (writeFileOf ws out .out)) slice ≡ outcome (answered done) ws
+filed-back ws out d slice same = go (filed-why ws out)
+  where
+    -- The number of a writing that is known.
+    number : {w : Writing} → writeFileOf ws out ≡ w → writeFileOf ws out .answer .number ≡ w .answer .number
+    number e = ap (λ (w : Writing). w .answer .number) e
+
+    -- What was written.
+    sent : Writing → List ℕ
+    sent w = take (w .answer .count) (w .out)
+
+    -- By the row of writing.
+    go : WhyFiled ws out (writeFileOf ws out) → readFileOf (sent (writeFileOf ws out)) slice ≡ outcome (answered done) ws
+    go (file-no-book n e w) = absurd (form-refuses ws n w (sym (number e) ∙ d))
+    go (file-disagrees b e i x) = absurd (omega (arith, d, number e))
+    go (file-short b e i g h) = absurd (omega (arith, d, number e))
+    go (filed b e i g h) =
+        ap (λ (w : Writing). readFileOf (sent w) slice) e
+        ∙ ap (λ (l : List ℕ). readFileOf l slice) (take-append-seam (fileOf b) _)
+        ∙ file-back ws b i g slice same
+
+-- The words that a file was read to without refusal are written back to the same bytes, or answered by 11 where the later output is too short.
+pub read-back-filed : (file slice : List ℕ) → readFileOf file slice .answer .number ≡ done → (out : List ℕ) → writeFileOf (readFileOf file slice .words) out ≡ write file out
+read-back-filed file slice d out = go (restored-why file slice)
+  where
+    -- By the row of reading.
+    go : WhyRestored file slice (readFileOf file slice) → writeFileOf (readFileOf file slice .words) out ≡ write file out
+    go (restore-shorter e h) = absurd (omega (arith, d, number-is e))
+    go (restore-longer e h) = absurd (omega (arith, d, number-is e))
+    go (few-bytes e z h) = absurd (omega (arith, d, number-is e))
+    go (wrong-mark e z l x) = absurd (omega (arith, d, number-is e))
+    go (wrong-version high low rest e z f x) = absurd (omega (arith, d, number-is e))
+    go (no-used-words high low rest e z f v x) = absurd (omega (arith, d, number-is e))
+    go (restore-disagrees b e z f x) = absurd (omega (arith, d, number-is e))
+    go (restore-no-room b e z f g h) = absurd (omega (arith, d, number-is e))
+    go (restores b e z f g h) =
+        let n : length (lay (length slice) b) ≡ length slice = lay-long (length slice) b h in
+        let i : IsBook (lay (length slice) b) b = record {
+          long = omega (arith, z .0);
+          short = omega (arith, z .1);
+          sound = f .sound;
+          laid = ap (λ (m : ℕ). lay m b) n;
+        } in
+        ap (λ (o : Outcome). writeFileOf (o .words) out) e ∙ agrees-filed (lay (length slice) b) out b i g ∙ ap (λ (l : List ℕ). write l out) (sym (f .bytes))

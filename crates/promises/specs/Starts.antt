@@ -1,0 +1,34 @@
+-- How a run of calls on one book starts, and the orders that count as taught first (01, "Stored book, version 1"; demand 3). Assumes nothing: these
+-- are definitions.
+use Prim.Native.Nat.{ℕ}
+use mathlib.Core.List.{List, [], _∷_, _++_}
+use lib.ListN.{drop, replicate}
+use Rattle.section.specs.Entries.{Entry}
+use Rattle.book.specs.Decoding.{byBook}
+use Rattle.book.specs.Opening.{Outcome, openOf}
+use Rattle.store.specs.Files.{front-bytes, storedIn, readFileOf}
+
+-- A run starts with an empty book of some k, or "by reading a file".
+pub data Start : Type 0 where
+  opening : ℕ → Start
+  reading : List ℕ → Start
+
+-- What starting in a slice answers, and the words then.
+abbrev pub startOf : Start → List ℕ → Outcome
+startOf (opening k) ws = openOf ws k
+startOf (reading file) ws = readFileOf file ws
+
+-- The orders that a section T counts, each as often as it counts.
+unfoldable pub ordersIn : List Entry → List (List ℕ)
+ordersIn [] = []
+ordersIn (e ∷ es) = replicate (e .count) (e .key) ++ ordersIn es
+
+-- "A run that starts by reading a file counts that file's orders as taught first."
+abbrev pub taughtFirst : Start → List (List ℕ)
+taughtFirst (opening k) = []
+taughtFirst (reading file) = byBook (storedIn (drop front-bytes file)) [] (λ b. ordersIn (b .T))
+
+-- The k of the book that a run starts with.
+abbrev pub startK : Start → ℕ
+startK (opening k) = k
+startK (reading file) = byBook (storedIn (drop front-bytes file)) 0 (λ b. b .k)

@@ -1,0 +1,36 @@
+-- `store::stored_number` meets its contract, by whether all the words are used. Assumes nothing.
+use Prim.Native.Nat.{ℕ}
+use mathlib.Core.Path.{_≡_, ap, _∙_}
+use mathlib.Core.List.{List}
+use lib.ListN.{length}
+use borrow.Author.Tests.{eq-eqb, ne-eqb}
+use borrow.Author.Needs.{needs}
+use Rattle.words.specs.Base.{if_then_else_}
+use Rattle.figures.specs.Numbers.{no-stored-book}
+use Rattle.figures.specs.declared.Answer.{Answer}
+use Rattle.agree.specs.Checking.{checkOf}
+use Rattle.store.specs.Files.{storedNumber}
+use Rattle.store.proofs.stored_number.Statement.{statement}
+use Rattle.store.proofs.stored_number.Tie as tie
+
+-- Words that are not all used are answered by 14.
+more-words : (ws : List ℕ) (n : ℕ) → (n ≡ length ws → ⊥) → no-stored-book ≡ storedNumber ws n
+unfolding storedNumber if_then_else_
+more-words ws n x = rw (ne-eqb n (length ws) x)
+
+-- Words that are all used are answered as a check of them is.
+just-used : (ws : List ℕ) (n : ℕ) → n ≡ length ws → checkOf ws .number ≡ storedNumber ws n
+unfolding storedNumber if_then_else_
+just-used ws n e = rw (eq-eqb n (length ws) e)
+
+returns : tie.Need-returns
+returns c = more-words _ _ (c .if1 .taken)
+
+check-sections-requires : tie.Need-check-sections-requires
+check-sections-requires c κs = search needs
+
+returns-2 : tie.Need-returns-2
+returns-2 c = ap (λ (a : Answer). a .number) (c .check-sections .ensures) ∙ just-used _ _ (c .before .if1 .left)
+
+pub stored-number-spec : {M : Type 1} → statement M
+stored-number-spec = tie.close (tie.spec returns check-sections-requires returns-2)

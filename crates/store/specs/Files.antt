@@ -1,0 +1,95 @@
+-- The stored book, version 1 (01, "Stored book, version 1"): the bytes of a book, and what writing and reading them answers, for all inputs.
+-- Assumes nothing: these are definitions.
+use Prim.Native.Nat.{ℕ, _+_, _*_, _/_, _%_}
+use mathlib.Core.Bool.{Bool}
+use mathlib.Core.List.{List, [], _∷_, _++_}
+use mathlib.Core.Option.{Option, none, some}
+use lib.Dec.{leb, eqb}
+use lib.ListN.{length, getD, take, drop}
+use Rattle.words.specs.Base.{_and_, if_then_else_, sameWords}
+use Rattle.figures.specs.Limits.{most-book-words}
+use Rattle.figures.specs.Numbers.{book-size, no-room, not-agreeing, no-mark, other-version, no-stored-book}
+use Rattle.order.specs.Answers.{Writing, refuse, write}
+use Rattle.book.specs.Book.{Book, used, encode, inForm}
+use Rattle.book.specs.Decoding.{bookIn, byBook, sized, onBook}
+use Rattle.book.specs.Taught.{agreeing}
+use Rattle.book.specs.Opening.{Outcome, leave, writeBook}
+use Rattle.agree.specs.Checking.{checkOf}
+
+-- ---- bytes
+
+-- "Bytes "OFB""
+abbrev pub mark : List ℕ
+mark = 79 ∷ 70 ∷ 66 ∷ []
+
+-- How many bytes the mark has.
+abbrev pub mark-bytes : ℕ
+mark-bytes = 3
+
+-- "version 1 as 16 bits"
+abbrev pub version : ℕ
+version = 1
+
+-- The bytes before the used words: the mark's, and the version's two.
+abbrev pub front-bytes : ℕ
+front-bytes = 5
+
+-- "all 16-bit values high byte first": the bytes of words.
+unfoldable pub bytesOf : List ℕ → List ℕ
+bytesOf [] = []
+bytesOf (w ∷ ws) = w / 256 ∷ w % 256 ∷ bytesOf ws
+
+-- The words that bytes are, high byte first; a last byte that has no second is no word.
+unfoldable pub wordsOf : List ℕ → List ℕ
+wordsOf [] = []
+wordsOf (high ∷ []) = []
+wordsOf (high ∷ low ∷ bytes) = (high * 256 + low) ∷ wordsOf bytes
+
+-- The word whose high byte is byte `at`, from 0 on.
+abbrev pub wordAt : List ℕ → ℕ → ℕ
+wordAt bytes at = getD bytes at 0 * 256 + getD bytes (at + 1) 0
+
+-- The file of a book: "Bytes "OFB", version 1 as 16 bits, then the used words".
+unfoldable pub fileOf : Book → List ℕ
+fileOf b = mark ++ bytesOf (version ∷ encode b)
+
+-- ---- write
+
+-- "Write file: 4, 5, 9, 11." "Only a book that agrees with itself is written."
+unfoldable pub writeFileOf : List ℕ → List ℕ → Writing
+writeFileOf ws out =
+    onBook (λ n. refuse n out) ws (λ b. if agreeing b then write (fileOf b) out else refuse not-agreeing out)
+
+-- ---- read
+
+-- 12 if not: at least 5 bytes, and the mark.
+unfoldable pub isMarked : List ℕ → Bool
+isMarked file = leb front-bytes (length file) and sameWords (take mark-bytes file) mark
+
+-- The book whose used words the bytes are, high byte first, if they are "the used words of a book in form".
+unfoldable pub storedIn : List ℕ → Option Book
+storedIn rest =
+    let b : Book = bookIn (wordsOf rest) in
+    if inForm b and leb (used b) most-book-words and sameWords (bytesOf (encode b)) rest then some b else none
+
+-- 9 and 6, and then the whole slice is the book.
+unfoldable pub restored : List ℕ → Book → Outcome
+restored ws b =
+    if agreeing b then (if leb (used b) (length ws) then writeBook ws b else leave ws no-room) else leave ws not-agreeing
+
+-- 14, 9 and 6, by the bytes past the version.
+unfoldable pub restoreOf : List ℕ → List ℕ → Outcome
+restoreOf rest ws = byBook (storedIn rest) (leave ws no-stored-book) (restored ws)
+
+-- What a check of words that are a book in form, with so many used, adds: 14 if these are not all the words, and else 9 or 0.
+unfoldable pub storedNumber : List ℕ → ℕ → ℕ
+storedNumber ws n = if eqb n (length ws) then checkOf ws .number else no-stored-book
+
+-- "Read file: 4, 12, 13, 14, 9, 6."
+unfoldable pub readFileOf : List ℕ → List ℕ → Outcome
+readFileOf file ws =
+    if sized ws
+    then (if isMarked file
+    then (if eqb (wordAt file mark-bytes) version then restoreOf (drop front-bytes file) ws else leave ws other-version)
+    else leave ws no-mark)
+    else leave ws book-size

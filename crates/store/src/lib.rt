@@ -1,0 +1,191 @@
+// The stored book, version 1: written from a book that agrees with itself, and read back. Assumes nothing beyond each inner function's
+// `requires`.
+ghost use mathlib.Core.Path.{_≡_};
+ghost use mathlib.Core.List.{[], _∷_, _++_};
+ghost use Prim.Native.Nat.{_+_, _*_, _-_, _/_, _%_, _≤_, _<_};
+ghost use lib.ListN.{length, replicate, set};
+ghost use Rattle.order.specs.Answers.{writing};
+ghost use Rattle.book.specs.Holding.{Holds};
+ghost use Rattle.book.specs.Opening.{outcome};
+ghost use Rattle.store.specs.Files.{mark, version, front-bytes, bytesOf, wordsOf, wordAt, writeFileOf, isMarked, restoreOf, storedNumber, readFileOf};
+use book::BookForm;
+use book::Places;
+use figures::Answer;
+use figures::Written;
+use figures::answered;
+use figures::limits;
+use figures::numbers;
+use figures::wrote;
+
+// How many bytes the mark has.
+const MARK_BYTES: usize = 3;
+
+// "version 1 as 16 bits"
+const VERSION: u16 = 1;
+
+// The bytes before the used words: the mark's, and the version's two.
+const FRONT_BYTES: usize = 5;
+
+// ---- write
+
+// Writes a word as two bytes, high byte first, from byte `at` on.
+fn put_word(out: &mut [u8], at: usize, word: u16)
+    requires { ⌜ at + 1 < length (now out) ⌝ }
+    ensures { λ _. ⌜ now (out .exit) ≡ set (set (now (out .entry)) at (word / 256)) (at + 1) (word % 256) ⌝ }
+{
+    out[at] = (word / 256) as u8;
+    out[at + 1] = (word % 256) as u8;
+}
+
+// Writes the mark and the version.
+fn put_front(out: &mut [u8])
+    requires { ⌜ length (now out) ≡ front-bytes ⌝ }
+    ensures { λ _. ⌜ now (out .exit) ≡ mark ++ bytesOf (version ∷ []) ⌝ }
+{
+    out[0] = b'O';
+    out[1] = b'F';
+    out[2] = b'B';
+    put_word(out, MARK_BYTES, VERSION);
+}
+
+// Writes words as bytes, high byte first.
+fn put_words(words: &[u16], out: &mut [u8])
+    requires { ⌜ length (now out) ≡ 2 * length (now words) ⌝ }
+    ensures { λ _. ⌜ now (out .exit) ≡ bytesOf (now (words .entry)) ⌝ }
+{
+    let mut i = 0;
+    while i < words.len() {
+        put_word(out, 2 * i, words[i]);
+        i += 1;
+    }
+}
+
+// Writes the file of a book that agrees with itself to the front of `out`: 4, 5, 9, 11, or done, and how many bytes were written.
+pub fn write(book: &[u16], out: &mut [u8]) -> Written
+    ensures { λ r. ⌜ writing r (now (out .exit)) ≡ writeFileOf (now (book .entry)) (now (out .entry)) ⌝ }
+{
+    let number = agree::check(book).number;
+    if number != numbers::DONE {
+        return wrote(number, 0);
+    }
+    let used = book[limits::USED_WORD] as usize;
+    let count = FRONT_BYTES + 2 * used;
+    if out.len() < count {
+        return wrote(numbers::SHORT_OUTPUT, 0);
+    }
+    put_front(&mut out[0..FRONT_BYTES]);
+    put_words(&book[0..used], &mut out[FRONT_BYTES..count]);
+    wrote(numbers::DONE, count)
+}
+
+// ---- read
+
+// The word whose high byte is byte `at`.
+fn word_at(bytes: &[u8], at: usize) -> u16
+    requires { ⌜ at + 1 < length (now bytes) ⌝ }
+    ensures { λ r. ⌜ r ≡ wordAt (now (bytes .entry)) at ⌝ }
+{
+    let high = bytes[at] as u16;
+    let low = bytes[at + 1] as u16;
+    high * 256 + low
+}
+
+// Whether there are at least five bytes, with the mark in front.
+fn is_marked(file: &[u8]) -> bool
+    ensures { λ r. ⌜ r ≡ isMarked (now (file .entry)) ⌝ }
+{
+    if file.len() < FRONT_BYTES {
+        return false;
+    }
+    if file[0] != b'O' {
+        return false;
+    }
+    if file[1] != b'F' {
+        return false;
+    }
+    file[2] == b'B'
+}
+
+// The words that bytes are, high byte first.
+fn take_words(bytes: &[u8], out: &mut [u16])
+    requires { ⌜ length (now bytes) ≡ 2 * length (now out) ⌝ }
+    ensures { λ _. ⌜ now (out .exit) ≡ wordsOf (now (bytes .entry)) ⌝ }
+{
+    let mut i = 0;
+    while i < out.len() {
+        out[i] = word_at(bytes, 2 * i);
+        i += 1;
+    }
+}
+
+// Copies words to the front of a slice that has room for them, and clears the rest of it.
+fn put_book(words: &[u16], book: &mut [u16])
+    requires { ⌜ length (now words) ≤ length (now book) ⌝ }
+    ensures { λ _. ⌜ now (book .exit) ≡ now (words .entry) ++ replicate (length (now (book .entry)) - length (now (words .entry))) 0 ⌝ }
+{
+    let end = words.len();
+    words::copy(book, words);
+    words::clear(&mut book[end..]);
+}
+
+// The number of words that are a book in form: 14 if it does not use them all, and else 9 or 0, by whether it agrees with itself.
+fn stored_number(words: &[u16], places: Places) -> u16
+    requires { ⌜ Holds (now words) places ⌝ }
+    ensures { λ r. ⌜ r ≡ storedNumber (now (words .entry)) (places .used) ⌝ }
+{
+    if places.used != words.len() {
+        return numbers::NO_STORED_BOOK;
+    }
+    agree::check_sections(words, places).number
+}
+
+// Reads the used words of a book into the slice: 14, 9, 6, or done, with the whole slice written.
+fn restore_words(words: &[u16], book: &mut [u16]) -> Answer
+    ensures { λ r. ⌜ outcome r (now (book .exit)) ≡ restoreOf (bytesOf (now (words .entry))) (now (book .entry)) ⌝ }
+{
+    let BookForm::InForm(places) = book::in_form(words) else {
+        return answered(numbers::NO_STORED_BOOK);
+    };
+    let number = stored_number(words, places);
+    if number != numbers::DONE {
+        return answered(number);
+    }
+    if book.len() < words.len() {
+        return answered(numbers::NO_ROOM);
+    }
+    put_book(words, book);
+    answered(numbers::DONE)
+}
+
+// Reads the bytes past the version into the slice: 14, 9, 6, or done, with the whole slice written. The words stand in a scratch of the size of the
+// largest book until nothing can be refused any more.
+fn restore(rest: &[u8], book: &mut [u16]) -> Answer
+    ensures { λ r. ⌜ outcome r (now (book .exit)) ≡ restoreOf (now (rest .entry)) (now (book .entry)) ⌝ }
+{
+    let many = rest.len() / 2;
+    if rest.len() % 2 != 0 {
+        return answered(numbers::NO_STORED_BOOK);
+    }
+    if limits::MOST_BOOK_WORDS < many {
+        return answered(numbers::NO_STORED_BOOK);
+    }
+    let mut words = [0u16; limits::MOST_BOOK_WORDS];
+    take_words(rest, &mut words[0..many]);
+    restore_words(&words[0..many], book)
+}
+
+// Reads a stored book into the slice: 4, 12, 13, 14, 9, 6, or done, with the whole slice written.
+pub fn read(file: &[u8], book: &mut [u16]) -> Answer
+    ensures { λ r. ⌜ outcome r (now (book .exit)) ≡ readFileOf (now (file .entry)) (now (book .entry)) ⌝ }
+{
+    if !book::is_book_size(book.len()) {
+        return answered(numbers::BOOK_SIZE);
+    }
+    if !is_marked(file) {
+        return answered(numbers::NO_MARK);
+    }
+    if word_at(file, MARK_BYTES) != VERSION {
+        return answered(numbers::OTHER_VERSION);
+    }
+    restore(&file[FRONT_BYTES..], book)
+}
