@@ -9,9 +9,9 @@ use mathlib.Core.Path.{_≡_, refl, sym, ap, subst, _∙_}
 use mathlib.Core.Bool.{false}
 use mathlib.Core.List.{List, [], _∷_, _++_, append-assoc, map, Memᴰ·map, Memᴰ·of-map, List·Memᴰ·head as here, List·Memᴰ·tail as there}
 use native.Mathlib.Omega.{arith}
-use lib.ListN.{length, take}
+use lib.ListN.{length, getD, take}
 use Rattle.words.specs.Base.{over, _∈_}
-use Rattle.figures.specs.Limits.{least-code, greatest-code, most-nodes}
+use Rattle.figures.specs.Limits.{least-code, greatest-code, most-nodes, used-word}
 use Rattle.figures.specs.Numbers.{done, no-form}
 use Rattle.figures.specs.Answers.{answered, wrote, refusedAt}
 use Rattle.figures.specs.declared.Answer.{Answer}
@@ -36,10 +36,10 @@ use Rattle.judge.specs.Judging.{judgeOf}
 use Rattle.judge.specs.Verdicts.{PassesBy}
 use Rattle.judge.proofs.Answers.{answered-passes, passes-answered}
 use Rattle.effects.specs.Conditions.{_exactly-when_}
-use Rattle.store.specs.Files.{fileOf, writeFileOf, readFileOf}
+use Rattle.store.specs.Files.{front-bytes, fileOf, writeFileOf, readFileOf}
 use Rattle.promises.specs.Agreement.{Agrees}
 use Rattle.promises.proofs.FileWhys.{agrees-filed}
-use Rattle.promises.proofs.FileTrips.{file-back, filed-back, read-back-filed}
+use Rattle.promises.proofs.FileTrips.{file-back, filed-back, filed-bytes, read-back-filed, read-alike}
 use Rattle.promises.proofs.Refusals.{write-writes}
 
 -- ---- passing
@@ -168,3 +168,13 @@ filed-then-read = filed-back
 -- What reads without refusal is written back to the same bytes, or answered by 11 where the output is too short.
 pub read-then-filed : (file slice : List ℕ) → readFileOf file slice .answer .number ≡ done → (out : List ℕ) → writeFileOf (readFileOf file slice .words) out ≡ write file out
 read-then-filed = read-back-filed
+
+-- "also reports how many it wrote": the five bytes of mark and version, and two for each used word.
+pub bytes-written : (ws out : List ℕ) → writeFileOf ws out .answer .number ≡ done → writeFileOf ws out .answer .count ≡ front-bytes + 2 * getD ws used-word 0
+bytes-written = filed-bytes
+
+-- What stood in a slice before a file was read into it does not matter: of two slices of one length both get the same answer, and where that is 0
+-- the same words.
+pub whatever-stood-there : (file v w : List ℕ) → length v ≡ length w
+    → (readFileOf file v .answer ≡ readFileOf file w .answer) × (readFileOf file v .answer .number ≡ done → readFileOf file v .words ≡ readFileOf file w .words)
+whatever-stood-there = read-alike

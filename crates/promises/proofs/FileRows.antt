@@ -6,7 +6,8 @@ use lib.ListN.{set, replicate, take}
 use Rattle.figures.specs.Answers.{answered, wrote}
 use Rattle.order.specs.Answers.{writing, refuse}
 use Rattle.book.specs.Opening.{outcome, leave}
-use Rattle.store.specs.Files.{bytesOf, wordsOf, fileOf, writeFileOf, isMarked, storedIn, restored, restoreOf, readFileOf}
+use Rattle.octets.specs.Octets.{bytesOf, wordsOf}
+use Rattle.store.specs.Files.{fileOf, writeFileOf, isMarked, storedIn, restored, restoreOf, readFileOf}
 use Rattle.promises.proofs.Computed.{computes}
 
 -- The book of the single node 1000, k = 2: the head, and the node in T, R and L.

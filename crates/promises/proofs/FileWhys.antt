@@ -24,7 +24,8 @@ use Rattle.book.specs.Opening.{Outcome, leave, writeBook}
 use Rattle.book.specs.declared.BookForm.the-variants.{Refused}
 use Rattle.book.proofs.Heads.{too-short, too-long, is-sized}
 use Rattle.book.proofs.Sound.{form-sound, sound-form, why-is, why-only}
-use Rattle.store.specs.Files.{mark, mark-bytes, version, front-bytes, bytesOf, wordAt, fileOf, writeFileOf, isMarked, storedIn, restored, restoreOf, readFileOf}
+use Rattle.octets.specs.Octets.{bytesOf, wordAt}
+use Rattle.store.specs.Files.{mark, mark-bytes, version, front-bytes, fileOf, writeFileOf, isMarked, storedIn, restored, restoreOf, readFileOf}
 use Rattle.store.proofs.Stored.{Stored, stored-some, stored-is, stored-none}
 use Rattle.store.proofs.Writing.{file-unheld, file-by}
 use Rattle.store.proofs.Reading.{mark-short, marked-long, read-unsized, read-unmarked, read-other, read-rest}

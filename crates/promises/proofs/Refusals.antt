@@ -27,7 +27,8 @@ use Rattle.book.specs.Decoding.{decode, byBook, sized, onBook}
 use Rattle.book.specs.Taught.{bookOf, agreeing}
 use Rattle.book.specs.Opening.{Outcome, leave, writeBook, openOf}
 use Rattle.effects.specs.Conditions.{_exactly-when_}
-use Rattle.store.specs.Files.{mark-bytes, version, front-bytes, wordAt, fileOf, writeFileOf, isMarked, storedIn, restored, restoreOf, readFileOf}
+use Rattle.octets.specs.Octets.{wordAt}
+use Rattle.store.specs.Files.{mark-bytes, version, front-bytes, fileOf, writeFileOf, isMarked, storedIn, restored, restoreOf, readFileOf}
 
 -- ---- words written to the front of a lent output
 

@@ -3,12 +3,12 @@
 //   form W W ..            the words are looked at as a book
 //   judge W W .. / W W ..  the order behind the stroke is judged by the book before it; more orders may stand behind strokes of their own
 // In the last two, *N behind a word lets it stand N times in all.
-use crate::line;
-use crate::same;
-use crate::say;
 use book::BookForm;
 use book::Places;
-use figures::Answer;
+use report::kept;
+use report::line;
+use report::same;
+use report::say;
 
 // What every word of a slice holds before a book is opened in it.
 const BEFORE: u16 = 9;
@@ -16,24 +16,11 @@ const BEFORE: u16 = 9;
 // The words that a slice may have: one more than the largest book.
 const MOST_WORDS: usize = 16385;
 
-// The words that an order may have.
-pub const MOST_ORDER: usize = 140;
-
-// Says an answer: its number and its line.
-pub fn answer(answer: Answer) {
-    say::word(answer.number);
-    say::text(b", line ");
-    say::count(answer.line);
-}
-
 // Opens a book in a slice, and says the answer and every word of the slice.
 fn open_in(slice: &mut [u16], k: u16) {
-    answer(book::open(slice, k));
+    say::heard(book::open(slice, k));
     say::text(b":");
-    if slice.len() == 0 {
-        say::text(b" no words");
-    }
-    say::runs(slice);
+    say::slice(slice);
 }
 
 // Runs a case of `open`, by its room and its k.
@@ -109,13 +96,13 @@ fn trimmed(list: &[u8]) -> &[u8] {
 
 // Judges an order by a book, and says the answer.
 fn judge_one(book: &[u16], list: &[u8]) {
-    let mut order = [0u16; MOST_ORDER];
+    let mut order = [0u16; kept::MOST_ORDER];
     let n = line::runs(trimmed(list), &mut order);
     if order.len() < n {
         say::not_understood();
         return;
     }
-    answer(judge::judge(book, &order[0..n]));
+    say::heard(judge::judge(book, &order[0..n]));
 }
 
 // Judges orders by a book, each behind a stroke.

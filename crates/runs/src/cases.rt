@@ -1,7 +1,7 @@
 // What `check` answers at the limits of orders and for each cause of 1 and 2, and which k are allowed.
-use crate::say;
 use crate::trees;
 use figures::Depth;
+use report::say;
 
 // Says what `check` answers.
 fn check(name: &[u8], words: &[u16]) {

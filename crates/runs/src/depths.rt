@@ -1,7 +1,7 @@
 // Cuts of line 2 of example 1, with room for them and with a word too few.
-use crate::lent::HELD;
-use crate::say;
 use crate::trees;
+use report::lent::HELD;
+use report::say;
 
 // Says the number and the count of a cut at d, the tree that was written, and the words of the output behind it.
 fn cut(d: usize, out: &mut [u16]) {

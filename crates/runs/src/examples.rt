@@ -1,9 +1,9 @@
 // The tops, low parts and middle parts of examples 1 to 3 of document 000.
-use crate::say;
 use crate::trees;
 use figures::Asked;
 use figures::Depth;
 use order::Kind;
+use report::say;
 
 // Says which example and which k a line is about.
 fn head(name: &[u8], k: Depth) {

@@ -4,16 +4,18 @@
 //   write ROOM W W ..    the order of these words is written to an output of so many bytes
 //   there W W ..         the order of these words is written and read back
 //   back TEXT            the text is read and written back
-// The cases of books stand on lines like these: see `calls` and `books`.
-use crate::calls;
-use crate::lent;
-use crate::lent::HELD;
-use crate::lent::MARK;
-use crate::lent::MOST;
-use crate::line;
-use crate::same;
-use crate::say;
+//   lay W W ..           the kept book is these words from now on; *N behind a word lets it stand N times in all
+// The other cases of books stand on lines like these: see `report::kept` and `books`.
+use crate::books;
 use crate::trips;
+use report::kept;
+use report::lent;
+use report::lent::HELD;
+use report::lent::MARK;
+use report::lent::MOST;
+use report::line;
+use report::same;
+use report::say;
 
 // The words that a line may have.
 const MOST_WORDS: usize = 140;
@@ -121,7 +123,13 @@ fn case(kind: &[u8], behind: &[u8], kept: &mut [u16]) {
         back(behind);
         return;
     }
-    calls::case(kind, behind, kept);
+    if same::bytes(kind, b"lay") {
+        kept::lay(behind, kept);
+        return;
+    }
+    if !kept::case(kind, behind, kept) {
+        books::case(kind, behind);
+    }
 }
 
 // Says a line, and what comes of the case on it, which may be one of a kept book.

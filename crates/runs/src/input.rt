@@ -1,9 +1,9 @@
 // Standard input: the lines that it holds, each run in turn.
-use crate::calls;
 use crate::forms;
-use crate::line;
-use crate::say;
 use libc::STDIN_FILENO;
+use report::excess;
+use report::kept;
+use report::line;
 
 // Runs each line of a text, with one kept book; the last may stand without LF.
 fn lines(text: &[u8], kept: &mut [u16]) {
@@ -17,18 +17,8 @@ fn lines(text: &[u8], kept: &mut [u16]) {
 
 // Runs each line of a text; no book is laid before the first.
 fn all(text: &[u8]) {
-    let mut kept = [0u16; calls::HELD];
+    let mut kept = [0u16; kept::HELD];
     lines(text, &mut kept);
-}
-
-// Says so if standard input holds more than was read.
-fn rest() {
-    let mut one = [0u8; 1];
-    let n = io::read_full(STDIN_FILENO, &mut one);
-    if n != 0 {
-        say::text(b"standard input is too long: not all of it was run");
-        say::end();
-    }
 }
 
 // Reads standard input, as much as one buffer holds, and runs its lines.
@@ -36,5 +26,5 @@ pub fn run() {
     let mut buffer = io::large_buffer();
     let n = io::read_full(STDIN_FILENO, &mut buffer);
     all(&buffer[..n]);
-    rest();
+    excess::tell();
 }

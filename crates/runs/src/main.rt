@@ -2,16 +2,11 @@
 // of orders are said in one line each; those of forms and books are lines of `stdin`, each said with what came of it behind it. `stdout` has what is
 // said.
 mod books;
-mod calls;
 mod cases;
 mod depths;
 mod examples;
 mod forms;
 mod input;
-mod lent;
-mod line;
-mod same;
-mod say;
 mod subtrees;
 mod trees;
 mod trips;

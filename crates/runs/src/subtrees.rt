@@ -1,6 +1,6 @@
 // Subtrees by their lines, and what is handed out for a line that is not there and for words that are no order.
-use crate::say;
 use crate::trees;
+use report::say;
 
 // Says the subtree of a line.
 fn subtree(name: &[u8], order: &[u16], line: usize) {

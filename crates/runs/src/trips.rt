@@ -1,8 +1,8 @@
 // There and back: an order written and read again, and a text read and written again.
-use crate::lent::MOST;
-use crate::same;
-use crate::say;
 use figures::numbers;
+use report::lent::MOST;
+use report::same;
+use report::say;
 
 // Says whether what came back is the same.
 pub fn answer(same: bool) {

@@ -1,5 +1,4 @@
 -- What the proofs of several functions, and those of other crates, use.
-pub mod Bytes
 pub mod Stored
 pub mod Writing
 pub mod Restoring

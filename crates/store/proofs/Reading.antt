@@ -14,7 +14,8 @@ use Rattle.figures.specs.Answers.{answered}
 use Rattle.figures.specs.declared.Answer.{Answer}
 use Rattle.book.specs.Decoding.{sized}
 use Rattle.book.specs.Opening.{outcome}
-use Rattle.store.specs.Files.{mark-bytes, version, front-bytes, wordAt, isMarked, restoreOf, readFileOf}
+use Rattle.octets.specs.Octets.{wordAt}
+use Rattle.store.specs.Files.{mark-bytes, version, front-bytes, isMarked, restoreOf, readFileOf}
 
 -- ---- the mark
 

@@ -24,8 +24,9 @@ use Rattle.book.proofs.Holding.{holds}
 use Rattle.book.proofs.Sound.{encode-length, held-book, why-only}
 use Rattle.agree.specs.Checking.{checkOf}
 use Rattle.agree.proofs.Checking.{check-held}
-use Rattle.store.specs.Files.{bytesOf, restored, restoreOf, storedNumber}
-use Rattle.store.proofs.Bytes.{bytes-long, bytes-one}
+use Rattle.octets.specs.Octets.{bytesOf}
+use Rattle.store.specs.Files.{restored, restoreOf, storedNumber}
+use Rattle.octets.proofs.Bytes.{bytes-long, bytes-one}
 use Rattle.store.proofs.Stored.{Stored, stored-some, none-stored, stored-long, stored-book, book-stored}
 
 -- ---- by the book that is found

@@ -16,8 +16,9 @@ use Rattle.book.specs.Decoding.{bookIn}
 use Rattle.book.specs.Sound.{IsBook}
 use Rattle.book.proofs.Meaning.{laid-read}
 use Rattle.book.proofs.Sound.{encode-length, form-sound, sound-form}
-use Rattle.store.specs.Files.{bytesOf, wordsOf, storedIn}
-use Rattle.store.proofs.Bytes.{words-of-bytes, bytes-one}
+use Rattle.octets.specs.Octets.{bytesOf, wordsOf}
+use Rattle.store.specs.Files.{storedIn}
+use Rattle.octets.proofs.Bytes.{words-of-bytes, bytes-one}
 
 -- ---- the used words of a book
 

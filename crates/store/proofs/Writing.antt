@@ -1,17 +1,19 @@
 -- What `write` writes: the bytes of words, the front of a file, and what writing the file of checked words answers. Assumes nothing.
-use Prim.Native.Nat.{ℕ, suc, _+_, _-_, _*_, _/_, _%_, _<_, _≤_}
+use Prim.Native.Nat.{ℕ, _+_, _-_, _*_, _/_, _%_, _<_, _≤_}
 use mathlib.Core.Path.{_≡_, refl, sym, ap, _∙_}
 use mathlib.Core.Bool.{Bool, true, false}
-use mathlib.Core.List.{List, [], _∷_, _++_, append-assoc}
+use mathlib.Core.List.{List, [], _∷_, _++_}
 use native.Mathlib.Omega.{arith}
-use lib.ListN.{length, getD, set, take, drop, replicate, length-set, drop-of-length-le}
-use lib.Seq.{take-all, take-suc, take-suc-set, sets-eq, take-at, drop-at, drop-drop}
+use lib.ListN.{length, getD, set, take, drop, replicate, drop-of-length-le}
+use lib.Seq.{sets-eq, take-at, drop-at, drop-drop}
 use borrow.Rule.Slice.PartMut.{putMid}
 use Rattle.words.specs.Base.{if_then_else_, over}
 use Rattle.figures.specs.Numbers.{done, book-size, not-in-form, not-agreeing}
 use Rattle.figures.specs.Answers.{answered, wrote}
 use Rattle.figures.specs.declared.Answer.{Answer}
 use Rattle.figures.specs.declared.Written.{Written}
+use Rattle.octets.specs.Octets.{bytesOf}
+use Rattle.octets.proofs.Bytes.{bytes-long}
 use Rattle.order.specs.Answers.{writing, refuse, write}
 use Rattle.book.specs.Book.{Book, used, encode, lay}
 use Rattle.book.specs.Decoding.{bookFormOf}
@@ -23,37 +25,7 @@ use Rattle.book.proofs.Holding.{refused-book}
 use Rattle.book.proofs.Sound.{on-any, why-is, head-says, encode-length}
 use Rattle.agree.specs.Checking.{checkOf}
 use Rattle.agree.proofs.Checking.{check-unheld, check-held}
-use Rattle.store.specs.Files.{mark, version, front-bytes, bytesOf, fileOf, writeFileOf}
-use Rattle.store.proofs.Bytes.{bytes-long, bytes-append}
-
--- ---- bytes of words
-
--- Two stores behind the first n bytes put two bytes more behind them.
-two-more : (l : List ℕ) (n a b : ℕ) → n + 1 < length l → take (n + 2) (set (set l n a) (n + 1) b) ≡ take n l ++ (a ∷ b ∷ [])
-two-more l n a b h =
-    let s : n + 2 ≡ suc (n + 1) = omega arith in
-    let t : n + 1 ≡ suc n = omega arith in
-    ap (λ (m : ℕ). take m (set (set l n a) (n + 1) b)) s
-    ∙ take-suc-set (set l n a) (n + 1) b (simp length-set h)
-    ∙ ap (λ (r : List ℕ). r ++ (b ∷ [])) (ap (λ (m : ℕ). take m (set l n a)) t ∙ take-suc-set l n a (omega arith))
-    ∙ append-assoc (take n l) (a ∷ []) (b ∷ [])
-
--- A turn writes the bytes of one word more.
-pub bytes-turn : (ws l last : List ℕ) (i : ℕ) → i < length ws → length l ≡ 2 * length ws → take (2 * i) l ≡ bytesOf (take i ws)
-    → last ≡ set (set l (2 * i) (getD ws i 0 / 256)) (2 * i + 1) (getD ws i 0 % 256)
-    → (length last ≡ 2 * length ws) × (take (2 * (i + 1)) last ≡ bytesOf (take (i + 1) ws))
-unfolding bytesOf
-bytes-turn ws l last i h e is o =
-    let w : ℕ = getD ws i 0 in
-    let s : 2 * (i + 1) ≡ 2 * i + 2 = omega arith in
-    let t : i + 1 ≡ suc i = omega arith in
-    let n : length last ≡ length l = ap length o ∙ simp length-set in
-    let more : take (2 * i + 2) last ≡ take (2 * i) l ++ (w / 256 ∷ w % 256 ∷ []) = ap (take (2 * i + 2)) o ∙ two-more l (2 * i) (w / 256) (w % 256) (omega arith) in
-    (omega arith, ap (λ (m : ℕ). take m last) s ∙ more ∙ rw (is, t, take-suc ws i 0 h, bytes-append (take i ws) (w ∷ [])) refl)
-
--- After the last turn the bytes are those of all words.
-pub bytes-done : (ws l : List ℕ) (i : ℕ) → length ws ≤ i → length l ≡ 2 * length ws → take (2 * i) l ≡ bytesOf (take i ws) → l ≡ bytesOf ws
-bytes-done ws l i h e is = sym (take-all (2 * i) l (omega arith)) ∙ is ∙ ap bytesOf (take-all i ws h)
+use Rattle.store.specs.Files.{mark, version, front-bytes, fileOf, writeFileOf}
 
 -- ---- the front of a file
 

@@ -1,14 +1,15 @@
 -- The stored book, version 1 (01, "Stored book, version 1"): the bytes of a book, and what writing and reading them answers, for all inputs.
 -- Assumes nothing: these are definitions.
-use Prim.Native.Nat.{ℕ, _+_, _*_, _/_, _%_}
+use Prim.Native.Nat.{ℕ}
 use mathlib.Core.Bool.{Bool}
 use mathlib.Core.List.{List, [], _∷_, _++_}
 use mathlib.Core.Option.{Option, none, some}
 use lib.Dec.{leb, eqb}
-use lib.ListN.{length, getD, take, drop}
+use lib.ListN.{length, take, drop}
 use Rattle.words.specs.Base.{_and_, if_then_else_, sameWords}
 use Rattle.figures.specs.Limits.{most-book-words}
 use Rattle.figures.specs.Numbers.{book-size, no-room, not-agreeing, no-mark, other-version, no-stored-book}
+use Rattle.octets.specs.Octets.{bytesOf, wordsOf, wordAt}
 use Rattle.order.specs.Answers.{Writing, refuse, write}
 use Rattle.book.specs.Book.{Book, used, encode, inForm}
 use Rattle.book.specs.Decoding.{bookIn, byBook, sized, onBook}
@@ -33,21 +34,6 @@ version = 1
 -- The bytes before the used words: the mark's, and the version's two.
 abbrev pub front-bytes : ℕ
 front-bytes = 5
-
--- "all 16-bit values high byte first": the bytes of words.
-unfoldable pub bytesOf : List ℕ → List ℕ
-bytesOf [] = []
-bytesOf (w ∷ ws) = w / 256 ∷ w % 256 ∷ bytesOf ws
-
--- The words that bytes are, high byte first; a last byte that has no second is no word.
-unfoldable pub wordsOf : List ℕ → List ℕ
-wordsOf [] = []
-wordsOf (high ∷ []) = []
-wordsOf (high ∷ low ∷ bytes) = (high * 256 + low) ∷ wordsOf bytes
-
--- The word whose high byte is byte `at`, from 0 on.
-abbrev pub wordAt : List ℕ → ℕ → ℕ
-wordAt bytes at = getD bytes at 0 * 256 + getD bytes (at + 1) 0
 
 -- The file of a book: "Bytes "OFB", version 1 as 16 bits, then the used words".
 unfoldable pub fileOf : Book → List ℕ
@@ -81,10 +67,6 @@ restored ws b =
 unfoldable pub restoreOf : List ℕ → List ℕ → Outcome
 restoreOf rest ws = byBook (storedIn rest) (leave ws no-stored-book) (restored ws)
 
--- What a check of words that are a book in form, with so many used, adds: 14 if these are not all the words, and else 9 or 0.
-unfoldable pub storedNumber : List ℕ → ℕ → ℕ
-storedNumber ws n = if eqb n (length ws) then checkOf ws .number else no-stored-book
-
 -- "Read file: 4, 12, 13, 14, 9, 6."
 unfoldable pub readFileOf : List ℕ → List ℕ → Outcome
 readFileOf file ws =
@@ -93,3 +75,9 @@ readFileOf file ws =
     then (if eqb (wordAt file mark-bytes) version then restoreOf (drop front-bytes file) ws else leave ws other-version)
     else leave ws no-mark)
     else leave ws book-size
+
+-- ---- within reading
+
+-- The number of words that are a book in form with so many used: 14 if these are not all the words, and else 9 or 0, as a check answers.
+unfoldable pub storedNumber : List ℕ → ℕ → ℕ
+storedNumber ws n = if eqb n (length ws) then checkOf ws .number else no-stored-book

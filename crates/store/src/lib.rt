@@ -2,12 +2,13 @@
 // `requires`.
 ghost use mathlib.Core.Path.{_≡_};
 ghost use mathlib.Core.List.{[], _∷_, _++_};
-ghost use Prim.Native.Nat.{_+_, _*_, _-_, _/_, _%_, _≤_, _<_};
-ghost use lib.ListN.{length, replicate, set};
+ghost use Prim.Native.Nat.{_-_, _≤_};
+ghost use lib.ListN.{length, replicate};
+ghost use Rattle.octets.specs.Octets.{bytesOf};
 ghost use Rattle.order.specs.Answers.{writing};
 ghost use Rattle.book.specs.Holding.{Holds};
 ghost use Rattle.book.specs.Opening.{outcome};
-ghost use Rattle.store.specs.Files.{mark, version, front-bytes, bytesOf, wordsOf, wordAt, writeFileOf, isMarked, restoreOf, storedNumber, readFileOf};
+ghost use Rattle.store.specs.Files.{mark, version, front-bytes, writeFileOf, isMarked, restoreOf, storedNumber, readFileOf};
 use book::BookForm;
 use book::Places;
 use figures::Answer;
@@ -28,15 +29,6 @@ const FRONT_BYTES: usize = 5;
 
 // ---- write
 
-// Writes a word as two bytes, high byte first, from byte `at` on.
-fn put_word(out: &mut [u8], at: usize, word: u16)
-    requires { ⌜ at + 1 < length (now out) ⌝ }
-    ensures { λ _. ⌜ now (out .exit) ≡ set (set (now (out .entry)) at (word / 256)) (at + 1) (word % 256) ⌝ }
-{
-    out[at] = (word / 256) as u8;
-    out[at + 1] = (word % 256) as u8;
-}
-
 // Writes the mark and the version.
 fn put_front(out: &mut [u8])
     requires { ⌜ length (now out) ≡ front-bytes ⌝ }
@@ -45,28 +37,16 @@ fn put_front(out: &mut [u8])
     out[0] = b'O';
     out[1] = b'F';
     out[2] = b'B';
-    put_word(out, MARK_BYTES, VERSION);
-}
-
-// Writes words as bytes, high byte first.
-fn put_words(words: &[u16], out: &mut [u8])
-    requires { ⌜ length (now out) ≡ 2 * length (now words) ⌝ }
-    ensures { λ _. ⌜ now (out .exit) ≡ bytesOf (now (words .entry)) ⌝ }
-{
-    let mut i = 0;
-    while i < words.len() {
-        put_word(out, 2 * i, words[i]);
-        i += 1;
-    }
+    octets::put_word(out, MARK_BYTES, VERSION);
 }
 
 // Writes the file of a book that agrees with itself to the front of `out`: 4, 5, 9, 11, or done, and how many bytes were written.
 pub fn write(book: &[u16], out: &mut [u8]) -> Written
     ensures { λ r. ⌜ writing r (now (out .exit)) ≡ writeFileOf (now (book .entry)) (now (out .entry)) ⌝ }
 {
-    let number = agree::check(book).number;
-    if number != numbers::DONE {
-        return wrote(number, 0);
+    let checked = agree::check(book).number;
+    if checked != numbers::DONE {
+        return wrote(checked, 0);
     }
     let used = book[limits::USED_WORD] as usize;
     let count = FRONT_BYTES + 2 * used;
@@ -74,21 +54,11 @@ pub fn write(book: &[u16], out: &mut [u8]) -> Written
         return wrote(numbers::SHORT_OUTPUT, 0);
     }
     put_front(&mut out[0..FRONT_BYTES]);
-    put_words(&book[0..used], &mut out[FRONT_BYTES..count]);
+    octets::put_words(&book[0..used], &mut out[FRONT_BYTES..count]);
     wrote(numbers::DONE, count)
 }
 
 // ---- read
-
-// The word whose high byte is byte `at`.
-fn word_at(bytes: &[u8], at: usize) -> u16
-    requires { ⌜ at + 1 < length (now bytes) ⌝ }
-    ensures { λ r. ⌜ r ≡ wordAt (now (bytes .entry)) at ⌝ }
-{
-    let high = bytes[at] as u16;
-    let low = bytes[at + 1] as u16;
-    high * 256 + low
-}
 
 // Whether there are at least five bytes, with the mark in front.
 fn is_marked(file: &[u8]) -> bool
@@ -104,18 +74,6 @@ fn is_marked(file: &[u8]) -> bool
         return false;
     }
     file[2] == b'B'
-}
-
-// The words that bytes are, high byte first.
-fn take_words(bytes: &[u8], out: &mut [u16])
-    requires { ⌜ length (now bytes) ≡ 2 * length (now out) ⌝ }
-    ensures { λ _. ⌜ now (out .exit) ≡ wordsOf (now (bytes .entry)) ⌝ }
-{
-    let mut i = 0;
-    while i < out.len() {
-        out[i] = word_at(bytes, 2 * i);
-        i += 1;
-    }
 }
 
 // Copies words to the front of a slice that has room for them, and clears the rest of it.
@@ -170,7 +128,7 @@ fn restore(rest: &[u8], book: &mut [u16]) -> Answer
         return answered(numbers::NO_STORED_BOOK);
     }
     let mut words = [0u16; limits::MOST_BOOK_WORDS];
-    take_words(rest, &mut words[0..many]);
+    octets::take_words(rest, &mut words[0..many]);
     restore_words(&words[0..many], book)
 }
 
@@ -184,7 +142,7 @@ pub fn read(file: &[u8], book: &mut [u16]) -> Answer
     if !is_marked(file) {
         return answered(numbers::NO_MARK);
     }
-    if word_at(file, MARK_BYTES) != VERSION {
+    if octets::word_at(file, MARK_BYTES) != VERSION {
         return answered(numbers::OTHER_VERSION);
     }
     restore(&file[FRONT_BYTES..], book)

@@ -9,8 +9,9 @@ use borrow.Rule.Slice.PartMut.{putMid}
 use Rattle.figures.specs.Limits.{most-book-words}
 use Rattle.figures.specs.declared.Answer.{Answer}
 use Rattle.book.specs.Opening.{outcome}
-use Rattle.store.specs.Files.{bytesOf, wordsOf, restoreOf}
-use Rattle.store.proofs.Bytes.{words-long, bytes-of-words}
+use Rattle.octets.specs.Octets.{bytesOf, wordsOf}
+use Rattle.store.specs.Files.{restoreOf}
+use Rattle.octets.proofs.Bytes.{words-long, bytes-of-words}
 use Rattle.store.proofs.Restoring.{no-stored}
 use borrow.Author.Needs.{needs}
 use Rattle.store.proofs.restore.Statement.{statement}
