@@ -104,8 +104,12 @@ slot-read Lows n b = rw (lay-headed n b)
 slot-read Middles n b = rw (lay-headed n b)
 
 -- The head's number of live teachings.
-pub live-read : (n : ℕ) (b : Book) → getD (lay n b) 2 0 ≡ live b
+live-read : (n : ℕ) (b : Book) → getD (lay n b) 2 0 ≡ live b
 live-read n b = rw (lay-headed n b)
+
+-- It is so of the words of any slice that the book fills.
+pub live-laid : (ws : List ℕ) (b : Book) → lay (length ws) b ≡ ws → getD ws 2 0 ≡ live b
+live-laid ws b e = ap (λ (l : List ℕ). getD l 2 0) (sym e) ∙ live-read (length ws) b
 
 -- The head has the number of entries of each section.
 pub slot-small : (s : Section) → slotOf s < head-words

@@ -18,7 +18,7 @@ use Rattle.book.specs.declared.Section.the-variants.{Taught, Tops, Lows, Middle
 use Rattle.book.proofs.Meaning.{form-proper, section-even, used-fits}
 use Rattle.amend.specs.Changing.{changed, withSection, changedIn, livesThen, LivesReady, Stands, Ready}
 use Rattle.amend.specs.declared.Change.{Change}
-use Rattle.amend.proofs.Sections.{form-sorted, form-fitting, start-is, used-with, used-split, slot-read, live-read, start-used, part-entries, part-span, part-laid, used-then, then-laid}
+use Rattle.amend.proofs.Sections.{form-sorted, form-fitting, start-is, used-with, used-split, slot-read, live-laid, start-used, part-entries, part-span, part-laid, used-then, then-laid}
 
 -- The section that is given other entries has them.
 section-with : (s : Section) (es : List Entry) (b : Book) → sectionOf s (withSection s es b) ≡ es
@@ -44,7 +44,7 @@ module _ (ws : List ℕ) (s : Section) (at uses : ℕ) (h : Stands ws s at uses)
 
   -- The head's live teachings are the book's.
   pub stand-live : getD ws 2 0 ≡ live (bookIn ws)
-  stand-live = ap (λ (l : List ℕ). getD l 2 0) (sym (h .laid)) ∙ live-read (length ws) (bookIn ws)
+  stand-live = live-laid ws (bookIn ws) (h .laid)
 
   -- The number of entries that the head has.
   module _ (word : ℕ) (slot : word ≡ slotOf s) where

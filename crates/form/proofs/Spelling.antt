@@ -10,6 +10,7 @@ use lib.Seq.{drop-cons}
 use borrow.Author.Tests.{ne-eqb, eq-eqb, eqb-true}
 use Rattle.words.specs.Base.{if_then_else_}
 use Rattle.words.proofs.Tests.{and-left, and-right}
+use Rattle.order.proofs.Walks.{two}
 use Rattle.form.specs.Text.{digit-0, digit-9, space, line-feed, code-size}
 use Rattle.form.specs.Reading.{isDigit, figure, isCode, value, codeBehind, speltOf}
 use Rattle.form.specs.declared.reading.Fault.the-variants.{Misspelt}
@@ -57,18 +58,11 @@ of-code s a b c d e q =
 more-at : (s : List ℕ) (p k : ℕ) → p + k < length s → drop (p + k) s ≡ getD s (p + k) 0 ∷ drop (p + suc k) s
 more-at s p k h = let z : p + suc k ≡ suc (p + k) = omega arith in rw z (drop-cons s (p + k) 0 h)
 
--- Two bytes stand at a place.
-two-at : (s : List ℕ) (p : ℕ) → p + 2 ≤ length s → drop p s ≡ getD s p 0 ∷ getD s (p + 1) 0 ∷ drop (p + 2) s
-two-at s p h =
-    let z : p + 0 ≡ p = omega arith in
-    let a : drop p s ≡ getD s p 0 ∷ drop (p + 1) s = rw z at (more-at s p 0 (omega arith)) in
-    a ∙ ap (λ (l : List ℕ). getD s p 0 ∷ l) (more-at s p 1 (omega arith))
-
 -- Six bytes stand at a place.
 six-at : (s : List ℕ) (p : ℕ) → p + 6 ≤ length s →
     drop p s ≡ getD s p 0 ∷ getD s (p + 1) 0 ∷ getD s (p + 2) 0 ∷ getD s (p + 3) 0 ∷ getD s (p + 4) 0 ∷ getD s (p + 5) 0 ∷ drop (p + 6) s
 six-at s p h =
-    two-at s p (omega arith)
+    two s p (omega arith)
     ∙ ap (λ (l : List ℕ). getD s p 0 ∷ getD s (p + 1) 0 ∷ l) (more-at s p 2 (omega arith)
     ∙ ap (λ (l : List ℕ). getD s (p + 2) 0 ∷ l) (more-at s p 3 (omega arith)
     ∙ ap (λ (l : List ℕ). getD s (p + 3) 0 ∷ l) (more-at s p 4 (omega arith)
@@ -121,20 +115,20 @@ module _ (at : ℕ) (s : List ℕ) where
   -- The first is no digit.
   pub line-bad : at + 2 ≤ length s → isDigit (getD s at 0) ≡ false → Refused Misspelt ≡ speltOf (drop at s)
   unfolding speltOf if_then_else_
-  line-bad h e = rw (two-at s at h) (rw e refl)
+  line-bad h e = rw (two s at h) (rw e refl)
 
   -- The level has one digit.
   pub line-one : at + 2 ≤ length s → isDigit (getD s at 0) ≡ true → isDigit (getD s (at + 1) 0) ≡ false → codeBehind (figure (getD s at 0)) 1 (drop (at + 1) s) ≡ speltOf (drop at s)
   unfolding speltOf if_then_else_
-  line-one h e f = rw (two-at s at h, more-at s at 1 (omega arith)) (rw (e, f) refl)
+  line-one h e f = rw (two s at h, more-at s at 1 (omega arith)) (rw (e, f) refl)
 
   -- The level has two digits, the first of them 0.
   pub line-zero : at + 2 ≤ length s → isDigit (getD s at 0) ≡ true → isDigit (getD s (at + 1) 0) ≡ true → getD s at 0 ≡ digit-0 → Refused Misspelt ≡ speltOf (drop at s)
   unfolding speltOf if_then_else_
-  line-zero h e f g = rw (two-at s at h) (rw (e, f, eq-eqb _ _ g) refl)
+  line-zero h e f g = rw (two s at h) (rw (e, f, eq-eqb _ _ g) refl)
 
   -- The level has two digits.
   pub line-two : at + 2 ≤ length s → isDigit (getD s at 0) ≡ true → isDigit (getD s (at + 1) 0) ≡ true → (getD s at 0 ≡ digit-0 → ⊥)
       → codeBehind (figure (getD s at 0) * 10 + figure (getD s (at + 1) 0)) 2 (drop (at + 2) s) ≡ speltOf (drop at s)
   unfolding speltOf if_then_else_
-  line-two h e f g = rw (two-at s at h) (rw (e, f, ne-eqb _ _ g) refl)
+  line-two h e f g = rw (two s at h) (rw (e, f, ne-eqb _ _ g) refl)

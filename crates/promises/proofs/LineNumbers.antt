@@ -51,6 +51,7 @@ part-line-of e = ap (λ (w : PartWriting). w .answer .written .line) e
 pub check-line : (os : List ℕ) → checkOf os .line ≡ 0
 check-line os = go (numbered-why os)
   where
+    -- By the cause that it has.
     go : WhyNumbered os (checkOf os) → checkOf os .line ≡ 0
     go (numbered n e c) = line-of e
 
@@ -58,6 +59,7 @@ check-line os = go (numbered-why os)
 pub cut-line : (os out : List ℕ) (line d : ℕ) → cutIntoOf os line d out .answer .line ≡ 0
 cut-line os out line d = go (cut-why os out line d)
   where
+    -- By the row of cutting.
     go : WhyCut os out line d (cutIntoOf os line d out) → cutIntoOf os line d out .answer .line ≡ 0
     go (cut-no-order n e c x) = writing-line e
     go (cut-lacks t e q l) = writing-line e
@@ -68,6 +70,7 @@ cut-line os out line d = go (cut-why os out line d)
 pub part-line : (os out : List ℕ) (line k : ℕ) → partIntoOf os line k out .answer .written .line ≡ 0
 part-line os out line k = go (part-why os out line k)
   where
+    -- By the row of the part.
     go : WhyPart os out line k (partIntoOf os line k out) → partIntoOf os line k out .answer .written .line ≡ 0
     go (part-no-order n e c x) = part-line-of e
     go (part-lacks t e q l) = part-line-of e
@@ -82,6 +85,7 @@ part-line os out line k = go (part-why os out line k)
 pub open-line : (ws : List ℕ) (k : ℕ) → openOf ws k .answer .line ≡ 0
 open-line ws k = go (opened-why ws k)
   where
+    -- By the row of opening.
     go : WhyOpened ws k (openOf ws k) → openOf ws k .answer .line ≡ 0
     go (slice-short e h) = outcome-line e
     go (slice-long e h) = outcome-line e
@@ -93,6 +97,7 @@ open-line ws k = go (opened-why ws k)
 pub agrees-line : (ws : List ℕ) → agreesOf ws .line ≡ 0
 agrees-line ws = go (checked-why ws)
   where
+    -- By the row of checking.
     go : WhyChecked ws (agreesOf ws) → agreesOf ws .line ≡ 0
     go (check-no-book n e w) = line-of e
     go (disagrees b e i x) = line-of e
@@ -106,6 +111,7 @@ judge-line ws os low = go (judged-is ws os)
     none : {n line : ℕ} → judgeOf ws os ≡ record { number = n; line = line } → top-unknown ≤ n → judgeOf ws os .line ≡ 0
     none e h = absurd (omega (arith, low, h, ap (λ (a : Answer). a .number) e))
 
+    -- By the row of judging.
     go : Judged ws os (judgeOf ws os) → judgeOf ws os .line ≡ 0
     go (no-book n e w) = line-of e
     go (no-order b n e i c x) = line-of e
@@ -120,6 +126,7 @@ judge-line ws os low = go (judged-is ws os)
 pub print-line : (os out : List ℕ) → writeOf os out .answer .line ≡ 0
 print-line os out = go (printed-why os out)
   where
+    -- By the row of writing.
     go : WhyPrinted os out (writeOf os out) → writeOf os out .answer .line ≡ 0
     go (print-no-order n e c x) = writing-line e
     go (print-short t e q h) = writing-line e
@@ -142,6 +149,7 @@ read-line text out not-2 not-10 = go (read-why text out)
     number : {w : Writing} → readOf text out ≡ w → readOf text out .answer .number ≡ w .answer .number
     number e = ap (λ (w : Writing). w .answer .number) e
 
+    -- By the row of reading.
     go : WhyRead text out (readOf text out) → readOf text out .answer .line ≡ 0
     go (no-bytes e z) = absurd (not-10 (number e))
     go (at-fault n line e o f) = absurd (fault-number _ _ n (f .why) (λ i. not-2 (number e ∙ i)) (λ i. not-10 (number e ∙ i)))

@@ -63,6 +63,7 @@ unfolding timesOf if_then_else_
 times-in os [] h = absurd (omega arith)
 times-in os (p ∷ ps) h = go (sameWords p os) refl (times-in os ps)
   where
+    -- By whether the first is the order.
     go : (b : Bool) → sameWords p os ≡ b → (1 ≤ timesOf os ps → os ∈ ps) → os ∈ p ∷ ps
     go true e next = here (sym (words-same p os e))
     go false e next = let i : 1 ≤ 0 + timesOf os ps = rw e at h in there (next (omega arith))
@@ -73,6 +74,7 @@ unfolding without if_then_else_
 without-in os ps [] m = m
 without-in os ps (q ∷ qs) m = go (sameWords q os) m (without-in os ps qs)
   where
+    -- By whether the first is the one that is left out.
     go : (b : Bool) → ps ∈ (if b then qs else q ∷ without os qs) → (ps ∈ without os qs → ps ∈ qs) → ps ∈ q ∷ qs
     go true i next = there i
     go false (here e) next = here e
@@ -85,6 +87,7 @@ unfolding without timesOf if_then_else_
 times-without os ps [] h = absurd (omega arith)
 times-without os ps (q ∷ qs) h = go (sameWords q os) refl (times-without os ps qs)
   where
+    -- By whether the first is the one that is left out.
     go : (b : Bool) → sameWords q os ≡ b → (1 ≤ timesOf os qs → (if sameWords os ps then 1 else 0) + timesOf ps (without os qs) ≡ timesOf ps qs)
         → (if sameWords os ps then 1 else 0) + timesOf ps (if b then qs else q ∷ without os qs) ≡ (if sameWords q ps then 1 else 0) + timesOf ps qs
     go true e next = rw (words-same q os e)
@@ -152,6 +155,7 @@ module _ (k : ℕ) (s : Section) (u : Tree) where
   how-many Q from to [] all = rw empty-count none-left
   how-many Q from to (os ∷ rest) all = let f = all os (here refl) in go (f .tree) (f .isOrder) (anyTree u (treesIn s k (f .tree))) refl (how-many Q from to rest (later os rest all))
     where
+      -- By whether the first order counts the tree.
       go : (t : Tree) → IsOrder os t → (b : Bool) → anyTree u (treesIn s k t) ≡ b → HowMany Q rest (countOf (words u) (sectionOf s (booked k rest)))
           → HowMany Q (os ∷ rest) (countOf (words u) (sectionOf s (booked k (os ∷ rest))))
       go t o true e next =
@@ -172,9 +176,11 @@ module _ (k : ℕ) (s : Section) (u : Tree) where
       let f = all os (here refl) in
       omega (arith, booked-count os rest (f .tree) (f .isOrder) (later os rest all), once-most (f .tree), count-most rest (later os rest all))
     where
+      -- One teaching counts a tree once at most.
       once-most : (t : Tree) → timesIn s k 1 t u ≤ 1
       once-most t = go (anyTree u (treesIn s k t)) refl
         where
+          -- By whether its order counts the tree.
           go : (b : Bool) → anyTree u (treesIn s k t) ≡ b → timesIn s k 1 t u ≤ 1
           go true e = omega (arith, times-counted s k 1 t u (any-in u (treesIn s k t) e))
           go false e = omega (arith, times-other s k 1 t u (λ m. no-test (sym e ∙ in-any u m)))
@@ -216,10 +222,12 @@ module _ (k : ℕ) (orders : List (List ℕ)) (all : Orders orders) (u : Tree) w
   unfolding sectionOf
   counts-taught = how-many k Taught u (λ os. os ≡ words u) from to orders all
     where
+      -- An order that is this tree has its words,
       from : (os : List ℕ) (t : Tree) → IsOrder os t → u ∈ t ∷ [] → os ≡ words u
       from os t o (here e) = o .spelt ∙ ap words (sym e)
       from os t o (there m) = absurd (List·Memᴰ·not-nil m)
 
+      -- and one with its words is this tree.
       to : (os : List ℕ) (t : Tree) → IsOrder os t → os ≡ words u → u ∈ t ∷ []
       to os t o e = here (words-unique u t (sym e ∙ o .spelt))
 
@@ -247,6 +255,7 @@ count-times k ps (os ∷ rest) all =
     let f = all os (here refl) in
     ap (λ (b : Book). countOf ps (b .T)) (booked-first k os rest (f .tree) (f .isOrder)) ∙ go (f .tree) (f .isOrder .spelt) (count-times k ps rest (later os rest all))
   where
+    -- By the tree of the first order.
     go : (t : Tree) → os ≡ words t → countOf ps (booked k rest .T) ≡ timesOf ps rest → countOf ps (taught 1 t (booked k rest) .T) ≡ (if sameWords os ps then 1 else 0) + timesOf ps rest
     go t e next = unfold taught countsFor in rw (count-add 1 (words t) ps (booked k rest .T), next, e) refl
 
@@ -257,6 +266,7 @@ pub more-within : (k : ℕ) (t : Tree) (orders : List (List ℕ)) → Orders ord
     → withinCounts (taught 1 t (booked k orders)) ≡ true
 more-within k t orders all few form = none-passes t (booked k orders) form none
   where
+    -- None would pass: fewer than 65,535 are live.
     none : WouldPass t (booked k orders) → ⊥
     none (lives e) = omega (arith, booked-live k orders all)
     none (touched s u m e) = omega (arith, count-most k s u orders all)
@@ -281,9 +291,11 @@ module _ (k : ℕ) where
   booked-without os t o [] all h = absurd (omega arith)
   booked-without os t o (p ∷ ps) all h = go (sameWords p os) refl (booked-without os t o ps (later p ps all))
     where
+      -- Those that are left are within limits.
       fewer : Orders (without os ps)
       fewer qs m = all qs (there (without-in os qs ps m))
 
+      -- By whether the first is such an order.
       go : (b : Bool) → sameWords p os ≡ b → (1 ≤ timesOf os ps → booked k ps ≡ taught 1 t (booked k (without os ps)))
           → booked k (p ∷ ps) ≡ taught 1 t (booked k (if b then ps else p ∷ without os ps))
       go true e next = booked-first k p ps t (rw (sym (words-same p os e)) at o)
@@ -299,6 +311,7 @@ module _ (k : ℕ) where
   pub same-book : (qs orders : List (List ℕ)) → SameOrders qs orders → Orders orders → booked k qs ≡ booked k orders
   same-book [] orders same all = empty orders same
     where
+      -- Orders that are the same as none are none.
       empty : (orders : List (List ℕ)) → SameOrders [] orders → booked k [] ≡ booked k orders
       empty [] same = refl
       empty (p ∷ ps) same = absurd (unfold timesOf in omega (arith, same p, in-times p {orders = p ∷ ps} (here refl)))
@@ -309,5 +322,6 @@ module _ (k : ℕ) where
       ∙ ap (taught 1 (f .tree)) (same-book qs (without q orders) (rest some) (λ os m. all os (without-in q os orders m)))
       ∙ sym (booked-without q (f .tree) (f .isOrder) orders all some)
     where
+      -- Without the first of the one list the two are the same orders still.
       rest : 1 ≤ timesOf q orders → SameOrders qs (without q orders)
       rest some os = let e : (if sameWords q os then 1 else 0) + timesOf os qs ≡ timesOf os orders = unfold timesOf in same os in omega (arith, times-without q os orders some)

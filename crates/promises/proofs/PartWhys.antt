@@ -64,10 +64,12 @@ module _ (os : List ℕ) (t : Tree) (o : IsOrder os t) where
     no-subtree : Lacks t line → lineOf line (subtrees t) ≡ missing
     no-subtree l = go (placed os line (placeOf os line) Lacking refl (place l))
       where
+        -- The line has no place.
         place : Lacks t line → placeOf os line ≡ Lacking
         place (line-0 z) = place-none os line no-cause z
         place (past-last h) = place-past os line no-cause (omega (arith, half-lines))
 
+        -- So it has no tree.
         go : LacksLine os line → lineOf line (subtrees t) ≡ missing
         go q = let e : q .tree ≡ t = cc (q .is, order-read os t o) in ap (λ (u : Tree). lineOf line (subtrees u)) (sym e) ∙ q .lacks
 
@@ -81,6 +83,7 @@ module _ (os : List ℕ) (t : Tree) (o : IsOrder os t) where
     of-line : (line ≡ 0 → ⊥) → line ≤ length (subtrees t) → OfLine
     of-line z h = go (placed os line (placeOf os line) (At ((line - 1) * 2)) refl (place-at os line no-cause z (omega (arith, half-lines))))
       where
+        -- By the line's place.
         go : HasLine os line ((line - 1) * 2) → OfLine
         go q =
             let e : q .tree ≡ t = cc (q .is, order-read os t o) in
@@ -100,11 +103,13 @@ data Asked (os : List ℕ) (line : ℕ) : Type 0 where
 asked : (os : List ℕ) (line : ℕ) → Asked os line
 asked os line = go (seen os)
   where
+    -- Of an order, by whether it has the line.
     by-line : (t : Tree) → IsOrder os t → Dec (line < 1) → Dec (length (subtrees t) < line) → Asked os line
     by-line t o (yes h) d = lacking t o (line-0 (omega arith))
     by-line t o (no h) (yes g) = lacking t o (past-last g)
     by-line t o (no h) (no g) = there t o (of-line os t o line (λ z. omega arith) (omega arith))
 
+    -- By whether the words are an order.
     go : Seen os → Asked os line
     go (stopped h r) = no-order (causeOf os) (cause-is os) h
     go (passed t h p) = by-line t (passed-order os t p) (decLt line 1) (decLt (length (subtrees t)) line)
@@ -132,6 +137,7 @@ module _ (os : List ℕ) (line : ℕ) where
   pub subtree-why : WhySubtree os line (subtreeOf os line)
   subtree-why = go (asked os line)
     where
+      -- By what is asked.
       go : Asked os line → WhySubtree os line (subtreeOf os line)
       go (no-order n c x) = subtree-no-order n (hands-none n c x) c x
       go (lacking t o l) = subtree-lacks t (hands-empty t o l) o l
@@ -166,12 +172,14 @@ module _ (os out : List ℕ) (line d : ℕ) where
   pub cut-why : WhyCut os out line d (cutIntoOf os line d out)
   cut-why = go (asked os line)
     where
+      -- A line's cut, by whether the output has room.
       by-room : (t : Tree) → IsOrder os t → (s : Tree) → lineOf line (subtrees t) ≡ found s → Dec (length out < length (words (cut s d))) → WhyCut os out line d (cutIntoOf os line d out)
       by-room t o s i (yes h) = cut-short t s (cuts-words t o s i ∙ write-refuses (words (cut s d)) out h) o i h
       by-room t o s i (no h) =
           let l : length (words (cut s d)) ≤ length out = omega arith in
           cut-written t s (cuts-words t o s i ∙ write-writes (words (cut s d)) out l) o i l
 
+      -- By what is asked.
       go : Asked os line → WhyCut os out line d (cutIntoOf os line d out)
       go (no-order n c x) = cut-no-order n (cuts-none n c x) c x
       go (lacking t o l) = cut-lacks t (cuts-empty t o l) o l
@@ -212,6 +220,7 @@ module _ (os out : List ℕ) (line k : ℕ) where
   pub part-why : WhyPart os out line k (partIntoOf os line k out)
   part-why = go (asked os line)
     where
+      -- A low part, by whether the output has room.
       low : (t : Tree) → IsOrder os t → (s : Tree) → lineOf line (subtrees t) ≡ found s → depth s ≤ k - 2 → Dec (length out < length (words s))
           → WhyPart os out line k (partIntoOf os line k out)
       low t o s i b (yes h) = low-short t s (parts-low t o s i b ∙ ap (ofKind Low) (write-refuses (words s) out h)) o i b h
@@ -219,6 +228,7 @@ module _ (os out : List ℕ) (line k : ℕ) where
           let l : length (words s) ≤ length out = omega arith in
           low-written t s (parts-low t o s i b ∙ ap (ofKind Low) (write-writes (words s) out l)) o i b l
 
+      -- A middle part, by whether the output has room.
       deep : (t : Tree) → IsOrder os t → (s : Tree) → lineOf line (subtrees t) ≡ found s → k - 2 < depth s → Dec (length out < length (words (cut s (k - 1))))
           → WhyPart os out line k (partIntoOf os line k out)
       deep t o s i b (yes h) = middle-short t s (parts-middle t o s i b ∙ ap (ofKind Middle) (write-refuses (words (cut s (k - 1))) out h)) o i b h
@@ -226,10 +236,12 @@ module _ (os out : List ℕ) (line k : ℕ) where
           let l : length (words (cut s (k - 1))) ≤ length out = omega arith in
           middle-written t s (parts-middle t o s i b ∙ ap (ofKind Middle) (write-writes (words (cut s (k - 1))) out l)) o i b l
 
+      -- A line's part, by the depth of its subtree.
       by-depth : (t : Tree) → IsOrder os t → (s : Tree) → lineOf line (subtrees t) ≡ found s → Dec (k - 2 < depth s) → WhyPart os out line k (partIntoOf os line k out)
       by-depth t o s i (yes b) = deep t o s i b (decLt (length out) (length (words (cut s (k - 1)))))
       by-depth t o s i (no b) = low t o s i (omega arith) (decLt (length out) (length (words s)))
 
+      -- By what is asked.
       go : Asked os line → WhyPart os out line k (partIntoOf os line k out)
       go (no-order n c x) = part-no-order n (parts-none n c x) c x
       go (lacking t o l) = part-lacks t (parts-empty t o l) o l

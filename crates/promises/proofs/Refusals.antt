@@ -45,6 +45,7 @@ module _ (new out : List ℕ) where
   write-leaves : (write new out .answer .number ≡ done → ⊥) → (write new out .out ≡ out) × (write new out .answer .count ≡ 0)
   write-leaves x = go (decLt (length out) (length new))
     where
+      -- By whether there is room.
       go : Dec (length out < length new) → (write new out .out ≡ out) × (write new out .answer .count ≡ 0)
       go (yes h) = (ap (λ (w : Writing). w .out) (write-refuses h), ap (λ (w : Writing). w .answer .count) (write-refuses h))
       go (no h) = absurd (x (ap (λ (w : Writing). w .answer .number) (write-writes (omega arith))))
@@ -53,6 +54,7 @@ module _ (new out : List ℕ) where
   pub write-short : (write new out .answer .number ≡ short-output) exactly-when (length out < length new)
   write-short = (λ e. go e (decLt (length out) (length new)), λ h. ap (λ (w : Writing). w .answer .number) (write-refuses h))
     where
+      -- By whether there is room.
       go : write new out .answer .number ≡ short-output → Dec (length out < length new) → length out < length new
       go e (yes h) = h
       go e (no h) = absurd (omega (arith, ap (λ (w : Writing). w .answer .number) (write-writes (omega arith))))
@@ -61,6 +63,7 @@ module _ (new out : List ℕ) where
   pub later-words-stay : (drop (length new) (write new out .out) ≡ drop (length new) out) × (length (write new out .out) ≡ length out)
   later-words-stay = go (decLt (length out) (length new))
     where
+      -- By whether there is room.
       go : Dec (length out < length new) → (drop (length new) (write new out .out) ≡ drop (length new) out) × (length (write new out .out) ≡ length out)
       go (yes h) = (ap (λ (w : Writing). drop (length new) (w .out)) (write-refuses h), ap (λ (w : Writing). length (w .out)) (write-refuses h))
       go (no h) =
@@ -99,6 +102,7 @@ part-refusal-leaves os out line k = by-order (orderOf os)
     part : Found → PartWriting
     part s = byFound s (partWriting (noPart done) out) (λ s. ofKind (partOf k s .kind) (write (words (partOf k s .tree)) out))
 
+    -- By whether the order has the line.
     by-line : (s : Found) → (part s .answer .written .number ≡ done → ⊥) → (part s .out ≡ out) × (part s .answer .written .count ≡ 0)
     by-line missing x = absurd (x refl)
     by-line (found s) x = write-leaves (words (partOf k s .tree)) out x
@@ -107,6 +111,7 @@ part-refusal-leaves os out line k = by-order (orderOf os)
     whole : Order → PartWriting
     whole o = byOrder o (λ n. partWriting (noPart n) out) (λ t. part (lineOf line (subtrees t)))
 
+    -- By whether the words are an order.
     by-order : (o : Order) → (whole o .answer .written .number ≡ done → ⊥) → (whole o .out ≡ out) × (whole o .answer .written .count ≡ 0)
     by-order (refused n) x = (refl, refl)
     by-order (order t) x = by-line (lineOf line (subtrees t)) x
@@ -120,6 +125,7 @@ read-refusal-leaves text out = go (formOf text)
     whole : Form → Writing
     whole f = byForm f (λ n line. writing (refusedAt n line) out) (λ xs. write (wordsOf xs) out)
 
+    -- By whether the text is a form.
     go : (f : Form) → (whole f .answer .number ≡ done → ⊥) → (whole f .out ≡ out) × (whole f .answer .count ≡ 0)
     go (fault n line) x = (refl, refl)
     go (form xs) x = write-leaves (wordsOf xs) out x
@@ -135,6 +141,7 @@ open-refusal-leaves ws k = go (sized ws) (within least-k greatest-k k)
     whole : Bool → Bool → Outcome
     whole a b = if a then (if b then writeBook ws (bookOf k []) else leave ws k-outside) else leave ws book-size
 
+    -- By the two tests.
     go : (a b : Bool) → (whole a b .answer .number ≡ done → ⊥) → whole a b .words ≡ ws
     go true true x = absurd (x refl)
     go true false x = refl

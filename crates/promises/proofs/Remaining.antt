@@ -141,10 +141,12 @@ module _ (slice : List ℕ) (k : ℕ) (long : head-words ≤ length slice) (shor
     teach-keeps : (os : List ℕ) → Kept (length slice) k (remainBy (teach os) (teachOf ws os .answer .number) orders) (teachOf ws os .words)
     teach-keeps os = by-number (eqb (teachOf ws os .answer .number) done) refl
       where
+        -- A teaching that is done leaves the book of one order more.
         done-keeps : teachOf ws os .answer .number ≡ done → Met ws os → Kept (length slice) k (os ∷ orders) (teachOf ws os .words)
         done-keeps e (refuses n h r) = absurd (unfold teachOf in h (one-number (r _) e))
         done-keeps e (goes b t g) = taught-kept os t (g .isOrder) e
 
+        -- By whether the answer is 0.
         by-number : (b : Bool) → eqb (teachOf ws os .answer .number) done ≡ b → Kept (length slice) k (if b then os ∷ orders else orders) (teachOf ws os .words)
         by-number true e = unfold if_then_else_ in done-keeps (eqb-true (teachOf ws os .answer .number) done e) (met ws os)
         by-number false e = unfold if_then_else_ in
@@ -154,10 +156,12 @@ module _ (slice : List ℕ) (k : ℕ) (long : head-words ≤ length slice) (shor
     withdraw-keeps : (os : List ℕ) → Kept (length slice) k (remainBy (withdraw os) (withdrawOf ws os .answer .number) orders) (withdrawOf ws os .words)
     withdraw-keeps os = by-number (eqb (withdrawOf ws os .answer .number) done) refl
       where
+        -- A withdrawal that is done leaves the book of one such order less.
         done-keeps : withdrawOf ws os .answer .number ≡ done → Met ws os → Kept (length slice) k (without os orders) (withdrawOf ws os .words)
         done-keeps e (refuses n h r) = absurd (unfold withdrawOf in h (one-number (r _) e))
         done-keeps e (goes b t g) = withdrawn-kept os t (g .isOrder) e
 
+        -- By whether the answer is 0.
         by-number : (b : Bool) → eqb (withdrawOf ws os .answer .number) done ≡ b → Kept (length slice) k (if b then without os orders else orders) (withdrawOf ws os .words)
         by-number true e = unfold if_then_else_ in done-keeps (eqb-true (withdrawOf ws os .answer .number) done e) (met ws os)
         by-number false e = unfold if_then_else_ in

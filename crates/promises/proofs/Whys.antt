@@ -59,6 +59,7 @@ module _ (k : ℕ) where
   pub depth-why : WhyDepth k (depthOf k)
   depth-why = go (decLt k least-k) (decLt greatest-k k)
     where
+      -- By whether k is too low or too high.
       go : Dec (k < least-k) → Dec (greatest-k < k) → WhyDepth k (depthOf k)
       go (yes h) d = depth-below (below-outside h) h
       go (no h) (yes g) = depth-above (above-outside g) g
@@ -99,11 +100,13 @@ module _ (ws : List ℕ) (k : ℕ) where
   pub opened-why : WhyOpened ws k (openOf ws k)
   opened-why = by-size (decLt (length ws) head-words) (decLt most-book-words (length ws))
     where
+      -- In a slice of a size for a book, by whether k is too low or too high.
       by-depth : head-words ≤ length ws → length ws ≤ most-book-words → Dec (k < least-k) → Dec (greatest-k < k) → WhyOpened ws k (openOf ws k)
       by-depth l s (yes h) d = k-below (opens-below l s h) l s h
       by-depth l s (no h) (yes g) = k-above (opens-above l s g) l s g
       by-depth l s (no h) (no g) = opened (opens-empty l s (omega arith) (omega arith)) l s (omega arith) (omega arith)
 
+      -- By the size of the slice.
       by-size : Dec (length ws < head-words) → Dec (most-book-words < length ws) → WhyOpened ws k (openOf ws k)
       by-size (yes h) d = slice-short (opens-short h) h
       by-size (no h) (yes g) = slice-long (opens-long g) g
@@ -133,10 +136,12 @@ module _ (os out : List ℕ) where
   pub printed-why : WhyPrinted os out (writeOf os out)
   printed-why = go (seen os)
     where
+      -- Of an order, by whether the output has room.
       by-room : (t : Tree) → IsOrder os t → Dec (length out < length (textOf t)) → WhyPrinted os out (writeOf os out)
       by-room t q (yes h) = print-short t (prints-text t q ∙ write-refuses (textOf t) out h) q h
       by-room t q (no h) = let l : length (textOf t) ≤ length out = omega arith in printed t (prints-text t q ∙ write-writes (textOf t) out l) q l
 
+      -- By whether the words are an order.
       go : Seen os → WhyPrinted os out (writeOf os out)
       go (stopped h r) = print-no-order (causeOf os) (prints-none (causeOf os) (cause-is os) h) (cause-is os) h
       go (passed t h p) = by-room t (passed-order os t p) (decLt (length out) (length (textOf t)))
@@ -173,6 +178,7 @@ pub read-why : (text out : List ℕ) → WhyRead text out (readOf text out)
 read-why [] out = no-bytes (none-read out) refl
 read-why (b ∷ bs) out = go (formOf (b ∷ bs)) refl
   where
+    -- Of the text of an order, by whether the output has room.
     by-room : (f : TextOf (b ∷ bs)) → Dec (length out < length (words (f .tree))) → WhyRead (b ∷ bs) out (readOf (b ∷ bs) out)
     by-room f (yes h) =
         read-short (f .tree) (reads-words (b ∷ bs) out (f .tree) (f .spelt) (f .isOrder) ∙ write-refuses (words (f .tree)) out h) (f .spelt) (f .isOrder) h
@@ -180,6 +186,7 @@ read-why (b ∷ bs) out = go (formOf (b ∷ bs)) refl
         let l : length (words (f .tree)) ≤ length out = omega arith in
         read (f .tree) (reads-words (b ∷ bs) out (f .tree) (f .spelt) (f .isOrder) ∙ write-writes (words (f .tree)) out l) (f .spelt) (f .isOrder) l
 
+    -- By what the text is.
     go : (f : Form) → formOf (b ∷ bs) ≡ f → WhyRead (b ∷ bs) out (readOf (b ∷ bs) out)
     go (fault n line) e = let o : 0 < length (b ∷ bs) = omega arith in at-fault n line (fault-write (b ∷ bs) out e) o (first-fault (b ∷ bs) n line o e)
     go (form xs) e = let f = form-is (b ∷ bs) xs e in by-room f (decLt (length out) (length (words (f .tree))))

@@ -87,6 +87,7 @@ module _ (rest : List ℕ) where
   pub stored-is : (b : Book) → storedIn rest ≡ some b → Stored rest b
   stored-is b e = go (stores held) refl
     where
+      -- By the test.
       go : (t : Bool) → stores held ≡ t → Stored rest b
       go true p = let q : held ≡ b = cc (passes-some p) in passes-stored b (ap stores (sym q) ∙ p)
       go false p = absurd (let z : _≡_ {A = ℕ} 0 1 = cc (fails-none p) in omega arith)
@@ -99,6 +100,7 @@ module _ (rest : List ℕ) where
   pub none-stored : ((b : Book) → Stored rest b → ⊥) → storedIn rest ≡ none
   none-stored n = go (stores held) refl
     where
+      -- By the test.
       go : (t : Bool) → stores held ≡ t → storedIn rest ≡ none
       go true p = absurd (n held (passes-stored held p))
       go false p = fails-none p

@@ -42,7 +42,7 @@ use Rattle.own.proofs.Owning.{own-short}
 use Rattle.teach.proofs.Adds.{taught-changed, withdrawn-changed, used-taught, within-taught, lives-pass, count-passes, has-own, has-no-own, has-own-parts, has-no-own-parts}
 use Rattle.amend.proofs.Sections.{form-sorted}
 use Rattle.teach.proofs.Formed.{passed-fits, beside-form, ready-teach, ready-withdraw}
-use Rattle.amend.proofs.Sections.{live-read}
+use Rattle.amend.proofs.Sections.{live-laid}
 
 -- A slice of n zeros is as many zeros as it is long.
 pub all-zeros : (n : ℕ) → _≡_ {A = List ℕ} (replicate n 0) (replicate (length (replicate {A = ℕ} n 0)) 0)
@@ -109,7 +109,7 @@ module _ (ws : List ℕ) (p : Places) (H : Holds ws p) where
 
   -- Word 2 is the number of live teachings.
   lives : getD ws 2 0 ≡ live (bookIn ws)
-  lives = ap (λ (l : List ℕ). getD l 2 0) (sym (H .laid)) ∙ live-read (length ws) (bookIn ws)
+  lives = live-laid ws (bookIn ws) (H .laid)
 
   -- Where word 2 is not 65,535, one live teaching more has room.
   one-more : (getD ws 2 0 ≡ greatest-count → ⊥) → live (bookIn ws) < greatest-count
