@@ -35,7 +35,7 @@ pub fn word_at(bytes: &[u8], at: usize) -> u16
     high * 256 + low
 }
 
-// The words that bytes are, high byte first.
+// Writes to `out` the words that bytes are, high byte first.
 pub fn take_words(bytes: &[u8], out: &mut [u16])
     requires { ⌜ length (now bytes) ≡ 2 * length (now out) ⌝ }
     ensures { λ _. ⌜ now (out .exit) ≡ wordsOf (now (bytes .entry)) ⌝ }

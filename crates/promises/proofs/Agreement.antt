@@ -20,7 +20,7 @@ use Rattle.book.specs.Sound.{SoundBook}
 use Rattle.book.specs.Taught.{Teaching, bookOf, teachingsIn, anyTree, agreeing}
 use Rattle.book.specs.declared.Section.{Section}
 use Rattle.book.specs.declared.Section.the-variants.{Tops, Lows, Middles}
-use Rattle.book.proofs.Sound.{form-sound, sound-section}
+use Rattle.book.proofs.Sound.{form-sound, sound-form, sound-section}
 use Rattle.book.proofs.Taught.{any-in, in-any, taught-k, each-keys, section-same, none-in}
 use Rattle.teach.specs.Calls.{treesIn, timesIn}
 use Rattle.teach.proofs.Adds.{taught-section}
@@ -168,3 +168,7 @@ module _ (b : Book) (form : inForm b ≡ true) where
 -- that part".
 pub agreeing-exactly : (b : Book) → inForm b ≡ true → (agreeing b ≡ true) exactly-when Agrees b
 agreeing-exactly b form = (passed-agrees b form, agrees-passed b form)
+
+-- So it is of a sound book.
+pub sound-agreeing : (b : Book) → SoundBook b → (agreeing b ≡ true) exactly-when Agrees b
+sound-agreeing b s = agreeing-exactly b (sound-form b s)

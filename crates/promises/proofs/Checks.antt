@@ -1,5 +1,5 @@
--- Checking answers exactly by the rows of 01's table, as specs/Whys.antt states them, for any words; and it answers 0 for a book grown from an
--- opened one. Assumes nothing.
+-- Checking answers exactly by the rows of 01's table, as specs/Whys.antt states them, for any words; and it answers 0 after any
+-- calls of a run, however it started. Assumes nothing.
 use Prim.Native.Nat.{ℕ}
 use mathlib.Core.Path.{_≡_, refl, sym, ap, _∙_}
 use mathlib.Core.Bool.{Bool, true, false}
@@ -14,15 +14,15 @@ use Rattle.book.specs.Decoding.{bookFormOf}
 use Rattle.book.specs.Sound.{IsBook, WhyForm, shorter, longer, formless, book}
 use Rattle.book.specs.Taught.{agreeing}
 use Rattle.book.specs.declared.BookForm.the-variants.{Refused}
-use Rattle.book.proofs.Sound.{sound-form, decode-book, why-is, why-only}
+use Rattle.book.proofs.Sound.{why-is, why-only}
 use Rattle.agree.specs.Checking.{checkOf}
 use Rattle.agree.proofs.Checking.{check-unheld, check-held}
 use Rattle.effects.specs.Conditions.{_exactly-when_}
-use Rattle.promises.specs.Remaining.{Call, after}
+use Rattle.promises.specs.Remaining.{Call, after, remaining, booked}
 use Rattle.promises.specs.Agreement.{Agrees}
 use Rattle.promises.specs.Whys.{WhyChecked, check-no-book, disagrees, agrees}
-use Rattle.promises.proofs.Agreement.{agreeing-exactly}
-use Rattle.promises.proofs.Remaining.{Begun, holds-exactly, after-agrees}
+use Rattle.promises.proofs.Agreement.{sound-agreeing}
+use Rattle.promises.proofs.Remaining.{Begun, after-book, after-agrees}
 
 module _ (ws : List ℕ) where
   -- What is answered by a book that passes the test of agreeing or does not.
@@ -36,7 +36,7 @@ module _ (ws : List ℕ) where
   module _ (b : Book) (i : IsBook ws b) where
     -- The book passes the test exactly if it agrees with itself.
     test-exact : (agreeing b ≡ true) exactly-when Agrees b
-    test-exact = agreeing-exactly b (sound-form b (i .sound))
+    test-exact = sound-agreeing b (i .sound)
 
     -- One that passes is answered by 0,
     passed-0 : agreeing b ≡ true → checkOf ws ≡ answered done
@@ -82,6 +82,4 @@ module _ (ws : List ℕ) where
 -- After any calls the book is checked with 0.
 pub grown-agrees : (slice : List ℕ) (k : ℕ) (first : List (List ℕ)) (ws : List ℕ) → Begun slice k first ws → (cs : List Call) → checkOf (after cs ws) ≡ answered done
 grown-agrees slice k first ws begun cs =
-    let a = after-agrees slice k first ws begun cs in
-    let i = holds-exactly slice k first ws begun cs .isBook in
-    passed-0 (after cs ws) (a .0) (decode-book (after cs ws) (a .0) (i .long) (i .short) (a .1)) (a .2)
+    passed-0 (after cs ws) (booked k (remaining cs ws first)) (after-book slice k first ws begun cs) (after-agrees slice k first ws begun cs)

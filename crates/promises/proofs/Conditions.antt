@@ -161,14 +161,6 @@ module _ (slice : List ℕ) (k : ℕ) (first : List (List ℕ)) (ws : List ℕ) 
   pub withdrawing-8 : (os : List ℕ) (t : Tree) → IsOrder os t → (withdrawOf (after cs ws) os .answer .number ≡ not-taught) exactly-when (timesOf os orders ≡ 0)
   withdrawing-8 os t o = kept-8 slice k (begun .long) (begun .short) (begun .least) (begun .greatest) _ _ grown os t o
 
-  -- That book agrees with itself: it is the one that its words are decoded to.
-  grown-agreeing : (os : List ℕ) (t : Tree) → IsOrder os t → agreeing (booked k orders) ≡ true
-  grown-agreeing os t o =
-      let a = after-agrees slice k first ws begun cs in
-      let met = both-met slice k (begun .long) (begun .short) (begun .least) (begun .greatest) _ _ grown os t o in
-      let same : a .0 ≡ booked k orders = cc (a .1, met .isBook) in
-      ap agreeing (sym same) ∙ a .2
-
   -- 0, "done", exactly where the order is one of those that remain.
   pub withdrawing-0 : (os : List ℕ) (t : Tree) → IsOrder os t → (withdrawOf (after cs ws) os .answer .number ≡ done) exactly-when (1 ≤ timesOf os orders)
-  withdrawing-0 os t o = kept-withdrawn slice k (begun .long) (begun .short) (begun .least) (begun .greatest) _ _ grown os t o (grown-agreeing os t o)
+  withdrawing-0 os t o = kept-withdrawn slice k (begun .long) (begun .short) (begun .least) (begun .greatest) _ _ grown os t o (after-agrees slice k first ws begun cs)

@@ -38,7 +38,8 @@ use Rattle.promises.proofs.PartWhys.{numbered-why, numbered-only, subtr
 use Rattle.promises.proofs.Checks.{checked-why, checked-only}
 use Rattle.promises.proofs.FileWhys.{filed-why, filed-only, restored-why, restored-only}
 use Rattle.promises.proofs.LineNumbers.{check-line, cut-line, part-line, open-line, agrees-line, judge-line, print-line, read-line, filed-line, restored-line}
-use Rattle.promises.proofs.Refusals.{read-refusal-leaves, print-refusal-leaves, cut-refusal-leaves, part-refusal-leaves, open-refusal-leaves, file-refusal-leaves, restore-refusal-leaves}
+use Rattle.promises.proofs.Refusals.{read-refusal-leaves, print-refusal-leaves, cut-refusal-leaves, part-refusal-leaves, open-refusal-leaves}
+use Rattle.promises.proofs.FileTrips.{file-refusal-leaves, restore-refusal-leaves}
 
 -- ---- "the refusal number listed for it"
 

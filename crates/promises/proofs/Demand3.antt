@@ -5,25 +5,30 @@
 -- A run starts with an opened book or a file that is read (`Start`, specs/Starts.antt). A call has any words as its order; `after` is the slice after a
 -- list of calls, and `remaining` the orders that remain of those taught first and of the calls by the calls' own answers (specs/Remaining.antt). Assumes nothing.
 use Prim.Native.Nat.{ℕ, _≤_, _<_}
-use mathlib.Core.Path.{_≡_, refl}
+use mathlib.Core.Path.{_≡_, refl, ap}
 use mathlib.Core.List.{List, [], _∷_}
 use lib.ListN.{length}
 use Rattle.figures.specs.Limits.{head-words, most-book-words, least-k, greatest-k, greatest-count}
 use Rattle.figures.specs.Numbers.{done, no-room, too-many, not-taught}
 use Rattle.figures.specs.Answers.{answered}
+use Rattle.figures.specs.declared.Answer.{Answer}
+use Rattle.section.specs.Entries.{countOf}
 use Rattle.order.specs.Trees.{Tree}
 use Rattle.order.specs.Fits.{IsOrder}
-use Rattle.book.specs.Book.{used}
-use Rattle.book.specs.Opening.{openOf}
+use Rattle.order.specs.Answers.{write}
+use Rattle.book.specs.Book.{Book, used}
+use Rattle.book.specs.Opening.{outcome, openOf}
 use Rattle.judge.specs.Judging.{judgeOf}
 use Rattle.teach.specs.Calls.{teachOf, withdrawOf}
 use Rattle.effects.specs.Conditions.{_exactly-when_}
 use Rattle.agree.specs.Checking.{checkOf}
-use Rattle.store.specs.Files.{readFileOf}
+use Rattle.store.specs.Files.{fileOf, writeFileOf, readFileOf}
 use Rattle.promises.specs.Remaining.{Call, afterBy, after, remainingBy, remaining, timesOf, SameOrders, taughtAll, NoneRefused, booked, ExactlyThese, MadeOf}
-use Rattle.promises.specs.Starts.{Start, reading, startOf, taughtFirst, startK}
+use Rattle.promises.specs.Starts.{Start, opening, reading, startedBy, taughtFirst, startK}
+use Rattle.promises.specs.Whys.{IsFile}
 use Rattle.promises.proofs.Remaining.{after-long, holds-exactly, taught-alone}
-use Rattle.promises.proofs.Starting.{opens, begins}
+use Rattle.promises.proofs.Starting.{opens, begins, first-k}
+use Rattle.promises.proofs.GoingOn.{first-counts, stores, goes-back, same-k, same-first}
 use Rattle.promises.proofs.Passing.{passes-made}
 use Rattle.promises.proofs.Conditions.{teaching-7, teaching-6, teaching-0, withdrawing-8, withdrawing-0}
 use Rattle.promises.proofs.Checks.{grown-agrees}
@@ -32,8 +37,10 @@ use Rattle.promises.proofs.Checks.{grown-agrees}
 pub opening-done : (slice : List ℕ) (k : ℕ) → head-words ≤ length slice → length slice ≤ most-book-words → least-k ≤ k → k ≤ greatest-k → openOf slice k .answer ≡ answered done
 opening-done = opens
 
+-- ---- any start
+
 -- A start that was done, with an opened book or a file that was read,
-module _ (start : Start) (slice : List ℕ) (started : startOf start slice .answer .number ≡ done) where
+module _ (start : Start) (slice : List ℕ) (started : startedBy start slice .answer .number ≡ done) where
   -- at this k: the one opened at, or the file's,
   abbrev pub k : ℕ
   k = startK start
@@ -42,30 +49,30 @@ module _ (start : Start) (slice : List ℕ) (started : startOf start slice .answ
   module _ (cs : List Call) where
     -- The slice then.
     abbrev pub book : List ℕ
-    book = after cs (startOf start slice .words)
+    book = after cs (startedBy start slice .words)
 
     -- The orders that remain, each as often as it remains: of an opened book those of the calls, and of a file that was read its orders too.
     abbrev pub orders : List (List ℕ)
-    orders = remaining cs (startOf start slice .words) (taughtFirst start)
+    orders = remaining cs (startedBy start slice .words) (taughtFirst start)
 
     -- "Its parts and counts are exactly those of the orders that remain": by document 000's r, l and p, as demand 2 has them. So it is in form, of
     -- this k, and word 2 is how many orders remain.
     pub parts-and-counts : ExactlyThese k orders book
-    parts-and-counts = holds-exactly slice k (taughtFirst start) (startOf start slice .words) (begins start slice started) cs
+    parts-and-counts = holds-exactly slice k (taughtFirst start) (startedBy start slice .words) (begins start slice started) cs
 
     -- The slice keeps its length, so that `exactly-one` (proofs/Uniqueness.antt) leaves no word open.
     pub same-length : length book ≡ length slice
-    same-length = after-long slice k (taughtFirst start) (startOf start slice .words) (begins start slice started) cs
+    same-length = after-long slice k (taughtFirst start) (startedBy start slice .words) (begins start slice started) cs
 
     -- "In every word it is the book you get by teaching just the remaining orders, each as often as it remains, in whichever order, and none of those
     -- teachings is refused": in any slice of the same length, whatever stood in it before it was opened.
     pub in-every-word : (other : List ℕ) → length other ≡ length slice → (qs : List (List ℕ)) → SameOrders qs orders
         → NoneRefused qs (openOf other k .words) × (taughtAll qs (openOf other k .words) ≡ book)
-    in-every-word = taught-alone slice k (taughtFirst start) (startOf start slice .words) (begins start slice started) cs
+    in-every-word = taught-alone slice k (taughtFirst start) (startedBy start slice .words) (begins start slice started) cs
 
     -- It "agrees with itself": `agree::check` answers 0.
     pub agrees-with-itself : checkOf book ≡ answered done
-    agrees-with-itself = grown-agrees slice k (taughtFirst start) (startOf start slice .words) (begins start slice started) cs
+    agrees-with-itself = grown-agrees slice k (taughtFirst start) (startedBy start slice .words) (begins start slice started) cs
 
     -- Demands 2 and 3 together: "A new order made only of parts the book has seen passes" and no other does. `judge::judge` answers 0 exactly if the
     -- order's r is the r of an order that remains, each of its l an l of one, and each of its p a p of one.
@@ -74,25 +81,63 @@ module _ (start : Start) (slice : List ℕ) (started : startOf start slice .answ
 
     -- Not all of this could be met by refusing everything: an order within limits is refused by 7 exactly if 65,535 orders remain,
     pub refused-by-7 : (os : List ℕ) (t : Tree) → IsOrder os t → (teachOf book os .answer .number ≡ too-many) exactly-when (length orders ≡ greatest-count)
-    refused-by-7 = teaching-7 slice k (taughtFirst start) (startOf start slice .words) (begins start slice started) cs
+    refused-by-7 = teaching-7 slice k (taughtFirst start) (startedBy start slice .words) (begins start slice started) cs
 
     -- by 6 exactly if fewer remain and the book of these with this one more needs more words than the slice has,
     pub refused-by-6 : (os : List ℕ) (t : Tree) → IsOrder os t
         → (teachOf book os .answer .number ≡ no-room) exactly-when ((length orders < greatest-count) × (length slice < used (booked k (os ∷ orders))))
-    refused-by-6 = teaching-6 slice k (taughtFirst start) (startOf start slice .words) (begins start slice started) cs
+    refused-by-6 = teaching-6 slice k (taughtFirst start) (startedBy start slice .words) (begins start slice started) cs
 
     -- and is taught exactly if fewer remain and that book has room.
     pub taught-exactly : (os : List ℕ) (t : Tree) → IsOrder os t
         → (teachOf book os .answer .number ≡ done) exactly-when ((length orders < greatest-count) × (used (booked k (os ∷ orders)) ≤ length slice))
-    taught-exactly = teaching-0 slice k (taughtFirst start) (startOf start slice .words) (begins start slice started) cs
+    taught-exactly = teaching-0 slice k (taughtFirst start) (startedBy start slice .words) (begins start slice started) cs
 
     -- A withdrawal of an order within limits is refused by 8, "order has no entry in T", exactly if no such order remains,
     pub refused-by-8 : (os : List ℕ) (t : Tree) → IsOrder os t → (withdrawOf book os .answer .number ≡ not-taught) exactly-when (timesOf os orders ≡ 0)
-    refused-by-8 = withdrawing-8 slice k (taughtFirst start) (startOf start slice .words) (begins start slice started) cs
+    refused-by-8 = withdrawing-8 slice k (taughtFirst start) (startedBy start slice .words) (begins start slice started) cs
 
     -- and is done exactly if such an order remains.
     pub withdrawn-exactly : (os : List ℕ) (t : Tree) → IsOrder os t → (withdrawOf book os .answer .number ≡ done) exactly-when (1 ≤ timesOf os orders)
-    withdrawn-exactly = withdrawing-0 slice k (taughtFirst start) (startOf start slice .words) (begins start slice started) cs
+    withdrawn-exactly = withdrawing-0 slice k (taughtFirst start) (startedBy start slice .words) (begins start slice started) cs
+
+    -- The book can be stored: `store::write` writes its file, or answers 11 where the output is too short.
+    pub can-be-stored : (out : List ℕ) → writeFileOf book out ≡ write (fileOf (booked k orders)) out
+    can-be-stored = stores slice k (taughtFirst start) (startedBy start slice .words) (begins start slice started) cs
+
+    -- A run that starts by reading that file, in any slice of the same length, goes on from the same words at the same k, with the orders that remain
+    -- as those taught first.
+    pub goes-on : (other : List ℕ) → length other ≡ length slice → let file = fileOf (booked k orders) in
+        (startedBy (reading file) other ≡ outcome (answered done) book) × (startK (reading file) ≡ k) × SameOrders (taughtFirst (reading file)) orders
+    goes-on other same =
+        let g = begins start slice started in
+        let ws : List ℕ = startedBy start slice .words in
+        (goes-back slice k (taughtFirst start) ws g cs other same, same-k slice k (taughtFirst start) ws g cs, same-first slice k (taughtFirst start) ws g cs)
+
+-- ---- an opened book
+
+-- The demand as it was put: of an empty book of an allowed k and size, after any calls on it.
+module _ (slice : List ℕ) (k : ℕ) (long : head-words ≤ length slice) (short : length slice ≤ most-book-words) (least : least-k ≤ k) (greatest : k ≤ greatest-k) (cs : List Call) where
+  -- The opened book.
+  abbrev opened : List ℕ
+  opened = openOf slice k .words
+
+  -- Opening it is done.
+  opens-by-0 : openOf slice k .answer .number ≡ done
+  opens-by-0 = ap (λ (a : Answer). a .number) (opening-done slice k long short least greatest)
+
+  -- "Its parts and counts are exactly those of the orders that remain. In every word it is the book you get by teaching just the remaining orders, each
+  -- as often as it remains, in whichever order, and none of those teachings is refused."
+  pub from-an-empty-book : ExactlyThese k (remaining cs opened []) (after cs opened)
+      × ((other : List ℕ) → length other ≡ length slice → (qs : List (List ℕ)) → SameOrders qs (remaining cs opened [])
+      → NoneRefused qs (openOf other k .words) × (taughtAll qs (openOf other k .words) ≡ after cs opened))
+  from-an-empty-book = (parts-and-counts (opening k) slice opens-by-0 cs, in-every-word (opening k) slice opens-by-0 cs)
+
+-- ---- a file that was read
+
+-- The orders of a book's file that count as taught first are those that its T counts, each as often as it counts, and the run's k is the book's.
+pub counted-first : (file : List ℕ) (b : Book) → IsFile file b → (startK (reading file) ≡ b .k) × ((os : List ℕ) → timesOf os (taughtFirst (reading file)) ≡ countOf os (b .T))
+counted-first file b f = (first-k file b f, first-counts file b f)
 
 -- "A run that starts by reading a file counts that file's orders as taught first": a slice into which a file was read is in every word the one in which
 -- a book of the file's k was opened and the orders that its T counts were taught, each as often as it counts, and none of these teachings is refused.

@@ -1,5 +1,5 @@
 -- A book that agrees with itself goes to its file and back into a slice of its own length in every word, and what reads without refusal is written back
--- to the same bytes; how many bytes are written, and that reading does not hang on what stood in the slice. Assumes nothing.
+-- to the same bytes; how many bytes are written, that reading does not hang on what stood in the slice, and that a refusal leaves what was lent as it came. Assumes nothing.
 use Prim.Native.Nat.{ℕ, _+_, _*_}
 use mathlib.Core.Path.{_≡_, refl, sym, ap, _∙_}
 use mathlib.Core.List.{List}
@@ -9,39 +9,36 @@ use lib.Seq.{take-append-seam}
 use Rattle.figures.specs.Limits.{used-word}
 use Rattle.figures.specs.Numbers.{done}
 use Rattle.figures.specs.Answers.{answered}
-use Rattle.order.specs.Answers.{Writing, writing, write}
+use Rattle.order.specs.Answers.{Writing, refuse, write}
 use Rattle.book.specs.Book.{Book, lay}
 use Rattle.book.specs.Sound.{IsBook}
 use Rattle.book.specs.Opening.{Outcome, outcome, leave}
 use Rattle.book.proofs.Meaning.{lay-long, used-fits}
 use Rattle.book.proofs.Sound.{head-says}
-use Rattle.effects.proofs.Calling.{number-is}
+use Rattle.effects.proofs.Calling.{number-is, words-are}
 use Rattle.store.specs.Files.{front-bytes, fileOf, writeFileOf, readFileOf}
 use Rattle.store.proofs.Writing.{file-long}
 use Rattle.promises.specs.Agreement.{Agrees}
 use Rattle.promises.specs.Whys.{IsFile, WhyFiled, file-no-book, file-disagrees, file-short, filed}
 use Rattle.promises.specs.Whys.{BookSized, WhyRestored, restore-shorter, restore-longer, few-bytes, wrong-mark, wrong-version, no-used-words, restore-disagrees, restore-no-room, restores}
+use Rattle.promises.proofs.Refusals.{writing-number}
 use Rattle.promises.proofs.FileWhys.{form-refuses, agrees-filed, filed-why, file-read, restored-why, restored-only}
 
 -- ---- a book that agrees with itself
 
-module _ (ws : List ℕ) (b : Book) (i : IsBook ws b) (g : Agrees b) where
-  -- Its file is a file of it.
-  own-file : IsFile (fileOf b) b
-  own-file = record { sound = i .sound; short = omega (arith, used-fits ws b (i .laid), i .short); bytes = refl }
+-- The file of a book in form is a file of it.
+pub own-file : (ws : List ℕ) (b : Book) → IsBook ws b → IsFile (fileOf b) b
+own-file ws b i = record { sound = i .sound; short = omega (arith, used-fits ws b (i .laid), i .short); bytes = refl }
 
+module _ (ws : List ℕ) (b : Book) (i : IsBook ws b) (g : Agrees b) where
   -- Its file is read back into a slice of its own length to the same words.
   pub file-back : (slice : List ℕ) → length slice ≡ length ws → readFileOf (fileOf b) slice ≡ outcome (answered done) ws
   file-back slice e =
       let z : BookSized slice = (omega (arith, i .long), omega (arith, i .short)) in
-      file-read (fileOf b) slice z b own-file g (omega (arith, used-fits ws b (i .laid)))
+      file-read (fileOf b) slice z b (own-file ws b i) g (omega (arith, used-fits ws b (i .laid)))
       ∙ ap (outcome (answered done)) (ap (λ (n : ℕ). lay n b) e ∙ i .laid)
 
 -- ---- any words
-
--- A writing that is known has its number.
-filed-number : {v w : Writing} → v ≡ w → v .answer .number ≡ w .answer .number
-filed-number e = ap (λ (w : Writing). w .answer .number) e
 
 -- The bytes that were written without refusal are read back into a slice of the book's length to the same words.
 pub filed-back : (ws out : List ℕ) → writeFileOf ws out .answer .number ≡ done → (slice : List ℕ) → length slice ≡ length ws
@@ -54,9 +51,9 @@ filed-back ws out d slice same = go (filed-why ws out)
 
     -- By the row of writing.
     go : WhyFiled ws out (writeFileOf ws out) → readFileOf (sent (writeFileOf ws out)) slice ≡ outcome (answered done) ws
-    go (file-no-book n e w) = absurd (form-refuses ws n w (sym (filed-number e) ∙ d))
-    go (file-disagrees b e i x) = absurd (omega (arith, d, filed-number e))
-    go (file-short b e i g h) = absurd (omega (arith, d, filed-number e))
+    go (file-no-book n e w) = absurd (form-refuses ws n w (sym (writing-number e) ∙ d))
+    go (file-disagrees b e i x) = absurd (omega (arith, d, writing-number e))
+    go (file-short b e i g h) = absurd (omega (arith, d, writing-number e))
     go (filed b e i g h) =
         ap (λ (w : Writing). readFileOf (sent w) slice) e
         ∙ ap (λ (l : List ℕ). readFileOf l slice) (take-append-seam (fileOf b) _)
@@ -68,12 +65,12 @@ filed-bytes ws out d = go (filed-why ws out)
   where
     -- By the row of writing.
     go : WhyFiled ws out (writeFileOf ws out) → writeFileOf ws out .answer .count ≡ front-bytes + 2 * getD ws used-word 0
-    go (file-no-book n e w) = absurd (form-refuses ws n w (sym (filed-number e) ∙ d))
-    go (file-disagrees b e i x) = absurd (omega (arith, d, filed-number e))
-    go (file-short b e i g h) = absurd (omega (arith, d, filed-number e))
+    go (file-no-book n e w) = absurd (form-refuses ws n w (sym (writing-number e) ∙ d))
+    go (file-disagrees b e i x) = absurd (omega (arith, d, writing-number e))
+    go (file-short b e i g h) = absurd (omega (arith, d, writing-number e))
     go (filed b e i g h) = omega (arith, ap (λ (w : Writing). w .answer .count) e, file-long b, head-says ws b i .1)
 
--- The words that a file was read to without refusal are written back to the same bytes, or answered by 11 where the later output is too short.
+-- The words that a file was read to without refusal are written back to the same bytes, or answered by 11 where the output is too short.
 pub read-back-filed : (file slice : List ℕ) → readFileOf file slice .answer .number ≡ done → (out : List ℕ) → writeFileOf (readFileOf file slice .words) out ≡ write file out
 read-back-filed file slice d out = go (restored-why file slice)
   where
@@ -133,5 +130,38 @@ module _ (file v w : List ℕ) (same : length v ≡ length w) where
       go (restores b e z f g h) =
           let i = there _ (restores b refl (other-sized z) f g (omega arith)) in (
             ap (λ (o : Outcome). o .answer) e ∙ sym (ap (λ (o : Outcome). o .answer) i),
-            λ d. ap (λ (o : Outcome). o .words) e ∙ ap (λ (n : ℕ). lay n b) same ∙ sym (ap (λ (o : Outcome). o .words) i),
+            λ d. words-are e ∙ ap (λ (n : ℕ). lay n b) same ∙ sym (ap (λ (o : Outcome). o .words) i),
           )
+
+-- ---- refusals
+
+-- Writing a file leaves the output where it refuses, and counts 0.
+pub file-refusal-leaves : (ws out : List ℕ) → (writeFileOf ws out .answer .number ≡ done → ⊥) → (writeFileOf ws out .out ≡ out) × (writeFileOf ws out .answer .count ≡ 0)
+file-refusal-leaves ws out x = go (filed-why ws out)
+  where
+    -- A refusal that is known.
+    left : (n : ℕ) → writeFileOf ws out ≡ refuse n out → (writeFileOf ws out .out ≡ out) × (writeFileOf ws out .answer .count ≡ 0)
+    left n e = (ap (λ (w : Writing). w .out) e, ap (λ (w : Writing). w .answer .count) e)
+
+    -- By the row of writing.
+    go : WhyFiled ws out (writeFileOf ws out) → (writeFileOf ws out .out ≡ out) × (writeFileOf ws out .answer .count ≡ 0)
+    go (file-no-book n e w) = left n e
+    go (file-disagrees b e i y) = left _ e
+    go (file-short b e i g h) = left _ e
+    go (filed b e i g h) = absurd (x (writing-number e))
+
+-- Reading a file leaves the slice where it refuses.
+pub restore-refusal-leaves : (file ws : List ℕ) → (readFileOf file ws .answer .number ≡ done → ⊥) → readFileOf file ws .words ≡ ws
+restore-refusal-leaves file ws x = go (restored-why file ws)
+  where
+    -- By the row of reading.
+    go : WhyRestored file ws (readFileOf file ws) → readFileOf file ws .words ≡ ws
+    go (restore-shorter e h) = words-are e
+    go (restore-longer e h) = words-are e
+    go (few-bytes e z h) = words-are e
+    go (wrong-mark e z l y) = words-are e
+    go (wrong-version high low rest e z f y) = words-are e
+    go (no-used-words high low rest e z f v y) = words-are e
+    go (restore-disagrees b e z f y) = words-are e
+    go (restore-no-room b e z f g h) = words-are e
+    go (restores b e z f g h) = absurd (x (number-is e))

@@ -25,15 +25,15 @@ use Rattle.book.specs.declared.BookForm.the-variants.{Refused}
 use Rattle.book.proofs.Heads.{too-short, too-long, is-sized}
 use Rattle.book.proofs.Sound.{form-sound, sound-form, why-is, why-only}
 use Rattle.octets.specs.Octets.{bytesOf, wordAt}
-use Rattle.store.specs.Files.{mark, mark-bytes, version, front-bytes, fileOf, writeFileOf, isMarked, storedIn, restored, restoreOf, readFileOf}
+use Rattle.store.specs.Files.{mark, mark-bytes, version, front-bytes, fileOf, writeFileOf, isMarked, storedIn, readBookOf, readRestOf, readFileOf}
 use Rattle.store.proofs.Stored.{Stored, stored-some, stored-is, stored-none}
 use Rattle.store.proofs.Writing.{file-unheld, file-by}
 use Rattle.store.proofs.Reading.{mark-short, marked-long, read-unsized, read-unmarked, read-other, read-rest}
 use Rattle.store.proofs.Restoring.{restore-none, restore-some, restored-disagreeing, restored-short, restored-written}
 use Rattle.promises.specs.Agreement.{Agrees}
-use Rattle.promises.specs.Whys.{IsFile, BookSized, WhyFiled, file-no-book, file-disagrees, file-short, filed}
+use Rattle.promises.specs.Whys.{UsedWords, IsFile, BookSized, WhyFiled, file-no-book, file-disagrees, file-short, filed}
 use Rattle.promises.specs.Whys.{WhyRestored, restore-shorter, restore-longer, few-bytes, wrong-mark, wrong-version, no-used-words, restore-disagrees, restore-no-room, restores}
-use Rattle.promises.proofs.Agreement.{agreeing-exactly}
+use Rattle.promises.proofs.Agreement.{sound-agreeing}
 use Rattle.promises.proofs.Refusals.{write-refuses, write-writes}
 
 -- ---- writing a file
@@ -59,7 +59,7 @@ module _ (ws out : List ℕ) where
     -- A book that agrees with itself is written.
     pub agrees-filed : Agrees b → writeFileOf ws out ≡ write (fileOf b) out
     unfolding if_then_else_
-    agrees-filed g = file-by ws out b i true (agreeing-exactly b (sound-form b (i .sound)) .1 g)
+    agrees-filed g = file-by ws out b i true (sound-agreeing b (i .sound) .1 g)
 
     -- One that does not is refused by 9.
     disagrees-filed : (Agrees b → ⊥) → writeFileOf ws out ≡ refuse not-agreeing out
@@ -67,7 +67,7 @@ module _ (ws out : List ℕ) where
       where
         -- By the test.
         go : (t : Bool) → agreeing b ≡ t → writeFileOf ws out ≡ refuse not-agreeing out
-        go true e = absurd (x (agreeing-exactly b (sound-form b (i .sound)) .0 e))
+        go true e = absurd (x (sound-agreeing b (i .sound) .0 e))
         go false e = not-filed e
 
   -- What writing a file gives has a row of 01's table.
@@ -81,8 +81,8 @@ module _ (ws out : List ℕ) where
 
       -- A book, by the test of agreeing.
       by-book : (b : Book) → IsBook ws b → (t : Bool) → agreeing b ≡ t → WhyFiled ws out (writeFileOf ws out)
-      by-book b i true e = by-room b i (agreeing-exactly b (sound-form b (i .sound)) .0 e) (decLt (length out) (length (fileOf b)))
-      by-book b i false e = file-disagrees b (not-filed b i e) i (λ g. no-test (sym e ∙ agreeing-exactly b (sound-form b (i .sound)) .1 g))
+      by-book b i true e = by-room b i (sound-agreeing b (i .sound) .0 e) (decLt (length out) (length (fileOf b)))
+      by-book b i false e = file-disagrees b (not-filed b i e) i (λ g. no-test (sym e ∙ sound-agreeing b (i .sound) .1 g))
 
       -- A reason of the words' form.
       no-book : (n : ℕ) → WhyForm ws (Refused n) → WhyFiled ws out (writeFileOf ws out)
@@ -101,6 +101,20 @@ module _ (ws out : List ℕ) where
   filed-only w (file-disagrees b e i x) = disagrees-filed b i x ∙ sym e
   filed-only w (file-short b e i g h) = agrees-filed b i g ∙ write-refuses (fileOf b) out h ∙ sym e
   filed-only w (filed b e i g h) = agrees-filed b i g ∙ write-writes (fileOf b) out h ∙ sym e
+
+-- ---- the used words of a book
+
+-- Bytes that are a book's used words are stored,
+used-stored : (rest : List ℕ) (b : Book) → UsedWords rest b → Stored rest b
+used-stored rest b u = record { form = sound-form b (u .sound); short = u .short; bytes = sym (u .bytes) }
+
+-- and stored bytes are a book's used words.
+stored-used : (rest : List ℕ) (b : Book) → Stored rest b → UsedWords rest b
+stored-used rest b s = record { sound = form-sound b (s .form); short = s .short; bytes = sym (s .bytes) }
+
+-- Behind the front of a book's file stand its used words.
+file-used : (file : List ℕ) (b : Book) → IsFile file b → UsedWords (bytesOf (encode b)) b
+file-used file b f = record { sound = f .sound; short = f .short; bytes = refl }
 
 -- ---- the front of a file
 
@@ -141,7 +155,7 @@ module _ (file : List ℕ) where
       (t .0, t .1, t .2, sym (take-append-drop mark-bytes file) ∙ ap₂ _++_ m (t .3))
 
 module _ (high low : ℕ) (rest : List ℕ) where
-  -- The mark and five bytes or more are marked.
+  -- The mark with two bytes or more behind it is marked.
   front-marked : isMarked (mark ++ (high ∷ low ∷ rest)) ≡ true
   unfolding isMarked sameWords _and_
   front-marked = and-both (le-leb front-bytes (length (mark ++ (high ∷ low ∷ rest))) (omega arith)) refl
@@ -154,7 +168,7 @@ module _ (high low : ℕ) (rest : List ℕ) where
   front-rest : drop front-bytes (mark ++ (high ∷ low ∷ rest)) ≡ rest
   front-rest = refl
 
-  -- With version 1 the whole is the file of a book whose used words the rest are,
+  -- With version 1 the whole is the file of a book whose used words the rest are.
   stored-file : (b : Book) → high * 256 + low ≡ version → Stored rest b → IsFile (mark ++ (high ∷ low ∷ rest)) b
   stored-file b v s =
       let h : high ≡ 0 = omega arith in
@@ -164,14 +178,6 @@ module _ (high low : ℕ) (rest : List ℕ) where
         short = s .short;
         bytes = ap₂ (λ (x y : ℕ). mark ++ (x ∷ y ∷ rest)) h l ∙ ap (λ (r : List ℕ). mark ++ (0 ∷ 1 ∷ r)) (sym (s .bytes)) ∙ sym (file-front b);
       }
-
-  -- and the rest are the used words of a book whose file the whole is.
-  file-stored : (b : Book) → IsFile (mark ++ (high ∷ low ∷ rest)) b → Stored rest b
-  file-stored b f = record {
-    form = sound-form b (f .sound);
-    short = f .short;
-    bytes = sym (ap (drop front-bytes) (f .bytes ∙ file-front b));
-  }
 
 -- ---- reading a file
 
@@ -204,7 +210,7 @@ module _ (ws : List ℕ) (z : BookSized ws) (high low : ℕ) (rest : List ℕ) w
 
   module _ (v : high * 256 + low ≡ version) where
     -- With version 1 the rest decides.
-    by-rest : readFileOf whole ws ≡ restoreOf rest ws
+    by-rest : readFileOf whole ws ≡ readRestOf rest ws
     by-rest = read-rest whole ws (size-test ws z) (front-marked high low rest) (eq-eqb (high * 256 + low) version v)
 
     -- A rest that is the used words of no book is refused by 14.
@@ -212,26 +218,26 @@ module _ (ws : List ℕ) (z : BookSized ws) (high low : ℕ) (rest : List ℕ) w
     rest-14 x = by-rest ∙ restore-none rest ws x
 
     -- A book is looked at further.
-    rest-book : (b : Book) → Stored rest b → readFileOf whole ws ≡ restored ws b
+    rest-book : (b : Book) → Stored rest b → readFileOf whole ws ≡ readBookOf ws b
     rest-book b s = by-rest ∙ restore-some rest ws b s
 
 -- Behind the front of a book's file the book is found.
 pub file-rest : (file : List ℕ) (b : Book) → IsFile file b → storedIn (drop front-bytes file) ≡ some b
 file-rest file b f =
     ap (λ (l : List ℕ). storedIn (drop front-bytes l)) (f .bytes ∙ file-front b)
-    ∙ stored-some (bytesOf (encode b)) b (record { form = sound-form b (f .sound); short = f .short; bytes = refl })
+    ∙ stored-some (bytesOf (encode b)) b (used-stored _ b (file-used file b f))
 
 module _ (file ws : List ℕ) (z : BookSized ws) (b : Book) (f : IsFile file b) where
   -- A book's file in a slice of a size for a book is looked at further.
-  file-book : readFileOf file ws ≡ restored ws b
+  file-book : readFileOf file ws ≡ readBookOf ws b
   file-book =
       let e : file ≡ mark ++ (0 ∷ 1 ∷ bytesOf (encode b)) = f .bytes ∙ file-front b in
       ap (λ (l : List ℕ). readFileOf l ws) e
-      ∙ rest-book ws z 0 1 (bytesOf (encode b)) refl b (record { form = sound-form b (f .sound); short = f .short; bytes = refl })
+      ∙ rest-book ws z 0 1 (bytesOf (encode b)) refl b (used-stored _ b (file-used file b f))
 
-  -- The test of agreeing passes exactly if the book agrees with itself.
+  -- A book that agrees with itself passes the test.
   agrees-test : Agrees b → agreeing b ≡ true
-  agrees-test = agreeing-exactly b (sound-form b (f .sound)) .1
+  agrees-test = sound-agreeing b (f .sound) .1
 
   -- The file of a book that agrees with itself is read into any slice of a size for a book that has room.
   pub file-read : Agrees b → used b ≤ length ws → readFileOf file ws ≡ writeBook ws b
@@ -247,7 +253,7 @@ module _ (file ws : List ℕ) (z : BookSized ws) (b : Book) (f : IsFile file b) 
     where
       -- By the test.
       go : (t : Bool) → agreeing b ≡ t → readFileOf file ws ≡ leave ws not-agreeing
-      go true e = absurd (x (agreeing-exactly b (sound-form b (f .sound)) .0 e))
+      go true e = absurd (x (sound-agreeing b (f .sound) .0 e))
       go false e = file-book ∙ restored-disagreeing ws b e
 
   -- By whether it agrees and has room, reading it has a row.
@@ -261,7 +267,7 @@ module _ (file ws : List ℕ) (z : BookSized ws) (b : Book) (f : IsFile file b) 
 
       -- By the test of agreeing.
       by-test : (t : Bool) → agreeing b ≡ t → WhyRestored file ws (readFileOf file ws)
-      by-test true e = by-room (agreeing-exactly b (sound-form b (f .sound)) .0 e) (decLt (length ws) (used b))
+      by-test true e = by-room (sound-agreeing b (f .sound) .0 e) (decLt (length ws) (used b))
       by-test false e = restore-disagrees b (file-book ∙ restored-disagreeing ws b e) z f (λ g. no-test (sym e ∙ agrees-test g))
 
 module _ (file ws : List ℕ) where
@@ -273,7 +279,7 @@ module _ (file ws : List ℕ) where
       by-stored : BookSized ws → (high low : ℕ) (rest : List ℕ) → file ≡ mark ++ (high ∷ low ∷ rest) → high * 256 + low ≡ version → (o : Option Book) → storedIn rest ≡ o → WhyRestored file ws (readFileOf file ws)
       by-stored z high low rest e v none n =
           no-used-words high low rest (ap (λ (l : List ℕ). readFileOf l ws) e ∙ rest-14 ws z high low rest v (stored-none rest n)) z e v
-          (λ b f. stored-none rest n b (file-stored high low rest b (subst (λ (l : List ℕ). IsFile l b) e f)))
+          (λ b u. stored-none rest n b (used-stored rest b u))
       by-stored z high low rest e v (some b) n = file-why file ws z b (subst (λ (l : List ℕ). IsFile l b) (sym e) (stored-file high low rest b v (stored-is rest b n)))
 
       -- Marked bytes, by the version.
@@ -308,7 +314,7 @@ module _ (file ws : List ℕ) where
   restored-only o (wrong-version high low rest e z f x) = ap (λ (l : List ℕ). readFileOf l ws) f ∙ version-13 ws z high low rest x ∙ sym e
   restored-only o (no-used-words high low rest e z f v x) =
       ap (λ (l : List ℕ). readFileOf l ws) f
-      ∙ rest-14 ws z high low rest v (λ b s. x b (subst (λ (l : List ℕ). IsFile l b) (sym f) (stored-file high low rest b v s)))
+      ∙ rest-14 ws z high low rest v (λ b s. x b (stored-used rest b s))
       ∙ sym e
   restored-only o (restore-disagrees b e z f x) = file-9 file ws z b f x ∙ sym e
   restored-only o (restore-no-room b e z f g h) = file-6 file ws z b f g h ∙ sym e

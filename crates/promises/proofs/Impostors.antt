@@ -30,7 +30,7 @@ use Rattle.effects.specs.Whys.{WhyTaught}
 use Rattle.effects.proofs.Whys.{teach-only}
 use Rattle.promises.specs.Heard.{single, pair}
 use Rattle.promises.specs.Remaining.{Call, teach, outcomeOf, afterBy, remainBy, remainingBy, booked, ExactlyThese}
-use Rattle.promises.specs.Starts.{Start, opening, startOf, taughtFirst, startK}
+use Rattle.promises.specs.Starts.{Start, opening, startedBy, taughtFirst, startK}
 use Rattle.promises.proofs.Computed.{computes}
 use Rattle.promises.proofs.Demand2.{passes-exactly}
 use Rattle.promises.proofs.Demand3.{opening-done, parts-and-counts, same-length, taught-exactly}
@@ -213,16 +213,16 @@ module _ (g : List ℕ → List ℕ → Answer) (meets : Judging g) where
 
 -- ---- by demand 3's parts and counts
 
--- What answers calls so that, after any of them on a book opened at an allowed k and size or read from a file, "its parts and counts are exactly
--- those of the orders that remain", and the slice has its length. What refuses every call and changes no word meets this too: `Accepts` shuts it out.
-abbrev pub Keeps : (Call → List ℕ → Outcome) → Type 0
-Keeps answers =
-    (start : Start) (slice : List ℕ) → startOf start slice .answer .number ≡ done → (cs : List Call)
-    → ExactlyThese (startK start) (remainingBy answers cs (startOf start slice .words) (taughtFirst start)) (afterBy answers cs (startOf start slice .words))
-    × (length (afterBy answers cs (startOf start slice .words)) ≡ length slice)
+-- What answers calls so that, after any of them on a book that a run starts with, "its parts and counts are exactly those of the orders that remain",
+-- and the slice has its length. What refuses every call and changes no word meets this too: `Accepts` shuts it out.
+abbrev pub Keeps : Start → (Call → List ℕ → Outcome) → Type 0
+Keeps start answers =
+    (slice : List ℕ) → startedBy start slice .answer .number ≡ done → (cs : List Call)
+    → ExactlyThese (startK start) (remainingBy answers cs (startedBy start slice .words) (taughtFirst start)) (afterBy answers cs (startedBy start slice .words))
+    × (length (afterBy answers cs (startedBy start slice .words)) ≡ length slice)
 
 -- The teaching and withdrawing here do.
-pub keeping-here : Keeps outcomeOf
+pub keeping-here : (start : Start) → Keeps start outcomeOf
 keeping-here start slice started cs = (parts-and-counts start slice started cs, same-length start slice started cs)
 
 -- No words hold exactly some orders and exactly these with one more: they have one book, and it has one number of live teachings.
@@ -234,10 +234,10 @@ done-one-more : (os : List ℕ) (n : ℕ) (orders : List (List ℕ)) → n ≡ d
 unfolding if_then_else_
 done-one-more os n orders e = rw e refl
 
-module _ (answers : Call → List ℕ → Outcome) (keeps : Keeps answers) (start : Start) (slice : List ℕ) (started : startOf start slice .answer .number ≡ done) where
+module _ (answers : Call → List ℕ → Outcome) (start : Start) (keeps : Keeps start answers) (slice : List ℕ) (started : startedBy start slice .answer .number ≡ done) where
   -- The words of the slice once the run is started.
   abbrev begun : List ℕ
-  begun = startOf start slice .words
+  begun = startedBy start slice .words
 
   -- The orders that count as taught first.
   abbrev early : List (List ℕ)
@@ -252,8 +252,8 @@ module _ (answers : Call → List ℕ → Outcome) (keeps : Keeps answers) (star
       let more : remainingBy answers (cs ++ (teach os ∷ [])) begun early ≡ os ∷ orders = remaining-last answers (teach os) cs begun early ∙ done-one-more os _ orders is-done in
       let unchanged : afterBy answers (cs ++ (teach os ∷ [])) begun ≡ ws = after-last answers (teach os) cs begun ∙ same in
       let later : ExactlyThese (startK start) (os ∷ orders) (afterBy answers (cs ++ (teach os ∷ [])) begun) =
-      subst (λ (ps : List (List ℕ)). ExactlyThese (startK start) ps (afterBy answers (cs ++ (teach os ∷ [])) begun)) more (keeps start slice started (cs ++ (teach os ∷ [])) .0) in
-      one-more-differs (startK start) orders os ws (keeps start slice started cs .0) (subst (ExactlyThese (startK start) (os ∷ orders)) unchanged later)
+      subst (λ (ps : List (List ℕ)). ExactlyThese (startK start) ps (afterBy answers (cs ++ (teach os ∷ [])) begun)) more (keeps slice started (cs ++ (teach os ∷ [])) .0) in
+      one-more-differs (startK start) orders os ws (keeps slice started cs .0) (subst (ExactlyThese (startK start) (os ∷ orders)) unchanged later)
 
   -- "Teaching that writes nothing: demand 3's parts and counts, which are demand 2's definitions over the remaining orders." A teaching of the
   -- book that a run starts with, if it is done, changes the words.
@@ -264,29 +264,28 @@ module _ (answers : Call → List ℕ → Outcome) (keeps : Keeps answers) (star
   -- "Word 2 or a count invented: the definition of counts and demand 3." After any calls word 2 is the number of orders that remain.
   pub live-counted : (cs : List Call) → getD (afterBy answers cs begun) live-word 0 ≡ length (remainingBy answers cs begun early)
   unfolding live
-  live-counted cs = let x = keeps start slice started cs .0 in head-says (afterBy answers cs begun) (x .book) (x .isBook) .2 ∙ x .lives
+  live-counted cs = let x = keeps slice started cs .0 in head-says (afterBy answers cs begun) (x .book) (x .isBook) .2 ∙ x .lives
 
   -- "Word 2 or a count invented: the definition of counts and demand 3." No word is left to invent: after any calls the slice is that of the book
   -- of the orders that remain.
   pub counts-kept : (cs : List Call) → afterBy answers cs begun ≡ lay (length slice) (booked (startK start) (remainingBy answers cs begun early))
   counts-kept cs =
-      let x = keeps start slice started cs in
+      let x = keeps slice started cs in
       sym (x .0 .isBook .laid) ∙ ap₂ lay (x .1) (booked-is (startK start) (remainingBy answers cs begun early) (afterBy answers cs begun) (x .0))
 
 -- ---- by the exact conditions of 6 and 7
 
--- What answers calls so that, after any of them on a book opened at an allowed k and size or read from a file, an order within limits is taught
--- exactly if fewer than 65,535 orders remain and the book of these with this one more has room.
-abbrev pub Accepts : (Call → List ℕ → Outcome) → Type 0
-Accepts answers =
-    (start : Start) (slice : List ℕ) → startOf start slice .answer .number ≡ done
+-- What answers calls so that, after any of them on a book that a run starts with, an order within limits is taught exactly if fewer than 65,535 orders remain and the book of these with this one more has room.
+abbrev pub Accepts : Start → (Call → List ℕ → Outcome) → Type 0
+Accepts start answers =
+    (slice : List ℕ) → startedBy start slice .answer .number ≡ done
     → (cs : List Call) (os : List ℕ) (t : Tree) → IsOrder os t
-    → (answers (teach os) (afterBy answers cs (startOf start slice .words)) .answer .number ≡ done) exactly-when
-    ((length (remainingBy answers cs (startOf start slice .words) (taughtFirst start)) < greatest-count)
-    × (used (booked (startK start) (os ∷ remainingBy answers cs (startOf start slice .words) (taughtFirst start))) ≤ length slice))
+    → (answers (teach os) (afterBy answers cs (startedBy start slice .words)) .answer .number ≡ done) exactly-when
+    ((length (remainingBy answers cs (startedBy start slice .words) (taughtFirst start)) < greatest-count)
+    × (used (booked (startK start) (os ∷ remainingBy answers cs (startedBy start slice .words) (taughtFirst start))) ≤ length slice))
 
 -- The teaching and withdrawing here do.
-pub accepting-here : Accepts outcomeOf
+pub accepting-here : (start : Start) → Accepts start outcomeOf
 accepting-here = taught-exactly
 
 -- The book of the node needs 19 words.
@@ -296,9 +295,9 @@ node-needs = refl
 
 -- "Refusing everything: shut out by demand 2 and the exact conditions of 6 and 7." Some teaching is done: that of the node, in a book just opened
 -- at k = 2 in 31 words.
-pub refusing-calls : (answers : Call → List ℕ → Outcome) → Accepts answers → ((os ws : List ℕ) → answers (teach os) ws .answer .number ≡ done → ⊥) → ⊥
+pub refusing-calls : (answers : Call → List ℕ → Outcome) → Accepts (opening 2) answers → ((os ws : List ℕ) → answers (teach os) ws .answer .number ≡ done → ⊥) → ⊥
 unfolding afterBy remainingBy
 refusing-calls answers accepts none =
     let opens : openOf blank 2 .answer .number ≡ done = ap (λ (a : Answer). a .number) (opening-done blank 2 (omega arith) (omega arith) (omega arith) (omega arith)) in
-    let first = accepts (opening 2) blank opens [] (words single) single single-order in
+    let first = accepts blank opens [] (words single) single single-order in
     none (words single) (openOf blank 2 .words) (first .1 (omega arith, omega (arith, node-needs)))

@@ -11,6 +11,8 @@ pub mod Checks
 pub mod FileWhys
 pub mod Starting
 pub mod FileTrips
+pub mod Wordings
+pub mod GoingOn
 pub mod LineNumbers
 pub mod Contracts
 mod Computed
@@ -19,7 +21,6 @@ pub mod Demand1
 pub mod Demand2
 pub mod Demand3
 pub mod Uniqueness
-pub mod Wordings
 pub mod Impostors
 mod Rows
 mod FileRows

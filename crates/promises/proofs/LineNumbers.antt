@@ -23,6 +23,7 @@ use Rattle.promises.specs.Whys.{WhyPrinted, print-no-order, print-short,
 use Rattle.promises.specs.Whys.{WhyFiled, file-no-book, file-disagrees, file-short, filed}
 use Rattle.promises.specs.Whys.{WhyRestored, restore-shorter, restore-longer, few-bytes, wrong-mark, wrong-version, no-used-words, restore-disagrees, restore-no-room, restores}
 use Rattle.promises.proofs.Whys.{opened-why, printed-why, read-why}
+use Rattle.promises.proofs.Refusals.{writing-number}
 use Rattle.promises.proofs.PartWhys.{numbered-why, cut-why, part-why}
 use Rattle.promises.proofs.Checks.{checked-why}
 use Rattle.promises.proofs.FileWhys.{filed-why, restored-why}
@@ -145,14 +146,10 @@ fault-number before rest n (ninth-child e l x s o a d c) two ten = ten e
 pub read-line : (text out : List ℕ) → (readOf text out .answer .number ≡ too-large → ⊥) → (readOf text out .answer .number ≡ no-form → ⊥) → readOf text out .answer .line ≡ 0
 read-line text out not-2 not-10 = go (read-why text out)
   where
-    -- The number of the writing that is known.
-    number : {w : Writing} → readOf text out ≡ w → readOf text out .answer .number ≡ w .answer .number
-    number e = ap (λ (w : Writing). w .answer .number) e
-
     -- By the row of reading.
     go : WhyRead text out (readOf text out) → readOf text out .answer .line ≡ 0
-    go (no-bytes e z) = absurd (not-10 (number e))
-    go (at-fault n line e o f) = absurd (fault-number _ _ n (f .why) (λ i. not-2 (number e ∙ i)) (λ i. not-10 (number e ∙ i)))
+    go (no-bytes e z) = absurd (not-10 (writing-number e))
+    go (at-fault n line e o f) = absurd (fault-number _ _ n (f .why) (λ i. not-2 (writing-number e ∙ i)) (λ i. not-10 (writing-number e ∙ i)))
     go (read-short t e x q h) = writing-line e
     go (read t e x q l) = writing-line e
 

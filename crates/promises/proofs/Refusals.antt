@@ -4,15 +4,13 @@ use Prim.Native.Nat.{ℕ, _≤_, _<_}
 use mathlib.Core.Path.{_≡_, refl, sym, ap, _∙_}
 use mathlib.Core.Bool.{Bool, true, false}
 use mathlib.Core.List.{List, []}
-use mathlib.Core.Option.{Option, none, some}
 use native.Mathlib.Decide.{decLt}
 use native.Mathlib.Omega.{arith}
-use lib.Dec.{leb, eqb}
 use lib.ListN.{length, drop, length-append, length-drop}
 use lib.Seq.{drop-append-seam}
 use Rattle.words.specs.Base.{if_then_else_, within, over}
 use Rattle.figures.specs.Limits.{least-k, greatest-k}
-use Rattle.figures.specs.Numbers.{done, k-outside, book-size, not-in-form, no-room, not-agreeing, short-output, no-mark, other-version, no-stored-book}
+use Rattle.figures.specs.Numbers.{done, k-outside, book-size, short-output}
 use Rattle.figures.specs.Answers.{wrote, refusedAt}
 use Rattle.order.specs.Trees.{Tree, words, cut, subtrees}
 use Rattle.order.specs.Reading.{Found, missing, found, byFound, Order, refused, order, byOrder, orderOf}
@@ -22,15 +20,16 @@ use Rattle.order.proofs.Cuts.{no-output-room, has-room}
 use Rattle.form.specs.Text.{textOf}
 use Rattle.form.specs.Reading.{Form, fault, form, byForm, formOf, wordsOf, readOf}
 use Rattle.form.specs.Writing.{writeOf}
-use Rattle.book.specs.Book.{Book, used}
-use Rattle.book.specs.Decoding.{decode, byBook, sized, onBook}
-use Rattle.book.specs.Taught.{bookOf, agreeing}
+use Rattle.book.specs.Decoding.{sized}
+use Rattle.book.specs.Taught.{bookOf}
 use Rattle.book.specs.Opening.{Outcome, leave, writeBook, openOf}
 use Rattle.effects.specs.Conditions.{_exactly-when_}
-use Rattle.octets.specs.Octets.{wordAt}
-use Rattle.store.specs.Files.{mark-bytes, version, front-bytes, fileOf, writeFileOf, isMarked, storedIn, restored, restoreOf, readFileOf}
 
 -- ---- words written to the front of a lent output
+
+-- A writing that is known has its number.
+pub writing-number : {v w : Writing} → v ≡ w → v .answer .number ≡ w .answer .number
+writing-number e = ap (λ (w : Writing). w .answer .number) e
 
 module _ (new out : List ℕ) where
   -- Words that the output is too short for are refused by 11.
@@ -146,59 +145,3 @@ open-refusal-leaves ws k = go (sized ws) (within least-k greatest-k k)
     go true true x = absurd (x refl)
     go true false x = refl
     go false b x = refl
-
--- ---- files
-
--- Writing a file leaves the output where it refuses.
-pub file-refusal-leaves : (ws out : List ℕ) → (writeFileOf ws out .answer .number ≡ done → ⊥) → (writeFileOf ws out .out ≡ out) × (writeFileOf ws out .answer .count ≡ 0)
-unfolding writeFileOf onBook byBook if_then_else_
-file-refusal-leaves ws out = go (sized ws) (decode ws)
-  where
-    -- What the call does with a book, by the test of agreeing.
-    part : Book → Bool → Writing
-    part b t = if t then write (fileOf b) out else refuse not-agreeing out
-
-    -- A book that agrees is written where there is room.
-    by-test : (b : Book) (t : Bool) → (part b t .answer .number ≡ done → ⊥) → (part b t .out ≡ out) × (part b t .answer .count ≡ 0)
-    by-test b true x = write-leaves (fileOf b) out x
-    by-test b false x = (refl, refl)
-
-    -- What the call does, by the size of the slice and the book in it.
-    whole : Bool → Option Book → Writing
-    whole z o = if z then byBook o (refuse not-in-form out) (λ b. part b (agreeing b)) else refuse book-size out
-
-    -- By these.
-    go : (z : Bool) (o : Option Book) → (whole z o .answer .number ≡ done → ⊥) → (whole z o .out ≡ out) × (whole z o .answer .count ≡ 0)
-    go true (some b) x = by-test b (agreeing b) x
-    go true none x = (refl, refl)
-    go false o x = (refl, refl)
-
--- Reading a file leaves the slice where it refuses.
-pub restore-refusal-leaves : (file ws : List ℕ) → (readFileOf file ws .answer .number ≡ done → ⊥) → readFileOf file ws .words ≡ ws
-unfolding readFileOf restoreOf restored byBook if_then_else_
-restore-refusal-leaves file ws = go (sized ws) (isMarked file) (eqb (wordAt file mark-bytes) version) (storedIn (drop front-bytes file))
-  where
-    -- What the call does with a book, by the tests of agreeing and of room.
-    part : Book → Bool → Bool → Outcome
-    part b t r = if t then (if r then writeBook ws b else leave ws no-room) else leave ws not-agreeing
-
-    -- A book that agrees and has room is not refused.
-    by-tests : (b : Book) (t r : Bool) → (part b t r .answer .number ≡ done → ⊥) → part b t r .words ≡ ws
-    by-tests b true true x = absurd (x refl)
-    by-tests b true false x = refl
-    by-tests b false r x = refl
-
-    -- What the call does, by the tests of the slice, the mark and the version, and by the book behind them.
-    whole : Bool → Bool → Bool → Option Book → Outcome
-    whole z m v o =
-        if z
-        then (if m then (if v then byBook o (leave ws no-stored-book) (λ b. part b (agreeing b) (leb (used b) (length ws))) else leave ws other-version) else leave ws no-mark)
-        else leave ws book-size
-
-    -- By these.
-    go : (z m v : Bool) (o : Option Book) → (whole z m v o .answer .number ≡ done → ⊥) → whole z m v o .words ≡ ws
-    go true true true (some b) x = by-tests b (agreeing b) (leb (used b) (length ws)) x
-    go true true true none x = refl
-    go true true false o x = refl
-    go true false v o x = refl
-    go false m v o x = refl

@@ -263,6 +263,10 @@ module _ (slice : List ℕ) (k : ℕ) (first : List (List ℕ)) (ws : List ℕ) 
   pub after-long : length (after cs ws) ≡ length slice
   after-long = kept-long slice k (begun .long) (begun .short) (begun .least) (begun .greatest) (remaining cs ws first) (after cs ws) after-kept
 
+  -- The words are those of that book.
+  pub after-book : IsBook (after cs ws) (booked k (remaining cs ws first))
+  after-book = kept-book slice k (begun .long) (begun .short) (begun .least) (begun .greatest) (remaining cs ws first) (after cs ws) after-kept
+
   -- "Its parts and counts are exactly those of the orders that remain."
   pub holds-exactly : ExactlyThese k (remaining cs ws first) (after cs ws)
   holds-exactly =
@@ -270,7 +274,7 @@ module _ (slice : List ℕ) (k : ℕ) (first : List (List ℕ)) (ws : List ℕ) 
       let all : Orders orders = after-kept .limits in
       record {
         book = booked k orders;
-        isBook = kept-book slice k (begun .long) (begun .short) (begun .least) (begun .greatest) orders (after cs ws) after-kept;
+        isBook = after-book;
         depth = booked-k k orders all;
         lives = booked-live k orders all;
         taught = counts-taught k orders all;
@@ -298,5 +302,9 @@ module _ (slice : List ℕ) (k : ℕ) (first : List (List ℕ)) (ws : List ℕ) 
       (t .0, t .1 ∙ ap₂ lay same-length book ∙ sym (kept .laid))
 
   -- The book "agrees with itself".
-  pub after-agrees : (b : Book) × (decode (after cs ws) ≡ some b) × (agreeing b ≡ true)
-  after-agrees = calls-agree cs ws (begun .agrees .0) (begun .agrees .1) (begun .agrees .2)
+  pub after-agrees : agreeing (booked k (remaining cs ws first)) ≡ true
+  after-agrees =
+      let a = calls-agree cs ws (begun .agrees .0) (begun .agrees .1) (begun .agrees .2) in
+      let d = book-decode (after cs ws) (booked k (remaining cs ws first)) after-book in
+      let same : a .0 ≡ booked k (remaining cs ws first) = cc (a .1, d) in
+      ap agreeing (sym same) ∙ a .2

@@ -26,12 +26,12 @@ use Rattle.effects.proofs.Calling.{number-is}
 use Rattle.effects.proofs.Agreeing.{TaughtOrders, form-orders, later-taught, first, taught-twice, agreeing-is}
 use Rattle.store.specs.Files.{readFileOf}
 use Rattle.promises.specs.Remaining.{booked}
-use Rattle.promises.specs.Starts.{Start, opening, reading, startOf, ordersIn, taughtFirst, startK}
+use Rattle.promises.specs.Starts.{Start, opening, reading, startedBy, ordersIn, taughtFirst, startK}
 use Rattle.promises.specs.Agreement.{Agrees}
 use Rattle.promises.specs.Whys.{IsFile, WhyOpened, slice-short, slice-long, k-below, k-above, opened}
 use Rattle.promises.specs.Whys.{BookSized, WhyRestored, restore-shorter, restore-longer, few-bytes, wrong-mark, wrong-version, no-used-words, restore-disagrees, restore-no-room, restores}
 use Rattle.promises.proofs.Orders.{Orders, one-order-more, booked-first, booked-sorted, booked-live}
-use Rattle.promises.proofs.Agreement.{agreeing-exactly}
+use Rattle.promises.proofs.Agreement.{sound-agreeing}
 use Rattle.promises.proofs.Whys.{opened-why}
 use Rattle.promises.proofs.FileWhys.{file-rest, restored-why}
 use Rattle.promises.proofs.Remaining.{Begun, opened-begun}
@@ -87,24 +87,25 @@ booked-counted k (e ∷ es) all =
 
 -- ---- a file that was read
 
-module _ (file slice : List ℕ) (b : Book) (z : BookSized slice) (f : IsFile file b) (g : Agrees b) (room : used b ≤ length slice) where
-  -- The orders that count as taught first are those of the book's T.
-  first-orders : taughtFirst (reading file) ≡ ordersIn (b .T)
+module _ (file : List ℕ) (b : Book) (f : IsFile file b) where
+  -- The orders of a book's file that count as taught first are those that its T counts.
+  pub first-orders : taughtFirst (reading file) ≡ ordersIn (b .T)
   unfolding byBook
   first-orders = ap (λ (o : Option Book). byBook o [] (λ c. ordersIn (c .T))) (file-rest file b f)
 
   -- The run's k is the book's.
-  first-k : startK (reading file) ≡ b .k
+  pub first-k : startK (reading file) ≡ b .k
   unfolding byBook
   first-k = ap (λ (o : Option Book). byBook o 0 (λ c. c .k)) (file-rest file b f)
 
+module _ (file slice : List ℕ) (b : Book) (z : BookSized slice) (f : IsFile file b) (g : Agrees b) (room : used b ≤ length slice) where
   -- The book is in form.
   form : inForm b ≡ true
   form = sound-form b (f .sound)
 
   -- It passes the test of agreeing.
   passes : agreeing b ≡ true
-  passes = agreeing-exactly b form .1 g
+  passes = sound-agreeing b (f .sound) .1 g
 
   -- Its orders are within limits.
   limits : Orders (ordersIn (b .T))
@@ -132,12 +133,12 @@ module _ (file slice : List ℕ) (b : Book) (z : BookSized slice) (f : IsFile fi
 
   -- So is what reading the file leaves.
   file-begun : readFileOf file slice .words ≡ lay (length slice) b → Begun slice (startK (reading file)) (taughtFirst (reading file)) (readFileOf file slice .words)
-  file-begun e = rw (e, first-orders, first-k) book-begun
+  file-begun e = rw (e, first-orders file b f, first-k file b f) book-begun
 
 -- ---- either
 
 -- A run starts as it should wherever its start was done.
-pub begins : (start : Start) (slice : List ℕ) → startOf start slice .answer .number ≡ done → Begun slice (startK start) (taughtFirst start) (startOf start slice .words)
+pub begins : (start : Start) (slice : List ℕ) → startedBy start slice .answer .number ≡ done → Begun slice (startK start) (taughtFirst start) (startedBy start slice .words)
 begins (opening k) slice d = go (opened-why slice k)
   where
     -- By the row of opening.

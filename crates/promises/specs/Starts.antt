@@ -14,21 +14,21 @@ pub data Start : Type 0 where
   reading : List ℕ → Start
 
 -- What starting in a slice answers, and the words then.
-abbrev pub startOf : Start → List ℕ → Outcome
-startOf (opening k) ws = openOf ws k
-startOf (reading file) ws = readFileOf file ws
+abbrev pub startedBy : Start → List ℕ → Outcome
+startedBy (opening k) ws = openOf ws k
+startedBy (reading file) ws = readFileOf file ws
 
 -- The orders that a section T counts, each as often as it counts.
 unfoldable pub ordersIn : List Entry → List (List ℕ)
 ordersIn [] = []
 ordersIn (e ∷ es) = replicate (e .count) (e .key) ++ ordersIn es
 
--- "A run that starts by reading a file counts that file's orders as taught first."
+-- "A run that starts by reading a file counts that file's orders as taught first." Asked of a start that is done; none of bytes that hold no book.
 abbrev pub taughtFirst : Start → List (List ℕ)
 taughtFirst (opening k) = []
 taughtFirst (reading file) = byBook (storedIn (drop front-bytes file)) [] (λ b. ordersIn (b .T))
 
--- The k of the book that a run starts with.
+-- The k of the book that a run starts with. Asked of a start that is done; 0 of bytes that hold no book.
 abbrev pub startK : Start → ℕ
 startK (opening k) = k
 startK (reading file) = byBook (storedIn (drop front-bytes file)) 0 (λ b. b .k)

@@ -21,11 +21,12 @@ use Rattle.order.specs.Answers.{lineOf, Writing, writing, refuse, PartWriting, 
 use Rattle.order.specs.declared.Kind.the-variants.{Low, Middle}
 use Rattle.form.specs.Text.{textOf}
 use Rattle.form.specs.Faults.{FirstFault}
-use Rattle.book.specs.Book.{Book, used}
+use Rattle.book.specs.Book.{Book, used, encode}
 use Rattle.book.specs.Sound.{SoundBook, IsBook, WhyForm}
 use Rattle.book.specs.Taught.{emptyBook}
 use Rattle.book.specs.Opening.{Outcome, leave, writeBook}
 use Rattle.book.specs.declared.BookForm.the-variants.{Refused}
+use Rattle.octets.specs.Octets.{bytesOf}
 use Rattle.store.specs.Files.{mark, mark-bytes, version, front-bytes, fileOf}
 use Rattle.promises.specs.Agreement.{Agrees}
 
@@ -142,6 +143,12 @@ pub data WhyRead (text out : List ℕ) (w : Writing) : Type 0 where
 
 -- ---- files
 
+-- The bytes are "the used words of a book in form", high byte first. A book stands in "a lent slice of 7 to 16,384 words", so that it uses no more.
+pub record UsedWords (rest : List ℕ) (b : Book) : Type 0 where
+  pub sound : SoundBook b
+  pub short : used b ≤ most-book-words
+  pub bytes : rest ≡ bytesOf (encode b)
+
 -- The bytes are the file of a book in form: "Bytes "OFB", version 1 as 16 bits, then the used words".
 pub record IsFile (file : List ℕ) (b : Book) : Type 0 where
   pub sound : SoundBook b
@@ -177,7 +184,7 @@ pub data WhyRestored (file ws : List ℕ) (o : Outcome) : Type 0 where
   wrong-version : (high low : ℕ) (rest : List ℕ) → o ≡ leave ws other-version → BookSized ws → file ≡ mark ++ (high ∷ low ∷ rest) → (high * 256 + low ≡ version → ⊥) → WhyRestored file ws o
   -- 14: "the rest is not the used words of a book in form"
   no-used-words : (high low : ℕ) (rest : List ℕ) → o ≡ leave ws no-stored-book → BookSized ws → file ≡ mark ++ (high ∷ low ∷ rest) → high * 256 + low ≡ version
-      → ((b : Book) → IsFile file b → ⊥) → WhyRestored file ws o
+      → ((b : Book) → UsedWords rest b → ⊥) → WhyRestored file ws o
   -- 9: "book does not agree with itself"
   restore-disagrees : (b : Book) → o ≡ leave ws not-agreeing → BookSized ws → IsFile file b → (Agrees b → ⊥) → WhyRestored file ws o
   -- 6: "the result needs more words than the book slice has"

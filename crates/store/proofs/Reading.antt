@@ -15,7 +15,7 @@ use Rattle.figures.specs.declared.Answer.{Answer}
 use Rattle.book.specs.Decoding.{sized}
 use Rattle.book.specs.Opening.{outcome}
 use Rattle.octets.specs.Octets.{wordAt}
-use Rattle.store.specs.Files.{mark-bytes, version, front-bytes, isMarked, restoreOf, readFileOf}
+use Rattle.store.specs.Files.{mark-bytes, version, front-bytes, isMarked, readRestOf, readFileOf}
 
 -- ---- the mark
 
@@ -69,6 +69,6 @@ module _ (file ws : List ℕ) where
 
   -- In any other file the bytes past the version decide.
   pub read-rest : sized ws ≡ true → isMarked file ≡ true → eqb (wordAt file mark-bytes) version ≡ true
-      → readFileOf file ws ≡ restoreOf (drop front-bytes file) ws
+      → readFileOf file ws ≡ readRestOf (drop front-bytes file) ws
   unfolding readFileOf if_then_else_
   read-rest z m v = rw (z, m, v)

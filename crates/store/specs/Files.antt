@@ -8,14 +8,13 @@ use lib.Dec.{leb, eqb}
 use lib.ListN.{length, take, drop}
 use Rattle.words.specs.Base.{_and_, if_then_else_, sameWords}
 use Rattle.figures.specs.Limits.{most-book-words}
-use Rattle.figures.specs.Numbers.{book-size, no-room, not-agreeing, no-mark, other-version, no-stored-book}
+use Rattle.figures.specs.Numbers.{done, book-size, no-room, not-agreeing, no-mark, other-version, no-stored-book}
 use Rattle.octets.specs.Octets.{bytesOf, wordsOf, wordAt}
 use Rattle.order.specs.Answers.{Writing, refuse, write}
 use Rattle.book.specs.Book.{Book, used, encode, inForm}
 use Rattle.book.specs.Decoding.{bookIn, byBook, sized, onBook}
 use Rattle.book.specs.Taught.{agreeing}
 use Rattle.book.specs.Opening.{Outcome, leave, writeBook}
-use Rattle.agree.specs.Checking.{checkOf}
 
 -- ---- bytes
 
@@ -48,7 +47,7 @@ writeFileOf ws out =
 
 -- ---- read
 
--- 12 if not: at least 5 bytes, and the mark.
+-- The file has the mark: 12 is "stored: under 5 bytes, or wrong mark".
 unfoldable pub isMarked : List ℕ → Bool
 isMarked file = leb front-bytes (length file) and sameWords (take mark-bytes file) mark
 
@@ -58,26 +57,26 @@ storedIn rest =
     let b : Book = bookIn (wordsOf rest) in
     if inForm b and leb (used b) most-book-words and sameWords (bytesOf (encode b)) rest then some b else none
 
--- 9 and 6, and then the whole slice is the book.
-unfoldable pub restored : List ℕ → Book → Outcome
-restored ws b =
+-- 9 and 6, by the book; and then the whole slice is the book.
+unfoldable pub readBookOf : List ℕ → Book → Outcome
+readBookOf ws b =
     if agreeing b then (if leb (used b) (length ws) then writeBook ws b else leave ws no-room) else leave ws not-agreeing
 
 -- 14, 9 and 6, by the bytes past the version.
-unfoldable pub restoreOf : List ℕ → List ℕ → Outcome
-restoreOf rest ws = byBook (storedIn rest) (leave ws no-stored-book) (restored ws)
+unfoldable pub readRestOf : List ℕ → List ℕ → Outcome
+readRestOf rest ws = byBook (storedIn rest) (leave ws no-stored-book) (readBookOf ws)
 
 -- "Read file: 4, 12, 13, 14, 9, 6."
 unfoldable pub readFileOf : List ℕ → List ℕ → Outcome
 readFileOf file ws =
     if sized ws
     then (if isMarked file
-    then (if eqb (wordAt file mark-bytes) version then restoreOf (drop front-bytes file) ws else leave ws other-version)
+    then (if eqb (wordAt file mark-bytes) version then readRestOf (drop front-bytes file) ws else leave ws other-version)
     else leave ws no-mark)
     else leave ws book-size
 
 -- ---- within reading
 
--- The number of words that are a book in form with so many used: 14 if these are not all the words, and else 9 or 0, as a check answers.
+-- What words that are a book in form, with so many used, are answered by: 14 if these are not all the words, and else 9 or 0.
 unfoldable pub storedNumber : List ℕ → ℕ → ℕ
-storedNumber ws n = if eqb n (length ws) then checkOf ws .number else no-stored-book
+storedNumber ws n = if eqb n (length ws) then (if agreeing (bookIn ws) then done else not-agreeing) else no-stored-book

@@ -8,7 +8,7 @@ ghost use Rattle.octets.specs.Octets.{bytesOf};
 ghost use Rattle.order.specs.Answers.{writing};
 ghost use Rattle.book.specs.Holding.{Holds};
 ghost use Rattle.book.specs.Opening.{outcome};
-ghost use Rattle.store.specs.Files.{mark, version, front-bytes, writeFileOf, isMarked, restoreOf, storedNumber, readFileOf};
+ghost use Rattle.store.specs.Files.{mark, version, front-bytes, writeFileOf, isMarked, readRestOf, storedNumber, readFileOf};
 use book::BookForm;
 use book::Places;
 use figures::Answer;
@@ -86,7 +86,7 @@ fn put_book(words: &[u16], book: &mut [u16])
     words::clear(&mut book[end..]);
 }
 
-// The number of words that are a book in form: 14 if it does not use them all, and else 9 or 0, by whether it agrees with itself.
+// What words that are a book in form are answered by: 14 if it does not use them all, and else 9 or 0, by whether it agrees with itself.
 fn stored_number(words: &[u16], places: Places) -> u16
     requires { ⌜ Holds (now words) places ⌝ }
     ensures { λ r. ⌜ r ≡ storedNumber (now (words .entry)) (places .used) ⌝ }
@@ -97,9 +97,9 @@ fn stored_number(words: &[u16], places: Places) -> u16
     agree::check_sections(words, places).number
 }
 
-// Reads the used words of a book into the slice: 14, 9, 6, or done, with the whole slice written.
-fn restore_words(words: &[u16], book: &mut [u16]) -> Answer
-    ensures { λ r. ⌜ outcome r (now (book .exit)) ≡ restoreOf (bytesOf (now (words .entry))) (now (book .entry)) ⌝ }
+// Reads words into the slice, if they are just the used words of a book: 14, 9, 6, or done, with the whole slice written.
+fn read_words(words: &[u16], book: &mut [u16]) -> Answer
+    ensures { λ r. ⌜ outcome r (now (book .exit)) ≡ readRestOf (bytesOf (now (words .entry))) (now (book .entry)) ⌝ }
 {
     let BookForm::InForm(places) = book::in_form(words) else {
         return answered(numbers::NO_STORED_BOOK);
@@ -117,8 +117,8 @@ fn restore_words(words: &[u16], book: &mut [u16]) -> Answer
 
 // Reads the bytes past the version into the slice: 14, 9, 6, or done, with the whole slice written. The words stand in a scratch of the size of the
 // largest book until nothing can be refused any more.
-fn restore(rest: &[u8], book: &mut [u16]) -> Answer
-    ensures { λ r. ⌜ outcome r (now (book .exit)) ≡ restoreOf (now (rest .entry)) (now (book .entry)) ⌝ }
+fn read_rest(rest: &[u8], book: &mut [u16]) -> Answer
+    ensures { λ r. ⌜ outcome r (now (book .exit)) ≡ readRestOf (now (rest .entry)) (now (book .entry)) ⌝ }
 {
     let many = rest.len() / 2;
     if rest.len() % 2 != 0 {
@@ -129,7 +129,7 @@ fn restore(rest: &[u8], book: &mut [u16]) -> Answer
     }
     let mut words = [0u16; limits::MOST_BOOK_WORDS];
     octets::take_words(rest, &mut words[0..many]);
-    restore_words(&words[0..many], book)
+    read_words(&words[0..many], book)
 }
 
 // Reads a stored book into the slice: 4, 12, 13, 14, 9, 6, or done, with the whole slice written.
@@ -145,5 +145,5 @@ pub fn read(file: &[u8], book: &mut [u16]) -> Answer
     if octets::word_at(file, MARK_BYTES) != VERSION {
         return answered(numbers::OTHER_VERSION);
     }
-    restore(&file[FRONT_BYTES..], book)
+    read_rest(&file[FRONT_BYTES..], book)
 }

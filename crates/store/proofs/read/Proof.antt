@@ -9,7 +9,7 @@ use lib.ListN.{length}
 use Rattle.words.proofs.Shifts.{tail-all}
 use Rattle.book.specs.Decoding.{sized}
 use Rattle.book.proofs.Heads.{sized-by}
-use Rattle.store.specs.Files.{front-bytes, isMarked, restoreOf}
+use Rattle.store.specs.Files.{front-bytes, isMarked, readRestOf}
 use Rattle.store.proofs.Reading.{marked-long, read-unsized, read-unmarked, read-other, read-rest}
 use borrow.Author.Needs.{needs}
 use Rattle.store.proofs.read.Statement.{statement}
@@ -63,17 +63,17 @@ returns-3 c =
     sym (read-other (x .file .now) (x .book .now) _ (c .answered3 .ensures) (right (k .before .before)) (marked k)
     (ne-eqb _ _ (λ e. c .before .if3 .taken (c .before .before .word-at .ensures ∙ e))))
 
-sub-restore : tie.Need-sub-restore
-sub-restore c = omega (arith, long (c .before .before))
+sub-read-rest : tie.Need-sub-read-rest
+sub-read-rest c = omega (arith, long (c .before .before))
 
-part-restore-start : tie.Need-part-restore-start
-part-restore-start c = omega (arith, long (c .before .before))
+part-read-rest-start : tie.Need-part-read-rest-start
+part-read-rest-start c = omega (arith, long (c .before .before))
 
-part-restore-end : tie.Need-part-restore-end
-part-restore-end c = search needs
+part-read-rest-end : tie.Need-part-read-rest-end
+part-read-rest-end c = search needs
 
-restore-requires : tie.Need-restore-requires
-restore-requires c κs = search needs
+read-rest-requires : tie.Need-read-rest-requires
+read-rest-requires c κs = search needs
 
 same-length : tie.Need-same-length
 same-length c = search needs
@@ -83,8 +83,8 @@ returns-4 c =
     let x = c .before .before .before .before .before .before .before .before .before .before .before .before .before .args in
     let k = c .before .before .before .before .before .before .before in
     let e = c .before .before .before .before .before in
-    c .before .before .restore .ensures
-    ∙ ap (λ (bytes : List ℕ). restoreOf bytes (x .book .now)) (tail-all front-bytes (x .file .now) (long k))
+    c .before .before .read-rest .ensures
+    ∙ ap (λ (bytes : List ℕ). readRestOf bytes (x .book .now)) (tail-all front-bytes (x .file .now) (long k))
     ∙ sym (read-rest (x .file .now) (x .book .now) (right (k .before .before)) (marked k) (eq-eqb _ _ (sym (e .before .word-at .ensures) ∙ e .if3 .left)))
 
 pub read-spec : {M : Type 1} → statement M
@@ -100,9 +100,9 @@ read-spec =
     word-at-requires
     answered-requires-3
     returns-3
-    sub-restore
-    part-restore-start
-    part-restore-end
-    restore-requires
+    sub-read-rest
+    part-read-rest-start
+    part-read-rest-end
+    read-rest-requires
     same-length
     returns-4)

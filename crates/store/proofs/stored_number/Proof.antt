@@ -1,14 +1,21 @@
 -- `store::stored_number` meets its contract, by whether all the words are used. Assumes nothing.
 use Prim.Native.Nat.{ℕ}
-use mathlib.Core.Path.{_≡_, ap, _∙_}
+use mathlib.Core.Path.{_≡_, sym, ap, _∙_}
+use mathlib.Core.Bool.{Bool}
 use mathlib.Core.List.{List}
 use lib.ListN.{length}
 use borrow.Author.Tests.{eq-eqb, ne-eqb}
 use borrow.Author.Needs.{needs}
 use Rattle.words.specs.Base.{if_then_else_}
-use Rattle.figures.specs.Numbers.{no-stored-book}
+use Rattle.figures.specs.Numbers.{done, not-agreeing, no-stored-book}
 use Rattle.figures.specs.declared.Answer.{Answer}
+use Rattle.book.specs.Decoding.{bookIn}
+use Rattle.book.specs.Holding.{Holds}
+use Rattle.book.specs.Taught.{agreeing}
+use Rattle.book.specs.declared.Places.{Places}
+use Rattle.book.proofs.Sound.{held-book}
 use Rattle.agree.specs.Checking.{checkOf}
+use Rattle.agree.proofs.Checking.{check-held}
 use Rattle.store.specs.Files.{storedNumber}
 use Rattle.store.proofs.stored_number.Statement.{statement}
 use Rattle.store.proofs.stored_number.Tie as tie
@@ -18,10 +25,12 @@ more-words : (ws : List ℕ) (n : ℕ) → (n ≡ length ws → ⊥) → no-stor
 unfolding storedNumber if_then_else_
 more-words ws n x = rw (ne-eqb n (length ws) x)
 
--- Words that are all used are answered as a check of them is.
-just-used : (ws : List ℕ) (n : ℕ) → n ≡ length ws → checkOf ws .number ≡ storedNumber ws n
+-- Words that are all used are answered as a check of their book is.
+just-used : (ws : List ℕ) (p : Places) → Holds ws p → p .used ≡ length ws → checkOf ws .number ≡ storedNumber ws (p .used)
 unfolding storedNumber if_then_else_
-just-used ws n e = rw (eq-eqb n (length ws) e)
+just-used ws p h e =
+    ap (λ (a : Answer). a .number) (check-held ws (bookIn ws) (held-book ws p h))
+    ∙ ap (λ (t : Bool). if t then (if agreeing (bookIn ws) then done else not-agreeing) else no-stored-book) (sym (eq-eqb (p .used) (length ws) e))
 
 returns : tie.Need-returns
 returns c = more-words _ _ (c .if1 .taken)
@@ -30,7 +39,7 @@ check-sections-requires : tie.Need-check-sections-requires
 check-sections-requires c κs = search needs
 
 returns-2 : tie.Need-returns-2
-returns-2 c = ap (λ (a : Answer). a .number) (c .check-sections .ensures) ∙ just-used _ _ (c .before .if1 .left)
+returns-2 c = ap (λ (a : Answer). a .number) (c .check-sections .ensures) ∙ just-used _ _ (c .before .before .before .before .pre) (c .before .if1 .left)
 
 pub stored-number-spec : {M : Type 1} → statement M
 stored-number-spec = tie.close (tie.spec returns check-sections-requires returns-2)

@@ -1,4 +1,4 @@
--- `store::restore` meets its contract: bytes that are no book's number of words are refused, and of any others the words decide. Assumes nothing.
+-- `store::read_rest` meets its contract: bytes that are no book's number of words are refused, and of any others the words decide. Assumes nothing.
 use Prim.Native.Nat.{ℕ, _-_, _/_, _%_, _<_, _≤_}
 use mathlib.Core.Path.{_≡_, sym, ap, _∙_}
 use mathlib.Core.List.{List}
@@ -10,12 +10,12 @@ use Rattle.figures.specs.Limits.{most-book-words}
 use Rattle.figures.specs.declared.Answer.{Answer}
 use Rattle.book.specs.Opening.{outcome}
 use Rattle.octets.specs.Octets.{bytesOf, wordsOf}
-use Rattle.store.specs.Files.{restoreOf}
+use Rattle.store.specs.Files.{readRestOf}
 use Rattle.octets.proofs.Bytes.{words-long, bytes-of-words}
 use Rattle.store.proofs.Restoring.{no-stored}
 use borrow.Author.Needs.{needs}
-use Rattle.store.proofs.restore.Statement.{statement}
-use Rattle.store.proofs.restore.Tie as tie
+use Rattle.store.proofs.read_rest.Statement.{statement}
+use Rattle.store.proofs.read_rest.Tie as tie
 
 -- A list that was lent as its first n words, and has come back with others there.
 module _ (n : ℕ) (xs ys : List ℕ) (long : length ys ≡ n) where
@@ -68,19 +68,19 @@ part-words-end c = search needs
 take-words-requires : tie.Need-take-words-requires
 take-words-requires c κs = search needs
 
-sub-restore-words : tie.Need-sub-restore-words
-sub-restore-words c = search needs
+sub-read-words : tie.Need-sub-read-words
+sub-read-words c = search needs
 
-part-restore-words-start : tie.Need-part-restore-words-start
-part-restore-words-start c = search needs
+part-read-words-start : tie.Need-part-read-words-start
+part-read-words-start c = search needs
 
-part-restore-words-end : tie.Need-part-restore-words-end
-part-restore-words-end c =
+part-read-words-end : tie.Need-part-read-words-end
+part-read-words-end c =
     let t = c .before .before in
     fits (length (t .before .before .before .before .before .before .args .rest .now) / 2) (replicate most-book-words 0) (t .take-words .last .1 .0) (half t)
 
-restore-words-requires : tie.Need-restore-words-requires
-restore-words-requires c κs = search needs
+read-words-requires : tie.Need-read-words-requires
+read-words-requires c κs = search needs
 
 same-length : tie.Need-same-length
 same-length c = search needs
@@ -93,10 +93,10 @@ returns-3 c =
     let words = front (length rest / 2) (replicate most-book-words 0) (t .take-words .last .1 .0) (half t) ∙ taken t in
     let bytes : bytesOf (wordsOf rest) ≡ rest =
     bytes-of-words rest (λ i. omega (arith, t .before .before .before .before .before .shared-slice-known .given i)) (t .before .before .before .if1 .left) in
-    c .before .before .restore-words .ensures ∙ ap (λ (l : List ℕ). restoreOf l (x .book .now)) (ap bytesOf words ∙ bytes)
+    c .before .before .read-words .ensures ∙ ap (λ (l : List ℕ). readRestOf l (x .book .now)) (ap bytesOf words ∙ bytes)
 
-pub restore-spec : {M : Type 1} → statement M
-restore-spec =
+pub read-rest-spec : {M : Type 1} → statement M
+read-rest-spec =
     tie.close
     (tie.spec
     answered-requires
@@ -107,9 +107,9 @@ restore-spec =
     part-words-start
     part-words-end
     take-words-requires
-    sub-restore-words
-    part-restore-words-start
-    part-restore-words-end
-    restore-words-requires
+    sub-read-words
+    part-read-words-start
+    part-read-words-end
+    read-words-requires
     same-length
     returns-3)

@@ -1,4 +1,4 @@
--- `store::restore_words` meets its contract, by the form of the words, the number of their book and the room in the slice. Assumes nothing.
+-- `store::read_words` meets its contract, by the form of the words, the number of their book and the room in the slice. Assumes nothing.
 use Prim.Native.Nat.{ℕ}
 use mathlib.Core.Path.{_≡_, sym, ap, ap₂, _∙_}
 use mathlib.Core.List.{List}
@@ -11,8 +11,8 @@ use Rattle.book.specs.declared.Places.{Places}
 use Rattle.book.specs.declared.BookForm.the-variants.{InForm}
 use Rattle.book.proofs.Holding.{holds}
 use Rattle.store.proofs.Restoring.{restore-refused, restore-numbered, restore-short, restore-written}
-use Rattle.store.proofs.restore_words.Statement.{statement}
-use Rattle.store.proofs.restore_words.Tie as tie
+use Rattle.store.proofs.read_words.Statement.{statement}
+use Rattle.store.proofs.read_words.Tie as tie
 
 -- The words.
 abbrev words : tie.After-known-told → List ℕ
@@ -88,8 +88,8 @@ returns-4 c =
     ap₂ outcome (c .answered4 .ensures) (c .before .before .before .put-book .ensures)
     ∙ sym (restore-written (words t) (slice t) (places t) (formed t) (sym (n .stored-number .ensures) ∙ r .before .if1 .left) (r .if2 .left))
 
-pub restore-words-spec : {M : Type 1} → statement M
-restore-words-spec =
+pub read-words-spec : {M : Type 1} → statement M
+read-words-spec =
     tie.close
     (tie.spec
     in-form-requires
