@@ -2,6 +2,8 @@
 //   # words              no case: says what the next cases are about
 //   book W W ..          the kept book is these words from now on; *N behind a word lets it stand N times in all
 //   file B B ..          the kept file is these bytes from now on; *N likewise
+//   more B B ..          these bytes are put behind those of the kept file; *N likewise
+//   put AT BYTE          the byte at place AT of the kept file, from 0 on, is this one from now on
 //   write ROOM, keep ROOM                                     see `writes`
 //   read ROOM, cut N ROOM, with AT BYTE ROOM, start ROOM      see `reads`
 //   back, again                                               see `trips`
@@ -25,17 +27,25 @@ fn lays(kind: &[u8], behind: &[u8], kept: &mut [u16], file: &mut [u8]) -> bool {
         file::lay(behind, file);
         return true;
     }
+    if same::bytes(kind, b"more") {
+        file::more(behind, file);
+        return true;
+    }
+    if same::bytes(kind, b"put") {
+        file::put(behind, file);
+        return true;
+    }
     false
 }
 
 // Runs a case that writes, by its kind and what stands behind that, and answers whether it is one.
 fn writing(kind: &[u8], behind: &[u8], kept: &[u16], file: &mut [u8]) -> bool {
     if same::bytes(kind, b"write") {
-        writes::write(behind, kept::book(kept));
+        writes::case(behind, kept::book(kept), false, file);
         return true;
     }
     if same::bytes(kind, b"keep") {
-        writes::keep(behind, kept::book(kept), file);
+        writes::case(behind, kept::book(kept), true, file);
         return true;
     }
     false

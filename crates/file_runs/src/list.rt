@@ -1,4 +1,5 @@
 // Lists of bytes. On a line each byte stands behind one space as its number, and *N behind a byte lets it stand N times in all.
+use report::fill;
 use report::kept;
 use report::lent;
 use report::line;
@@ -14,13 +15,6 @@ const NONE: usize = 65536;
 const MANY: usize = 512;
 
 // ---- read
-
-// Writes one byte to every place.
-fn fill(bytes: &mut [u8], byte: u8) {
-    for i in 0..bytes.len() {
-        bytes[i] = byte;
-    }
-}
 
 // Lets the last of the first `count` bytes stand so many times in all, and answers how many bytes there are then, or NONE.
 fn repeat(bytes: &mut [u8], count: usize, times: usize) -> usize {
@@ -39,7 +33,7 @@ fn repeat(bytes: &mut [u8], count: usize, times: usize) -> usize {
     }
     let byte = bytes[count - 1];
     let end = count + more;
-    fill(&mut bytes[count..end], byte);
+    fill::bytes(&mut bytes[count..end], byte);
     end
 }
 
@@ -125,23 +119,13 @@ pub fn tell(bytes: &[u8]) {
     decimals(bytes);
 }
 
-// Whether bytes of a lent output are as they came.
-fn stayed(rest: &[u8]) -> bool {
-    for i in 0..rest.len() {
-        if rest[i] != lent::MARK {
-            return false;
-        }
-    }
-    true
-}
-
 // Says the bytes behind those that were written: how many they are where all are as they came.
 fn behind(rest: &[u8]) {
     let many = rest.len();
     if many == 0 {
         return;
     }
-    if stayed(rest) {
+    if lent::bytes_stayed(rest) {
         lent::stayed(many);
         return;
     }
@@ -151,13 +135,7 @@ fn behind(rest: &[u8]) {
 
 // Says the bytes that were written, and the bytes behind them.
 pub fn written(out: &[u8], count: usize) {
-    if out.len() < count {
-        say::text(b" more than was lent");
-        return;
-    }
-    if count == 0 {
-        say::text(b" nothing");
-    }
-    tell(&out[0..count]);
-    behind(&out[count..]);
+    let end = lent::front(out.len(), count);
+    tell(&out[0..end]);
+    behind(&out[end..]);
 }

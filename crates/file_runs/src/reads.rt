@@ -5,15 +5,11 @@
 //   start ROOM           it is read into the slice of the kept book, which has so many words from now on, each 9 before
 // Each says the answer and every word of the slice.
 use crate::file;
-use crate::list;
+use report::fill;
+use report::kept::BEFORE;
+use report::kept::MOST_WORDS;
 use report::line;
 use report::say;
-
-// What every word of a slice holds before a file is read into it.
-pub const BEFORE: u16 = 9;
-
-// The words that a slice may have: one more than the largest book.
-pub const MOST_WORDS: usize = 16385;
 
 // Reads a file into a slice, and says the answer and every word of the slice.
 fn read_to(file: &[u8], slice: &mut [u16]) {
@@ -65,15 +61,11 @@ pub fn cut(rest: &[u8], held: &[u8]) {
 
 // Reads the kept file, with another byte at a place, into a slice of so many words.
 fn with_byte(held: &mut [u8], at: u16, number: u16, room: u16) {
-    if list::GREATEST < number as usize {
+    let old = file::change(held, at, number);
+    if old == file::NO_BYTE {
         say::not_understood();
         return;
     }
-    if file::bytes(held).len() <= at as usize {
-        say::not_understood();
-        return;
-    }
-    let old = file::change(held, at, number as u8);
     read_room(file::bytes(held), room);
     file::change(held, at, old);
 }
@@ -90,7 +82,7 @@ pub fn with(rest: &[u8], held: &mut [u8]) {
 
 // Reads a file into a slice, each of whose words is 9 before.
 fn fresh(file: &[u8], slice: &mut [u16]) {
-    line::fill(slice, BEFORE);
+    fill::words(slice, BEFORE);
     read_to(file, slice);
 }
 

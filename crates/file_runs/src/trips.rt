@@ -3,13 +3,15 @@
 //   again   the kept file is read into a slice of 16,384 words, and what is read is written
 use crate::file;
 use crate::list;
-use crate::reads::BEFORE;
-use crate::reads::MOST_WORDS;
 use figures::limits;
 use figures::numbers;
+use report::kept::BEFORE;
+use report::kept::MOST_WORDS;
 use report::lent;
 use report::same;
 use report::say;
+ghost use Prim.Native.Nat.{_≤_};
+ghost use lib.ListN.{length};
 
 // Says that a call refused, and by which number.
 fn refused(call: &[u8], number: u16) {
@@ -49,17 +51,29 @@ fn read_back(book: &[u16], file: &[u8]) {
     read_to(book, file, &mut slice[0..n]);
 }
 
-// Runs a case of `back`.
-pub fn back(book: &[u16]) {
-    let mut out = [lent::MARK; file::MOST];
-    let written = store::write(book, &mut out);
+// Writes the file of a book to an output, and answers how many bytes it has. Where it is not written, says why and answers 0; a file has a byte
+// at least.
+fn write_to(book: &[u16], out: &mut [u8]) -> usize
+    ensures { λ r. ⌜ r ≤ length (now (out .entry)) ⌝ }
+{
+    let written = store::write(book, out);
     let count = written.count;
     if written.number != numbers::DONE {
         refused(b"writing", written.number);
-        return;
+        return 0;
     }
     if out.len() < count {
         say::text(b"more than was lent");
+        return 0;
+    }
+    count
+}
+
+// Runs a case of `back`.
+pub fn back(book: &[u16]) {
+    let mut out = [lent::MARK; file::MOST];
+    let count = write_to(book, &mut out);
+    if count == 0 {
         return;
     }
     read_back(book, &out[0..count]);
@@ -78,14 +92,8 @@ fn bytes_back(file: &[u8], out: &[u8]) {
 // Writes the words that were read of a file again, and says what came of it.
 fn write_back(file: &[u8], book: &[u16]) {
     let mut out = [lent::MARK; file::MOST];
-    let written = store::write(book, &mut out);
-    let count = written.count;
-    if written.number != numbers::DONE {
-        refused(b"writing", written.number);
-        return;
-    }
-    if out.len() < count {
-        say::text(b"more than was lent");
+    let count = write_to(book, &mut out);
+    if count == 0 {
         return;
     }
     bytes_back(file, &out[0..count]);

@@ -1,4 +1,5 @@
-// A book that is kept from line to line of standard input, and what `teach`, `withdraw`, `judge` and `check` answer on it, by the case on a line:
+// A book that is kept from line to line of standard input: it is laid by a list of its words (`lay`), handed out to other calls (`book`), and what
+// `teach`, `withdraw`, `judge` and `check` answer on it is said, by the case on a line:
 //   teach W W ..      the order of these words is taught to the kept book
 //   withdraw W W ..   the order of these words is withdrawn from it
 //   ask W W ..        the order of these words is judged by it
@@ -10,12 +11,18 @@ use crate::line;
 use crate::same;
 use crate::say;
 use figures::Answer;
+use figures::limits;
 
-// The words that hold a kept book: one that says how many words its slice has, and behind that the slice, with room for one word more
-// than the largest book has. At first all are 0: a slice of no words.
-pub const HELD: usize = 16386;
+// The words that a slice of a book may have: one more than the largest book.
+pub const MOST_WORDS: usize = limits::MOST_BOOK_WORDS + 1;
 
-// The words that an order may have.
+// What every word of a slice holds before a book is opened in it or read into it.
+pub const BEFORE: u16 = 9;
+
+// The words that hold a kept book: one that says how many words its slice has, and behind that the slice. At first all are 0: a slice of no words.
+pub const HELD: usize = 1 + MOST_WORDS;
+
+// The words that an order on a line may have: more than 01 allows.
 pub const MOST_ORDER: usize = 140;
 
 // A call that has an order.

@@ -1,16 +1,13 @@
 // What a call did with a lent output: its answer, what it wrote at the front, and what stands behind that.
-use crate::same;
 use crate::say;
 use figures::Written;
+ghost use Prim.Native.Nat.{_≤_};
 
 // What every word of a lent output holds before a call.
 pub const HELD: u16 = 7;
 
 // What every byte of a lent output holds before a call.
 pub const MARK: u8 = b'#';
-
-// No output of the cases has more words or bytes.
-pub const MOST: usize = 640;
 
 // Of what stands behind, so many are said one by one even where all are as they came.
 const FEW: usize = 16;
@@ -25,6 +22,21 @@ pub fn answer(written: Written) {
     say::text(b" written:");
 }
 
+// How many words or bytes of an output are said as written, by its room and the count that a call answered: so many, or none where that is more
+// than was lent. Where there are none, says why.
+pub fn front(room: usize, count: usize) -> usize
+    ensures { λ r. ⌜ r ≤ room ⌝ }
+{
+    if room < count {
+        say::text(b" more than was lent");
+        return 0;
+    }
+    if count == 0 {
+        say::text(b" nothing");
+    }
+    count
+}
+
 // Says that so many words or bytes behind what was written are as they came.
 pub fn stayed(count: usize) {
     say::text(b", then ");
@@ -34,48 +46,48 @@ pub fn stayed(count: usize) {
 
 // Whether words of a lent output are as they came.
 fn words_stayed(rest: &[u16]) -> bool {
-    let held = [HELD; MOST];
-    let n = rest.len();
-    if held.len() < n {
-        return false;
+    for i in 0..rest.len() {
+        if rest[i] != HELD {
+            return false;
+        }
     }
-    same::words(rest, &held[0..n])
+    true
 }
 
 // Says the words behind those that were written: all of them, or how many where they are many and as they came.
-fn words_behind(out: &[u16], count: usize) {
-    if out.len() < count {
-        return;
-    }
-    let many = out.len() - count;
-    if FEW < many && words_stayed(&out[count..]) {
+fn words_behind(rest: &[u16]) {
+    let many = rest.len();
+    if FEW < many && words_stayed(rest) {
         stayed(many);
         return;
     }
-    say::behind(out, count);
+    say::behind(rest, 0);
 }
 
 // Says the words that were written, and the words behind them.
 pub fn words(out: &[u16], count: usize) {
-    if out.len() < count {
-        say::text(b" more than was lent");
-        return;
-    }
-    if count == 0 {
-        say::text(b" nothing");
-    }
-    say::words(&out[0..count]);
-    words_behind(out, count);
+    let end = front(out.len(), count);
+    say::words(&out[0..end]);
+    words_behind(&out[end..]);
 }
 
 // Whether bytes of a lent output are as they came.
-fn bytes_stayed(rest: &[u8]) -> bool {
-    let held = [MARK; MOST];
-    let n = rest.len();
-    if held.len() < n {
-        return false;
+pub fn bytes_stayed(rest: &[u8]) -> bool {
+    for i in 0..rest.len() {
+        if rest[i] != MARK {
+            return false;
+        }
     }
-    same::bytes(rest, &held[0..n])
+    true
+}
+
+// Says bytes with one blank before them, where there are any.
+fn text(bytes: &[u8]) {
+    if bytes.len() == 0 {
+        return;
+    }
+    say::text(b" ");
+    say::bytes(bytes);
 }
 
 // Says the bytes behind those that were written: all of them, or how many where they are many and as they came.
@@ -88,20 +100,13 @@ fn bytes_behind(rest: &[u8]) {
         stayed(many);
         return;
     }
-    say::text(b", then ");
-    say::bytes(rest);
+    say::text(b", then");
+    text(rest);
 }
 
 // Says the bytes that were written, and the bytes behind them.
 pub fn bytes(out: &[u8], count: usize) {
-    say::text(b" ");
-    if out.len() < count {
-        say::text(b"more than was lent");
-        return;
-    }
-    if count == 0 {
-        say::text(b"nothing");
-    }
-    say::bytes(&out[0..count]);
-    bytes_behind(&out[count..]);
+    let end = front(out.len(), count);
+    text(&out[0..end]);
+    bytes_behind(&out[end..]);
 }

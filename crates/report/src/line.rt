@@ -1,4 +1,5 @@
 // What stands on a line of standard input: numbers, words and text, each behind one space.
+use crate::fill;
 ghost use Prim.Native.Nat.{_≤_};
 ghost use lib.ListN.{length};
 
@@ -69,13 +70,6 @@ pub fn words(list: &[u8], words: &mut [u16]) -> usize {
     count
 }
 
-// Writes one word to every place.
-pub fn fill(words: &mut [u16], word: u16) {
-    for i in 0..words.len() {
-        words[i] = word;
-    }
-}
-
 // Lets the last of the first `count` words stand so many times in all, and answers how many words there are then, or NONE.
 fn repeat(words: &mut [u16], count: usize, times: usize) -> usize {
     if count == 0 {
@@ -93,7 +87,7 @@ fn repeat(words: &mut [u16], count: usize, times: usize) -> usize {
     }
     let word = words[count - 1];
     let end = count + more;
-    fill(&mut words[count..end], word);
+    fill::words(&mut words[count..end], word);
     end
 }
 

@@ -6,15 +6,11 @@
 use book::BookForm;
 use book::Places;
 use report::kept;
+use report::kept::BEFORE;
+use report::kept::MOST_WORDS;
 use report::line;
 use report::same;
 use report::say;
-
-// What every word of a slice holds before a book is opened in it.
-const BEFORE: u16 = 9;
-
-// The words that a slice may have: one more than the largest book.
-const MOST_WORDS: usize = 16385;
 
 // Opens a book in a slice, and says the answer and every word of the slice.
 fn open_in(slice: &mut [u16], k: u16) {

@@ -8,17 +8,14 @@
 // The other cases of books stand on lines like these: see `report::kept` and `books`.
 use crate::books;
 use crate::trips;
+use crate::trips::MOST;
 use report::kept;
 use report::lent;
 use report::lent::HELD;
 use report::lent::MARK;
-use report::lent::MOST;
 use report::line;
 use report::same;
 use report::say;
-
-// The words that a line may have.
-const MOST_WORDS: usize = 140;
 
 // Reads a text to an output, and says the answer, the words written and the words behind them.
 fn read_to(text: &[u8], out: &mut [u16]) {
@@ -59,7 +56,7 @@ fn write(room: usize, rest: &[u8]) {
         say::not_understood();
         return;
     }
-    let mut order = [0u16; MOST_WORDS];
+    let mut order = [0u16; kept::MOST_ORDER];
     let n = line::words(rest, &mut order);
     if order.len() < n {
         say::not_understood();
@@ -70,7 +67,7 @@ fn write(room: usize, rest: &[u8]) {
 
 // Says whether an order comes back from its text.
 fn there(rest: &[u8]) {
-    let mut order = [0u16; MOST_WORDS];
+    let mut order = [0u16; kept::MOST_ORDER];
     let n = line::words(rest, &mut order);
     if order.len() < n {
         say::not_understood();

@@ -1,8 +1,10 @@
 // There and back: an order written and read again, and a text read and written again.
 use figures::numbers;
-use report::lent::MOST;
 use report::same;
 use report::say;
+
+// The words that a form may be read to, and the bytes that it may have: more than 01 allows.
+pub const MOST: usize = 640;
 
 // Says whether what came back is the same.
 pub fn answer(same: bool) {

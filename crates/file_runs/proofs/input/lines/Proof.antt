@@ -7,9 +7,11 @@ use borrow.Author.Needs.{needs}
 use Rattle.file_runs.proofs.input.lines.Statement.{statement}
 use Rattle.file_runs.proofs.input.lines.Tie as tie
 
+-- What keeps a book has as many words as it had, and what keeps a file as many bytes.
 abbrev Inv-loop : tie.InvT-loop
 Inv-loop text kept₀ file₀ at₀ kept file at = (length kept ≡ length kept₀) × (length file ≡ length file₀)
 
+-- The bytes of the text from the line on, which are fewer at the next line.
 abbrev μ-loop : tie.MeasureT-loop
 μ-loop text kept₀ file₀ at₀ kept file at = length text - at
 

@@ -5,9 +5,11 @@ use borrow.Author.Needs.{needs}
 use Rattle.file_runs.proofs.list.mark.Statement.{statement}
 use Rattle.file_runs.proofs.list.mark.Tie as tie
 
+-- The end is within the bytes.
 abbrev Inv-loop : tie.InvT-loop
 Inv-loop bytes mark₀ i₀ i-end mark i = i-end ≤ length bytes
 
+-- The bytes that are left, one fewer with each turn.
 abbrev μ-loop : tie.MeasureT-loop
 μ-loop bytes mark₀ i₀ i-end mark i = i-end - i
 

@@ -6,9 +6,11 @@ use borrow.Author.Needs.{needs}
 use Rattle.file_runs.proofs.list.read.Statement.{statement}
 use Rattle.file_runs.proofs.list.read.Tie as tie
 
+-- The place is within the list, and there are as many bytes as there were.
 abbrev Inv-loop : tie.InvT-loop
 Inv-loop list bytes₀ at₀ count₀ bytes at count = (at ≤ length list) × (length bytes ≡ length bytes₀)
 
+-- The bytes of the list from the place on, which are fewer behind each piece.
 abbrev μ-loop : tie.MeasureT-loop
 μ-loop list bytes₀ at₀ count₀ bytes at count = length list - at
 

@@ -5,9 +5,11 @@ use borrow.Author.Needs.{needs}
 use Rattle.report.proofs.kept.mark.Statement.{statement}
 use Rattle.report.proofs.kept.mark.Tie as tie
 
+-- The end is within the words.
 abbrev Inv-loop : tie.InvT-loop
 Inv-loop words mark₀ i₀ i-end mark i = i-end ≤ length words
 
+-- The words that are left, one fewer with each turn.
 abbrev μ-loop : tie.MeasureT-loop
 μ-loop words mark₀ i₀ i-end mark i = i-end - i
 

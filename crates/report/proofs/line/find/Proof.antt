@@ -5,9 +5,11 @@ use borrow.Author.Needs.{needs}
 use Rattle.report.proofs.line.find.Statement.{statement}
 use Rattle.report.proofs.line.find.Tie as tie
 
+-- The place is at `from` or behind it, and within the bytes.
 abbrev Inv-loop : tie.InvT-loop
 Inv-loop bytes byte from at₀ at = (from ≤ at) × (at ≤ length bytes)
 
+-- The bytes from the place on, one fewer with each turn.
 abbrev μ-loop : tie.MeasureT-loop
 μ-loop bytes byte from at₀ at = length bytes - at
 

@@ -5,9 +5,11 @@ use borrow.Author.Needs.{needs}
 use Rattle.report.proofs.line.number.Statement.{statement}
 use Rattle.report.proofs.line.number.Tie as tie
 
+-- The end is within the digits, and the number so far is one that a word holds.
 abbrev Inv-loop : tie.InvT-loop
 Inv-loop digits n₀ i₀ i-end n i = (i-end ≤ length digits) × (n ≤ 65535)
 
+-- The digits that are left, one fewer with each turn.
 abbrev μ-loop : tie.MeasureT-loop
 μ-loop digits n₀ i₀ i-end n i = i-end - i
 

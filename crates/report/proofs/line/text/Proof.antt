@@ -6,9 +6,11 @@ use borrow.Author.Needs.{needs}
 use Rattle.report.proofs.line.text.Statement.{statement}
 use Rattle.report.proofs.line.text.Tie as tie
 
+-- The place is behind the space, the end is within what is spelt and within the room, and the room stays.
 abbrev Inv-loop : tie.InvT-loop
 Inv-loop spelt text₀ end i₀ text i = (1 ≤ i) × (end ≤ length spelt) × (end ≤ length text₀) × (length text ≡ length text₀)
 
+-- The bytes that are left, one fewer with each turn.
 abbrev μ-loop : tie.MeasureT-loop
 μ-loop spelt text₀ end i₀ text i = end - i
 

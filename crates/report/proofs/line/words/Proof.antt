@@ -7,9 +7,11 @@ use borrow.Author.Needs.{needs}
 use Rattle.report.proofs.line.words.Statement.{statement}
 use Rattle.report.proofs.line.words.Tie as tie
 
+-- The place is within the list, the count within the room, and there are as many words as there were.
 abbrev Inv-loop : tie.InvT-loop
 Inv-loop list words₀ at₀ count₀ words at count = (at ≤ length list) × (count ≤ length words₀) × (length words ≡ length words₀)
 
+-- The bytes of the list from the place on, which are fewer behind each word.
 abbrev μ-loop : tie.MeasureT-loop
 μ-loop list words₀ at₀ count₀ words at count = length list - at
 

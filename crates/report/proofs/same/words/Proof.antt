@@ -5,9 +5,11 @@ use borrow.Author.Needs.{needs}
 use Rattle.report.proofs.same.words.Statement.{statement}
 use Rattle.report.proofs.same.words.Tie as tie
 
+-- The end is within both slices.
 abbrev Inv-loop : tie.InvT-loop
 Inv-loop a b i₀ i-end i = (i-end ≤ length a) × (i-end ≤ length b)
 
+-- The words that are left, one fewer with each turn.
 abbrev μ-loop : tie.MeasureT-loop
 μ-loop a b i₀ i-end i = i-end - i
 

@@ -15,15 +15,19 @@ use Rattle.report.proofs.say.word.Reads as word-reads
 use Rattle.report.proofs.say.+trees_at.{statement}
 use Rattle.report.proofs.say.+trees_at.Tie.{close}
 
+-- The words from `at` on, at least two fewer with each call.
 abbrev μ : Measures 1 kinds.ps ℕ
 μ κs a = length (a .0 .now) - a .1 .0
 
+-- What a call is given: a measure of `t`, and its `requires`.
 abbrev given : ℕ → In 1 kinds.ps
 given t = and 1 kinds.ps (is 1 kinds.ps μ t) reads.Pre
 
+-- What a call within it is given: a measure below `t`, and its `requires`.
 abbrev below : ℕ → In 1 kinds.ps
 below t = and 1 kinds.ps (falls 1 kinds.ps _<_ μ t) reads.Pre
 
+-- What each function that is called asks and gives.
 abbrev claims : ℕ → lts.Claims
 claims t = (
   word-reads.Asked,

@@ -5,9 +5,11 @@ use borrow.Author.Needs.{needs}
 use Rattle.report.proofs.say.bytes.Statement.{statement}
 use Rattle.report.proofs.say.bytes.Tie as tie
 
+-- The end is within the bytes.
 abbrev Inv-loop : tie.InvT-loop
 Inv-loop bytes i₀ i-end i = i-end ≤ length bytes
 
+-- The bytes that are left, one fewer with each turn.
 abbrev μ-loop : tie.MeasureT-loop
 μ-loop bytes i₀ i-end i = i-end - i
 

@@ -5,9 +5,11 @@ use borrow.Author.Needs.{needs}
 use Rattle.report.proofs.say.other.Statement.{statement}
 use Rattle.report.proofs.say.other.Tie as tie
 
+-- The place is at `from` or behind it, and within the words.
 abbrev Inv-loop : tie.InvT-loop
 Inv-loop words word from at₀ at = (from ≤ at) × (at ≤ length words)
 
+-- The words from the place on, one fewer with each turn.
 abbrev μ-loop : tie.MeasureT-loop
 μ-loop words word from at₀ at = length words - at
 

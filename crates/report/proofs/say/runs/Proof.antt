@@ -5,9 +5,11 @@ use borrow.Author.Needs.{needs}
 use Rattle.report.proofs.say.runs.Statement.{statement}
 use Rattle.report.proofs.say.runs.Tie as tie
 
+-- The place is within the words.
 abbrev Inv-loop : tie.InvT-loop
 Inv-loop words at₀ at = at ≤ length words
 
+-- The words from the place on, which are fewer behind each run.
 abbrev μ-loop : tie.MeasureT-loop
 μ-loop words at₀ at = length words - at
 

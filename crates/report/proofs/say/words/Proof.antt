@@ -5,9 +5,11 @@ use borrow.Author.Needs.{needs}
 use Rattle.report.proofs.say.words.Statement.{statement}
 use Rattle.report.proofs.say.words.Tie as tie
 
+-- The end is within the words.
 abbrev Inv-loop : tie.InvT-loop
 Inv-loop words i₀ t3 i-end i = i-end ≤ length words
 
+-- The words that are left, one fewer with each turn.
 abbrev μ-loop : tie.MeasureT-loop
 μ-loop words i₀ t3 i-end i = i-end - i
 

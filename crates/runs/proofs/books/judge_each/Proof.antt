@@ -5,9 +5,11 @@ use borrow.Author.Needs.{needs}
 use Rattle.runs.proofs.books.judge_each.Statement.{statement}
 use Rattle.runs.proofs.books.judge_each.Tie as tie
 
+-- The place is within the lists.
 abbrev Inv-loop : tie.InvT-loop
 Inv-loop book lists at₀ t6 at = at ≤ length lists
 
+-- The bytes of the lists from the place on, which are fewer behind each order.
 abbrev μ-loop : tie.MeasureT-loop
 μ-loop book lists at₀ t6 at = length lists - at
 

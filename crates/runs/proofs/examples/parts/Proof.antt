@@ -5,9 +5,11 @@ use borrow.Author.Needs.{needs}
 use Rattle.runs.proofs.examples.parts.Statement.{statement}
 use Rattle.runs.proofs.examples.parts.Tie as tie
 
+-- Nothing has to hold from line to line.
 abbrev Inv-loop : tie.InvT-loop
 Inv-loop name tree k line₀ line-end line = Unit {0}
 
+-- The lines that are left, one fewer with each turn.
 abbrev μ-loop : tie.MeasureT-loop
 μ-loop name tree k line₀ line-end line = line-end - line
 

@@ -7,9 +7,11 @@ use borrow.Author.Needs.{needs}
 use Rattle.runs.proofs.input.lines.Statement.{statement}
 use Rattle.runs.proofs.input.lines.Tie as tie
 
+-- What keeps a book has as many words as it had.
 abbrev Inv-loop : tie.InvT-loop
 Inv-loop text kept₀ at₀ kept at = length kept ≡ length kept₀
 
+-- The bytes of the text from the line on, which are fewer at the next line.
 abbrev μ-loop : tie.MeasureT-loop
 μ-loop text kept₀ at₀ kept at = length text - at
 

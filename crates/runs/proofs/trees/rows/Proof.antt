@@ -7,9 +7,11 @@ use borrow.Author.Needs.{needs}
 use Rattle.runs.proofs.trees.rows.Statement.{statement}
 use Rattle.runs.proofs.trees.rows.Tie as tie
 
+-- The end is within the order, which has as many words as it had.
 abbrev Inv-loop : tie.InvT-loop
 Inv-loop order₀ children i₀ i-end order i = (i-end ≤ length order₀) × (length order ≡ length order₀)
 
+-- The words that are left, one fewer with each turn.
 abbrev μ-loop : tie.MeasureT-loop
 μ-loop order₀ children i₀ i-end order i = i-end - i
 

@@ -1,18 +1,23 @@
--- `file_runs::list::stayed` is safe and ends: the index stays below the end, which is the length. Assumes nothing.
+-- `report::lent::words_stayed` is safe and ends: the index stays below the end, which is the length. Assumes nothing.
 use Prim.Native.Nat.{_≤_, _-_}
 use lib.ListN.{length}
 use borrow.Author.Needs.{needs}
-use Rattle.file_runs.proofs.list.stayed.Statement.{statement}
-use Rattle.file_runs.proofs.list.stayed.Tie as tie
+use Rattle.report.proofs.lent.words_stayed.Statement.{statement}
+use Rattle.report.proofs.lent.words_stayed.Tie as tie
 
+-- The end is within the words.
 abbrev Inv-loop : tie.InvT-loop
 Inv-loop rest i₀ i-end i = i-end ≤ length rest
 
+-- The words that are left, one fewer with each turn.
 abbrev μ-loop : tie.MeasureT-loop
 μ-loop rest i₀ i-end i = i-end - i
 
 loop-holds : tie.Need-loop-holds Inv-loop μ-loop
 loop-holds c = search needs
+
+mul-if1 : tie.Need-mul-if1 Inv-loop μ-loop
+mul-if1 c = search needs
 
 shared-slice-read-if1 : tie.Need-shared-slice-read-if1 Inv-loop μ-loop
 shared-slice-read-if1 c = search needs
@@ -32,13 +37,14 @@ loop-again c = search needs
 returns-2 : tie.Need-returns-2 Inv-loop μ-loop
 returns-2 c = search needs
 
-pub stayed-spec : {M : Type 1} → statement M
-stayed-spec =
+pub words-stayed-spec : {M : Type 1} → statement M
+words-stayed-spec =
     tie.close
     (tie.spec
     Inv-loop
     μ-loop
     loop-holds
+    mul-if1
     shared-slice-read-if1
     returns
     add-i

@@ -1,25 +1,24 @@
--- `report::line::fill` is safe and ends: the index stays below the end, which is the length, and the length stays. Assumes nothing.
+-- `report::fill::bytes` is safe and ends: the index stays below the end, which is the length, and the length stays. Assumes nothing.
 use mathlib.Core.Path.{_≡_}
 use Prim.Native.Nat.{_≤_, _-_}
 use lib.ListN.{length}
 use borrow.Author.Needs.{needs}
-use Rattle.report.proofs.line.fill.Statement.{statement}
-use Rattle.report.proofs.line.fill.Tie as tie
+use Rattle.report.proofs.fill.bytes.Statement.{statement}
+use Rattle.report.proofs.fill.bytes.Tie as tie
 
+-- The end is within the bytes, and there are as many as there were.
 abbrev Inv-loop : tie.InvT-loop
-Inv-loop words₀ word i₀ i-end words i = (i-end ≤ length words₀) × (length words ≡ length words₀)
+Inv-loop bytes₀ byte i₀ i-end bytes i = (i-end ≤ length bytes₀) × (length bytes ≡ length bytes₀)
 
+-- The bytes that are left, one fewer with each turn.
 abbrev μ-loop : tie.MeasureT-loop
-μ-loop words₀ word i₀ i-end words i = i-end - i
+μ-loop bytes₀ byte i₀ i-end bytes i = i-end - i
 
 loop-holds : tie.Need-loop-holds Inv-loop μ-loop
 loop-holds c = search needs
 
-mul-words : tie.Need-mul-words Inv-loop μ-loop
-mul-words c = search needs
-
-slice-write-words : tie.Need-slice-write-words Inv-loop μ-loop
-slice-write-words c = search needs
+slice-write-bytes : tie.Need-slice-write-bytes Inv-loop μ-loop
+slice-write-bytes c = search needs
 
 add-i : tie.Need-add-i Inv-loop μ-loop
 add-i c = search needs
@@ -36,15 +35,14 @@ same-length c = search needs
 returns : tie.Need-returns Inv-loop μ-loop
 returns c = search needs
 
-pub fill-spec : {M : Type 1} → statement M
-fill-spec =
+pub bytes-spec : {M : Type 1} → statement M
+bytes-spec =
     tie.close
     (tie.spec
     Inv-loop
     μ-loop
     loop-holds
-    mul-words
-    slice-write-words
+    slice-write-bytes
     add-i
     loop-less
     loop-again
