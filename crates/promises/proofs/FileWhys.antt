@@ -24,7 +24,7 @@ use Rattle.book.specs.Opening.{Outcome, leave, writeBook}
 use Rattle.book.specs.declared.BookForm.the-variants.{Refused}
 use Rattle.book.proofs.Heads.{too-short, too-long, is-sized}
 use Rattle.book.proofs.Sound.{form-sound, sound-form, why-is, why-only}
-use Rattle.octets.specs.Octets.{bytesOf, wordAt}
+use Rattle.octets.specs.Octets.{bytesOf}
 use Rattle.store.specs.Files.{mark, mark-bytes, version, front-bytes, fileOf, writeFileOf, isMarked, storedIn, readBookOf, readRestOf, readFileOf}
 use Rattle.store.proofs.Stored.{Stored, stored-some, stored-is, stored-none}
 use Rattle.store.proofs.Writing.{file-unheld, file-by}
@@ -159,14 +159,6 @@ module _ (high low : ℕ) (rest : List ℕ) where
   front-marked : isMarked (mark ++ (high ∷ low ∷ rest)) ≡ true
   unfolding isMarked sameWords _and_
   front-marked = and-both (le-leb front-bytes (length (mark ++ (high ∷ low ∷ rest))) (omega arith)) refl
-
-  -- The version is that of the two bytes behind the mark.
-  front-version : wordAt (mark ++ (high ∷ low ∷ rest)) mark-bytes ≡ high * 256 + low
-  front-version = refl
-
-  -- The rest stands behind them.
-  front-rest : drop front-bytes (mark ++ (high ∷ low ∷ rest)) ≡ rest
-  front-rest = refl
 
   -- With version 1 the whole is the file of a book whose used words the rest are.
   stored-file : (b : Book) → high * 256 + low ≡ version → Stored rest b → IsFile (mark ++ (high ∷ low ∷ rest)) b
