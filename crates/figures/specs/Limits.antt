@@ -1,4 +1,4 @@
--- The figures of 01 for orders, parts and books ("Orders", "Parts", "The book"). They unfold everywhere, so that a test against one computes.
+-- The figures of 01 for orders, parts, books and the desk ("Orders", "Parts", "The book", "Forms on the desk"). They unfold everywhere, so that a test against one computes.
 -- Assumes nothing: these are definitions.
 use Prim.Native.Nat.{ℕ, _*_}
 
@@ -77,3 +77,11 @@ least-count = 1
 -- "to 65,535", and "live teachings, at most 65,535"
 abbrev pub greatest-count : ℕ
 greatest-count = 65535
+
+-- "standard input, at most 32,768 bytes"
+abbrev pub most-input : ℕ
+most-input = 32768
+
+-- "with a book of 8,192 words"
+abbrev pub desk-book-words : ℕ
+desk-book-words = 8192

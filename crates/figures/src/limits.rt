@@ -1,4 +1,4 @@
-// The figures of 01 for orders and books, named as the definitions of `specs/Limits.antt` name them.
+// The figures of 01 for orders, books and the desk, named as the definitions of `specs/Limits.antt` name them.
 
 // "an option code 1 to 9999, then its number of children 0 to 8"
 pub const LEAST_CODE: u16 = 1;
@@ -42,3 +42,8 @@ pub const LEAST_COUNT: usize = 1;
 
 // "to 65,535", and "live teachings, at most 65,535"
 pub const GREATEST_COUNT: u16 = 65535;
+
+// "standard input, at most 32,768 bytes, with a book of 8,192 words"
+pub const MOST_INPUT: usize = 32768;
+
+pub const DESK_BOOK_WORDS: usize = 8192;

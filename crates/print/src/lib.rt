@@ -21,7 +21,7 @@ use order::check;
 const ROWS: usize = limits::GREATEST_DEPTH + 2;
 
 // The byte of a number's last decimal digit.
-fn digit_of(n: usize) -> u8
+pub fn digit_of(n: usize) -> u8
     ensures { λ r. ⌜ r ≡ digit n ⌝ }
 {
     b'0' + (n % 10) as u8

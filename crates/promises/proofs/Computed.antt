@@ -1,4 +1,4 @@
--- One name that opens every definition that the tables compute. Assumes nothing.
+-- One name that opens every definition that the tables compute, and one that opens those of the desk besides. Assumes nothing.
 use Prim.Native.Nat.{ℕ}
 use Rattle.words.specs.Base.{_and_, if_then_else_, sameWords, keep}
 use Rattle.words.specs.Compare.{compareOf, before}
@@ -17,6 +17,9 @@ use Rattle.book.specs.Opening.{openOf}
 use Rattle.judge.specs.Judging.{knows, firstUnknown, verdict, judgeOf}
 use Rattle.teach.specs.Calls.{onOrder, withinCounts, teachTree, teachOf, lowerEach, withdrawn, hasEach, hasParts, withdrawTree, withdrawOf}
 use Rattle.agree.specs.Checking.{checkOf}
+use Rattle.form.specs.Text.{linesOf, levelText, codeText, lineText, spell, textOf}
+use Rattle.reply.specs.Replies.{lastDigits, withoutZeros, decimal, field, reply}
+use Rattle.sheet.specs.Sheets.{letterOf, withByte, linesOf as inputLines, kindOf, withLine, callsOf, sheetOf, firstLine, handedBy, byFirst, handedIn}
 use Rattle.promises.specs.Heard.{computed, heard}
 
 -- Opens them all.
@@ -28,3 +31,9 @@ unfolding _and_ if_then_else_ sameWords keep compareOf before count words depth 
     teachOf lowerEach withdrawn hasEach hasParts withdrawTree withdrawOf computed heard knows firstUnknown verdict judgeOf write isDigit value isCode
     codeBehind speltOf byLine allowed siblings lineOf byForm readLines formOf children wordsOf readOf checkOf
 computes = 0
+
+-- Opens those of the desk besides: what is handed in, the text of an order, and the lines that are printed.
+unfoldable pub desk-computes : ℕ
+unfolding computes linesOf levelText codeText lineText spell textOf lastDigits withoutZeros decimal field reply letterOf withByte inputLines kindOf
+    withLine callsOf sheetOf firstLine handedBy byFirst handedIn
+desk-computes = 0

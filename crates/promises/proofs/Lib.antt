@@ -15,12 +15,15 @@ pub mod Wordings
 pub mod GoingOn
 pub mod LineNumbers
 pub mod Contracts
+pub mod Handing
 mod Computed
 pub mod Cases
 pub mod Demand1
 pub mod Demand2
 pub mod Demand3
+pub mod AtTheDesk
 pub mod Uniqueness
 pub mod Impostors
 mod Rows
 mod FileRows
+pub mod DeskRows

@@ -4,3 +4,4 @@ pub mod Starts
 pub mod Heard
 pub mod Agreement
 pub mod Whys
+pub mod AtTheDesk

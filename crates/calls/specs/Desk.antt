@@ -1,0 +1,49 @@
+-- What the program `desk` prints for which input (01, "Forms on the desk"). Assumes nothing: these are definitions.
+use Prim.Native.Nat.{ℕ}
+use mathlib.Core.List.{List, [], _∷_, _++_}
+use lib.ListN.{getD, replicate}
+use Rattle.figures.specs.Limits.{used-word, desk-book-words}
+use Rattle.figures.specs.declared.Answer.{Answer}
+use Rattle.form.specs.Reading.{byForm, formOf, wordsOf}
+use Rattle.book.specs.Opening.{Outcome, outcome, openOf}
+use Rattle.judge.specs.Judging.{judgeOf}
+use Rattle.teach.specs.Calls.{teachOf, withdrawOf}
+use Rattle.reply.specs.Replies.{reply}
+use Rattle.sheet.specs.Sheets.{letter-K, letterByte, Call, Handed, faulty, handed, handedIn}
+use Rattle.sheet.specs.declared.Letter.{Letter}
+use Rattle.sheet.specs.declared.Letter.the-variants.{Teach, Withdraw, Judge}
+
+-- ---- a call
+
+-- "teach, withdraw, judge": what a letter does with the book and an order. Judging leaves the book as it came.
+unfoldable pub askOf : Letter → List ℕ → List ℕ → Outcome
+askOf Teach book os = teachOf book os
+askOf Withdraw book os = withdrawOf book os
+askOf Judge book os = outcome (judgeOf book os) book
+
+-- "A form's text is read first and its refusal printed": a text that is refused does not reach the book.
+unfoldable pub callOf : Call → List ℕ → Outcome
+callOf c book =
+    byForm (formOf (c .text)) (λ n line. outcome (record { number = n; line = line }) book) (λ xs. askOf (c .letter) book (wordsOf xs))
+
+-- ---- its line
+
+-- "letter, answer, line, words used", of the book after the call.
+unfoldable pub lineFor : ℕ → Outcome → List ℕ
+lineFor letter o = reply letter (o .answer) (getD (o .words) used-word 0)
+
+-- "one for each form": the lines of calls on a book, one after the other.
+unfoldable pub linesFor : List Call → List ℕ → List ℕ
+linesFor [] book = []
+linesFor (c ∷ cs) book = lineFor (letterByte (c .letter)) (callOf c book) ++ linesFor cs (callOf c book .words)
+
+-- ---- all that is printed
+
+-- "one line for the opening, with letter K, and one for each form", on a book in that slice; by a fault, "that line is then the whole output".
+unfoldable pub printedFor : Handed → List ℕ → List ℕ
+printedFor (faulty a) slice = reply letter-K a 0
+printedFor (handed k calls) slice = lineFor letter-K (openOf slice k) ++ linesFor calls (openOf slice k .words)
+
+-- What the desk prints for an input: "with a book of 8,192 words".
+unfoldable pub deskOf : List ℕ → List ℕ
+deskOf input = printedFor (handedIn input) (replicate desk-book-words 0)

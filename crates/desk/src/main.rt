@@ -1,0 +1,7 @@
+// The program `desk`: forms in on standard input, one line per call out on standard output.
+use libc::STDIN_FILENO;
+
+// Runs the desk on standard input.
+fn main() {
+    serve::from(STDIN_FILENO);
+}

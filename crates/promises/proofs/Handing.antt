@@ -1,0 +1,264 @@
+-- What an input hands in at the desk: an allowed k, and no more calls than it has bytes; what the forms do to the book, by the calls that they make;
+-- and their lines, one by one. Assumes nothing.
+use Prim.Native.Nat.{ℕ, suc, _+_, _≤_}
+use mathlib.Core.Path.{_≡_, refl, sym, ap, _∙_}
+use mathlib.Core.Bool.{Bool, true, false}
+use mathlib.Core.List.{List, [], _∷_, _++_, append-assoc}
+use native.Mathlib.Omega.{arith}
+use borrow.Author.Tests.{ltb-false, leb-true}
+use lib.Dec.{ltb, eqb}
+use lib.ListN.{length, length-append}
+use Rattle.words.specs.Base.{_and_, if_then_else_, within, sameWords}
+use Rattle.words.proofs.Tests.{and-left, and-right}
+use Rattle.figures.specs.Limits.{least-k, greatest-k, most-input}
+use Rattle.figures.specs.Numbers.{done, too-large, no-form}
+use Rattle.figures.specs.Answers.{answered}
+use Rattle.order.specs.Trees.{Tree, words}
+use Rattle.order.specs.Fits.{IsOrder}
+use Rattle.order.proofs.Fitting.{order-read}
+use Rattle.form.specs.Text.{Line, space, line-feed, textOf}
+use Rattle.form.specs.Reading.{isDigit, figure, Form, fault, form, byForm, formOf, wordsOf}
+use Rattle.form.specs.Faults.{Why, past, misspelt, no-option, not-allowed, too-deep, ninth-child}
+use Rattle.form.proofs.FirstFault.{first-fault}
+use Rattle.form.proofs.Trips.{order-text}
+use Rattle.book.specs.Opening.{outcome}
+use Rattle.sheet.specs.Sheets.{letter-K, letterByte, withByte, linesOf, kindOf, Call as Asking, Sheet, withLine, callsOf, sheetOf}
+use Rattle.sheet.specs.Sheets.{FirstLine, otherwise, asks, firstLine, faulty, handed, handedBy, byFirst, handedIn}
+use Rattle.sheet.specs.declared.Letter.{Letter}
+use Rattle.sheet.specs.declared.Letter.the-variants.{Teach, Withdraw, Judge}
+use Rattle.sheet.specs.declared.LineKind.{LineKind}
+use Rattle.sheet.specs.declared.LineKind.the-variants.{Asks, Other}
+use Rattle.calls.specs.Desk.{askOf, callOf, lineFor, linesFor}
+use Rattle.promises.specs.Remaining.{Call, teach, withdraw, outcomeOf, afterBy, after, without, remainBy, remainingBy, remaining}
+use Rattle.promises.specs.AtTheDesk.{callFor, madeOf, madeBy, bookAfter, DeskNumber, is-too-large, is-no-form}
+
+-- ---- how many calls
+
+-- A line asks for one call at most.
+line-call : (x : LineKind) (l : List ℕ) (s : Sheet) → length (withLine x l s .calls) ≤ suc (length (s .calls))
+unfolding withLine
+line-call (Asks x) l s = omega arith
+line-call Other l s = omega arith
+
+-- Lines ask for no more calls than they are.
+lines-calls : (ls : List (List ℕ)) → length (callsOf ls .calls) ≤ length ls
+unfolding callsOf
+lines-calls [] = omega arith
+lines-calls (l ∷ ls) = omega (arith, line-call (kindOf l) l (callsOf ls), lines-calls ls)
+
+-- A byte begins one line more at most.
+byte-line : (x : Bool) (b : ℕ) (ls : List (List ℕ)) → length (withByte x b ls) ≤ suc (length ls)
+unfolding withByte
+byte-line true b ls = omega arith
+byte-line false b [] = omega arith
+byte-line false b (l ∷ ls) = omega arith
+
+-- Bytes are no fewer than their lines.
+bytes-lines : (bs : List ℕ) → length (linesOf bs) ≤ length bs
+unfolding linesOf
+bytes-lines [] = omega arith
+bytes-lines (b ∷ bs) = omega (arith, byte-line (eqb b line-feed) b (linesOf bs), bytes-lines bs)
+
+-- Bytes ask for no more calls than they are.
+pub calls-within : (bs : List ℕ) → length (sheetOf bs .calls) ≤ length bs
+unfolding sheetOf
+calls-within bs = omega (arith, lines-calls (linesOf bs), bytes-lines bs)
+
+-- ---- what is handed in
+
+-- A first line that has a k has an allowed one, and the bytes behind it are no more than all.
+first-says : (input : List ℕ) (k : ℕ) (rest : List ℕ) → firstLine input ≡ asks k rest → (within least-k greatest-k k ≡ true) × (length rest ≤ length input)
+unfolding firstLine if_then_else_
+first-says [] k rest e = let z : _≡_ {A = ℕ} 0 1 = cc in absurd (omega arith)
+first-says (a ∷ []) k rest e = let z : _≡_ {A = ℕ} 0 1 = cc in absurd (omega arith)
+first-says (a ∷ b ∷ []) k rest e = let z : _≡_ {A = ℕ} 0 1 = cc in absurd (omega arith)
+first-says (a ∷ b ∷ c ∷ []) k rest e = let z : _≡_ {A = ℕ} 0 1 = cc in absurd (omega arith)
+first-says (a ∷ b ∷ c ∷ d ∷ bs) k rest e = go (eqb a letter-K and eqb b space and isDigit c and eqb d line-feed and within least-k greatest-k (figure c)) refl e
+  where
+    -- By whether it is spelt so and its k allowed.
+    go : (t : Bool) → (eqb a letter-K and eqb b space and isDigit c and eqb d line-feed and within least-k greatest-k (figure c)) ≡ t
+        → (if t then asks (figure c) bs else otherwise) ≡ asks k rest → (within least-k greatest-k k ≡ true) × (length rest ≤ length (a ∷ b ∷ c ∷ d ∷ bs))
+    go true s q =
+        let same : figure c ≡ k = cc in
+        let left : bs ≡ rest = cc in
+        (ap (within least-k greatest-k) (sym same) ∙ and-right _ _ (and-right _ _ (and-right _ _ (and-right _ _ s))), omega (arith, ap length left))
+    go false s q = let z : _≡_ {A = ℕ} 0 1 = cc in absurd (omega arith)
+
+-- An input is no longer than allowed, its line 1 has this k, and the bytes behind that ask for these calls.
+record HandsIn (input : List ℕ) (k : ℕ) (cs : List Asking) : Type 0 where
+  rest : List ℕ
+  short : length input ≤ most-input
+  first : firstLine input ≡ asks k rest
+  calls : sheetOf rest .calls ≡ cs
+
+-- Such is every input that hands in k and calls.
+hands-in : (input : List ℕ) (k : ℕ) (cs : List Asking) → handedIn input ≡ handed k cs → HandsIn input k cs
+unfolding handedIn byFirst handedBy if_then_else_
+hands-in input k cs = go (ltb most-input (length input)) refl
+  where
+    -- By the bytes before the first letter.
+    by-bytes : (j : ℕ) (rest : List ℕ) → length input ≤ most-input → firstLine input ≡ asks j rest → (before : List ℕ)
+        → handedBy j before (sheetOf rest .calls) ≡ handed k cs → HandsIn input k cs
+    by-bytes j rest short first [] e =
+        let same : j ≡ k = cc in
+        let left : sheetOf rest .calls ≡ cs = cc in
+        record { rest = rest; short = short; first = first ∙ ap (λ (n : ℕ). asks n rest) same; calls = left }
+    by-bytes j rest short first (b ∷ bs) e = let z : _≡_ {A = ℕ} 0 1 = cc in absurd (omega arith)
+
+    -- By the first line.
+    by-line : length input ≤ most-input → (f : FirstLine) → firstLine input ≡ f → byFirst f ≡ handed k cs → HandsIn input k cs
+    by-line short otherwise first e = let z : _≡_ {A = ℕ} 0 1 = cc in absurd (omega arith)
+    by-line short (asks j rest) first e = by-bytes j rest short first (sheetOf rest .before) e
+
+    -- By the length of the input.
+    go : (t : Bool) → ltb most-input (length input) ≡ t → (if t then faulty (answered too-large) else byFirst (firstLine input)) ≡ handed k cs
+        → HandsIn input k cs
+    go true l e = let z : _≡_ {A = ℕ} 0 1 = cc in absurd (omega arith)
+    go false l e = by-line (omega (arith, ltb-false most-input (length input) l)) (firstLine input) refl e
+
+-- The k that is handed in is allowed.
+pub allowed-k : (input : List ℕ) (k : ℕ) (cs : List Asking) → handedIn input ≡ handed k cs → (least-k ≤ k) × (k ≤ greatest-k)
+allowed-k input k cs e =
+    let h = hands-in input k cs e in
+    let w = first-says input k (h .rest) (h .first) .0 in
+    (leb-true least-k k (and-left _ _ w), leb-true k greatest-k (and-right _ _ w))
+
+-- No more calls are handed in than an input may have bytes.
+pub few-calls : (input : List ℕ) (k : ℕ) (cs : List Asking) → handedIn input ≡ handed k cs → length cs ≤ most-input
+few-calls input k cs e =
+    let h = hands-in input k cs e in
+    omega (arith, h .short, first-says input k (h .rest) (h .first) .1, calls-within (h .rest), ap length (h .calls))
+
+-- ---- the calls that forms make
+
+-- Calls one after the other: what the later ones leave of what the earlier ones leave.
+after-both : (cs ds : List Call) (ws : List ℕ) → after (cs ++ ds) ws ≡ after ds (after cs ws)
+unfolding afterBy
+after-both [] ds ws = refl
+after-both (c ∷ cs) ds ws = after-both cs ds (outcomeOf c ws .words)
+
+-- What a letter does with the book is what its call does; judging leaves the book.
+asked-after : (x : Letter) (os ws : List ℕ) → askOf x ws os .words ≡ after (callFor x os) ws
+unfolding askOf afterBy
+asked-after Teach os ws = refl
+asked-after Withdraw os ws = refl
+asked-after Judge os ws = refl
+
+-- What a form leaves is what the call that it makes leaves.
+form-after : (c : Asking) (ws : List ℕ) → callOf c ws .words ≡ after (madeOf c) ws
+unfolding callOf madeOf byForm afterBy
+form-after c ws = go (formOf (c .text))
+  where
+    -- By what its text is.
+    go : (f : Form) → byForm f (λ n line. outcome (record { number = n; line = line }) ws) (λ xs. askOf (c .letter) ws (wordsOf xs)) .words
+        ≡ after (byForm f (λ n line. []) (λ xs. callFor (c .letter) (wordsOf xs))) ws
+    go (fault n line) = refl
+    go (form xs) = asked-after (c .letter) (wordsOf xs) ws
+
+-- What forms leave is what the calls that they make leave.
+pub forms-after : (cs : List Asking) (ws : List ℕ) → bookAfter cs ws ≡ after (madeBy cs) ws
+unfolding bookAfter madeBy afterBy
+forms-after [] ws = refl
+forms-after (c ∷ cs) ws =
+    forms-after cs (callOf c ws .words) ∙ ap (after (madeBy cs)) (form-after c ws) ∙ sym (after-both (madeOf c) (madeBy cs) ws)
+
+-- ---- how many orders remain
+
+-- A letter makes one call at most.
+letter-makes : (x : Letter) (os : List ℕ) → length (callFor x os) ≤ 1
+letter-makes Teach os = omega arith
+letter-makes Withdraw os = omega arith
+letter-makes Judge os = omega arith
+
+-- So does a form.
+form-makes : (c : Asking) → length (madeOf c) ≤ 1
+unfolding madeOf byForm
+form-makes c = go (formOf (c .text))
+  where
+    -- By what its text is.
+    go : (f : Form) → length (byForm f (λ n line. []) (λ xs. callFor (c .letter) (wordsOf xs))) ≤ 1
+    go (fault n line) = omega arith
+    go (form xs) = letter-makes (c .letter) (wordsOf xs)
+
+-- Forms make no more calls than they are.
+pub forms-make : (cs : List Asking) → length (madeBy cs) ≤ length cs
+unfolding madeBy
+forms-make [] = omega arith
+forms-make (c ∷ cs) = simp length-append (omega (arith, form-makes c, forms-make cs))
+
+-- Orders with one such less are no more than they were.
+fewer : (os : List ℕ) (orders : List (List ℕ)) → length (without os orders) ≤ length orders
+unfolding without if_then_else_
+fewer os [] = omega arith
+fewer os (p ∷ ps) = go (sameWords p os) (fewer os ps)
+  where
+    -- By whether the first is such.
+    go : (b : Bool) → length (without os ps) ≤ length ps → length (if b then ps else p ∷ without os ps) ≤ length (p ∷ ps)
+    go true h = omega arith
+    go false h = omega arith
+
+-- After a call one order more remains at most.
+one-more-left : (c : Call) (n : ℕ) (orders : List (List ℕ)) → length (remainBy c n orders) ≤ suc (length orders)
+unfolding if_then_else_
+one-more-left (teach os) n orders = go (eqb n done)
+  where
+    -- By whether it is done.
+    go : (b : Bool) → length (if b then os ∷ orders else orders) ≤ suc (length orders)
+    go true = omega arith
+    go false = omega arith
+one-more-left (withdraw os) n orders = go (eqb n done)
+  where
+    -- By whether it is done.
+    go : (b : Bool) → length (if b then without os orders else orders) ≤ suc (length orders)
+    go true = omega (arith, fewer os orders)
+    go false = omega arith
+
+-- After calls no more orders remain than were there and there are calls.
+pub few-left : (cs : List Call) (ws : List ℕ) (orders : List (List ℕ)) → length (remaining cs ws orders) ≤ length cs + length orders
+unfolding remainingBy
+few-left [] ws orders = omega arith
+few-left (c ∷ cs) ws orders =
+    let n : ℕ = outcomeOf c ws .answer .number in
+    omega (arith, one-more-left c n orders, few-left cs (outcomeOf c ws .words) (remainBy c n orders))
+
+-- ---- the lines of forms
+
+-- What forms leave, and one more.
+pub book-then : (front : List Asking) (c : Asking) (ws : List ℕ) → bookAfter (front ++ (c ∷ [])) ws ≡ callOf c (bookAfter front ws) .words
+unfolding bookAfter
+book-then [] c ws = refl
+book-then (d ∷ front) c ws = book-then front c (callOf d ws .words)
+
+-- The lines of forms, of which one is c: those of the forms before it, its own by the book that they leave, and those of the forms behind it.
+pub lines-split : (front : List Asking) (c : Asking) (back : List Asking) (ws : List ℕ)
+    → linesFor (front ++ (c ∷ back)) ws
+    ≡ linesFor front ws ++ (lineFor (letterByte (c .letter)) (callOf c (bookAfter front ws)) ++ linesFor back (bookAfter (front ++ (c ∷ [])) ws))
+unfolding linesFor bookAfter
+lines-split [] c back ws = refl
+lines-split (d ∷ front) c back ws =
+    ap (λ (l : List ℕ). lineFor (letterByte (d .letter)) (callOf d ws) ++ l) (lines-split front c back (callOf d ws .words))
+    ∙ sym (append-assoc (lineFor (letterByte (d .letter)) (callOf d ws)) (linesFor front (callOf d ws .words)) _)
+
+-- ---- forms with an order
+
+-- A form of the text of an order asks for that order.
+pub asks-order : (x : Letter) (t : Tree) → IsOrder (words t) t → (ws : List ℕ) → callOf (record { letter = x; text = textOf t }) ws ≡ askOf x ws (words t)
+unfolding callOf byForm
+asks-order x t o ws = let f = order-text (words t) t (order-read (words t) t o) in rw (f .0, f .1)
+
+-- ---- texts that are refused
+
+-- A line at fault is refused by 2 or by 10, which the desk prints.
+line-refused : {before : List Line} {rest : List ℕ} {n : ℕ} → Why before rest n → DeskNumber n
+line-refused (past q h) = is-too-large q
+line-refused (misspelt q h m) = is-no-form q
+line-refused (no-option q h x p o) = is-no-form q
+line-refused (not-allowed q h x p o a) = is-no-form q
+line-refused (too-deep q h x p o a d) = is-too-large q
+line-refused (ninth-child q h x p o a d m) = is-no-form q
+
+-- So is a text.
+pub text-refused-by : (s : List ℕ) {n line : ℕ} → formOf s ≡ fault n line → DeskNumber n
+unfolding formOf
+text-refused-by [] {n} {line} e = let y : n ≡ no-form = cc in is-no-form y
+text-refused-by (b ∷ bs) {n} {line} e = line-refused (first-fault (b ∷ bs) n line (omega arith) e .why)

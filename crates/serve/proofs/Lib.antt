@@ -1,0 +1,2 @@
+-- What the proof of the loop uses.
+mod Serving

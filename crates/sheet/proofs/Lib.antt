@@ -1,0 +1,5 @@
+-- What the proofs of several functions use, and the laws that crates above cite.
+pub mod Splitting
+pub mod Found
+pub mod Meaning
+pub mod Reasons

@@ -1,0 +1,311 @@
+-- Bytes have one sheet: what they are split into gives them again, no letter line is inside a form, and nothing else is so. Assumes nothing.
+use Prim.Native.Nat.{ℕ, zero, suc}
+use mathlib.Core.Path.{_≡_, refl, ap, sym, subst, _∙_}
+use mathlib.Core.Bool.{Bool, true, false}
+use mathlib.Core.List.{List, [], _∷_, _++_, append-nil, List·Memᴰ·head as here, List·Memᴰ·tail as there, List·Memᴰ·not-nil}
+use native.Mathlib.Omega.{arith}
+use lib.Dec.{eqb}
+use lib.ListN.{take}
+use borrow.Author.Tests.{eqb-true}
+use Rattle.words.specs.Base.{_∈_, if_then_else_}
+use Rattle.words.proofs.Tests.{no-test}
+use Rattle.form.specs.Text.{line-feed}
+use Rattle.sheet.specs.Sheets.{letterByte, letterOf, withByte, linesOf, kindOf, Call, Sheet, sheetOf}
+use Rattle.sheet.specs.Places.{letterAt, sizeTo}
+use Rattle.sheet.specs.Joined.{joinedCalls, joined, Plain, lineBehind, Parts, last-part, part, IsSheet}
+use Rattle.sheet.specs.declared.Letter.{Letter}
+use Rattle.sheet.specs.declared.Letter.the-variants.{Teach, Withdraw, Judge}
+use Rattle.sheet.specs.declared.LineKind.{LineKind}
+use Rattle.sheet.specs.declared.LineKind.the-variants.{Asks, Other}
+use Rattle.sheet.proofs.Splitting.{firstKind, first-kind, feed-asks-nothing, sheetFrom, withFront, empty-sheet, byte-on, byte-other, letter-sheet, front}
+
+-- ---- letter lines
+
+-- A byte that asks for something is that letter's.
+asks-letter : (b : ℕ) (x : Letter) → letterOf b ≡ Asks x → b ≡ letterByte x
+unfolding letterOf if_then_else_
+asks-letter b x e = go (eqb b (letterByte Teach)) refl (eqb b (letterByte Withdraw)) refl (eqb b (letterByte Judge)) refl e
+  where
+    -- By which of the three it is.
+    go : (t : Bool) → eqb b (letterByte Teach) ≡ t → (w : Bool) → eqb b (letterByte Withdraw) ≡ w → (j : Bool) → eqb b (letterByte Judge) ≡ j
+        → (if t then Asks Teach else if w then Asks Withdraw else if j then Asks Judge else Other) ≡ Asks x → b ≡ letterByte x
+    go true p w q j r f = let z : Teach ≡ x = cc in eqb-true b _ p ∙ ap letterByte z
+    go false p true q j r f = let z : Withdraw ≡ x = cc in eqb-true b _ q ∙ ap letterByte z
+    go false p false q true r f = let z : Judge ≡ x = cc in eqb-true b _ r ∙ ap letterByte z
+    go false p false q false r f = absurd (let z : _≡_ {A = ℕ} 0 1 = cc in omega arith)
+
+-- Bytes that begin with a letter line begin with that letter and LF.
+pub letter-front : (b e : ℕ) (rest : List ℕ) (x : Letter) → letterAt (b ∷ e ∷ rest) ≡ Asks x → b ∷ e ∷ rest ≡ letterByte x ∷ line-feed ∷ rest
+unfolding letterAt if_then_else_
+letter-front b e rest x a = go (eqb e line-feed) refl a
+  where
+    -- By whether the second byte is LF.
+    go : (t : Bool) → eqb e line-feed ≡ t → (if t then letterOf b else Other) ≡ Asks x → b ∷ e ∷ rest ≡ letterByte x ∷ line-feed ∷ rest
+    go true p f = rw (asks-letter b x f, eqb-true e line-feed p)
+    go false p f = absurd (let z : _≡_ {A = ℕ} 0 1 = cc in omega arith)
+
+-- A letter and LF are a letter line, whatever follows.
+pub letter-there : (x : Letter) (rest : List ℕ) → letterAt (letterByte x ∷ line-feed ∷ rest) ≡ Asks x
+unfolding letterAt letterOf if_then_else_
+letter-there Teach rest = refl
+letter-there Withdraw rest = refl
+letter-there Judge rest = refl
+
+-- ---- joined
+
+-- One byte in front of a sheet stands in front of what it is split into.
+joined-front : (b : ℕ) (s : Sheet) → joined (withFront b s) ≡ b ∷ joined s
+unfolding joined
+joined-front b s = refl
+
+-- A letter line in front of a sheet stands in front of what it is split into.
+joined-letter : (x : Letter) (s : Sheet)
+    → joined (record { before = []; calls = record { letter = x; text = s .before } ∷ s .calls }) ≡ letterByte x ∷ line-feed ∷ joined s
+unfolding joined joinedCalls
+joined-letter x s = refl
+
+-- What no bytes are split into gives none, within a line or at its start.
+joined-none : (starts : Bool) → joined (sheetFrom starts []) ≡ []
+unfolding joined joinedCalls linesOf
+joined-none true = rw empty-sheet
+joined-none false = refl
+
+-- What bytes are split into gives them, within a line or at its start.
+joined-from : (starts : Bool) (bs : List ℕ) → joined (sheetFrom starts bs) ≡ bs
+joined-from starts [] = joined-none starts
+joined-from false (b ∷ bs) = ap joined (byte-on b bs) ∙ joined-front b _ ∙ ap (λ (r : List ℕ). b ∷ r) (joined-from (eqb b line-feed) bs)
+joined-from true (b ∷ []) =
+    let e : letterAt (b ∷ []) ≡ Other = unfold letterAt in refl in
+    ap joined (byte-other b [] e) ∙ joined-front b _ ∙ ap (λ (r : List ℕ). b ∷ r) (joined-from (eqb b line-feed) [])
+joined-from true (b ∷ e ∷ rest) = go (letterAt (b ∷ e ∷ rest)) refl (joined-from (eqb b line-feed) (e ∷ rest)) (joined-from true rest)
+  where
+    -- By whether a letter line starts there.
+    go : (k : LineKind) → letterAt (b ∷ e ∷ rest) ≡ k → joined (sheetFrom (eqb b line-feed) (e ∷ rest)) ≡ e ∷ rest → joined (sheetOf rest) ≡ rest
+        → joined (sheetOf (b ∷ e ∷ rest)) ≡ b ∷ e ∷ rest
+    go (Asks x) p q r =
+        ap joined (letter-sheet (b ∷ e ∷ rest) x p) ∙ joined-letter x (sheetOf rest)
+        ∙ ap (λ (s : List ℕ). letterByte x ∷ line-feed ∷ s) r ∙ sym (letter-front b e rest x p)
+    go Other p q r = ap joined (byte-other b (e ∷ rest) p) ∙ joined-front b _ ∙ ap (λ (s : List ℕ). b ∷ s) q
+
+-- What bytes are split into gives them again.
+pub sheet-joined : (bs : List ℕ) → joined (sheetOf bs) ≡ bs
+sheet-joined bs = joined-from true bs
+
+-- ---- lines with no letter line
+
+-- None of the lines is a letter line.
+abbrev PlainLines : List (List ℕ) → Type 0
+PlainLines ls = (l : List ℕ) → l ∈ ls → kindOf l ≡ Other
+
+-- All lines but the first.
+abbrev laterLines : List (List ℕ) → List (List ℕ)
+laterLines [] = []
+laterLines (l ∷ ls) = ls
+
+-- The lines that start among bytes, if one starts at the first of them, and if not.
+abbrev started : Bool → List (List ℕ) → List (List ℕ)
+started true ls = ls
+started false ls = laterLines ls
+
+-- None of the lines that start among the bytes is a letter line.
+abbrev PlainFrom : Bool → List ℕ → Type 0
+PlainFrom starts bs = PlainLines (started starts (linesOf bs))
+
+-- The lines behind the first of some are those that start behind its first byte.
+later-lines : (b : ℕ) (bs : List ℕ) → laterLines (linesOf (b ∷ bs)) ≡ started (eqb b line-feed) (linesOf bs)
+unfolding linesOf withByte
+later-lines b bs = go (eqb b line-feed) (linesOf bs)
+  where
+    -- By whether the byte is LF, and the lines behind it.
+    go : (t : Bool) (ls : List (List ℕ)) → laterLines (withByte t b ls) ≡ started t ls
+    go true ls = refl
+    go false [] = refl
+    go false (l ∷ ls) = refl
+
+-- No lines have a letter line among them.
+plain-none : PlainLines []
+plain-none l m = absurd (List·Memᴰ·not-nil m)
+
+-- Lines have none if the first and the others have none.
+plain-both : (ls : List (List ℕ)) → firstKind ls ≡ Other → PlainLines (laterLines ls) → PlainLines ls
+plain-both [] e h l m = h l m
+plain-both (a ∷ ls) e h l (here p) = ap kindOf p ∙ e
+plain-both (a ∷ ls) e h l (there m) = h l m
+
+-- If lines have none, the first is none.
+plain-first : (ls : List (List ℕ)) → PlainLines ls → firstKind ls ≡ Other
+plain-first [] h = refl
+plain-first (a ∷ ls) h = h a (here refl)
+
+-- If lines have none, the later ones have none.
+plain-later : (starts : Bool) (ls : List (List ℕ)) → PlainLines (started starts ls) → PlainLines (laterLines ls)
+plain-later false ls h l m = h l m
+plain-later true [] h l m = h l m
+plain-later true (a ∷ ls) h l m = h l (there m)
+
+-- Lines that start behind a byte have none if those from the byte on have none.
+plain-on : (starts : Bool) (b : ℕ) (bs : List ℕ) → PlainFrom starts (b ∷ bs) → PlainFrom (eqb b line-feed) bs
+plain-on starts b bs h = subst PlainLines (later-lines b bs) (plain-later starts (linesOf (b ∷ bs)) h)
+
+-- Within a line a byte more starts none.
+plain-inside : (b : ℕ) (bs : List ℕ) → PlainFrom (eqb b line-feed) bs → PlainFrom false (b ∷ bs)
+plain-inside b bs h = subst PlainLines (sym (later-lines b bs)) h
+
+-- At a line's start it starts one, which may not be a letter line.
+plain-start : (b : ℕ) (bs : List ℕ) → letterAt (b ∷ bs) ≡ Other → PlainFrom (eqb b line-feed) bs → PlainFrom true (b ∷ bs)
+plain-start b bs e h = plain-both (linesOf (b ∷ bs)) (first-kind (b ∷ bs) ∙ e) (plain-inside b bs h)
+
+-- ---- the parts of a sheet
+
+-- Of bytes before calls: a line starts behind them if a call does, and the calls' texts are parts.
+abbrev Follow : Bool → List ℕ → List Call → Type 0
+Follow starts bs [] = Unit {0}
+Follow starts bs (c ∷ cs) = (lineBehind starts bs ≡ true) × Parts (c .text) cs
+
+-- Such bytes, with no letter line in them, and the calls are parts.
+follow-parts : (bs : List ℕ) (cs : List Call) → Plain bs → Follow true bs cs → Parts bs cs
+follow-parts bs [] p f = last-part p
+follow-parts bs (c ∷ cs) p f = part p (f .0) (f .1)
+
+-- A byte more in front changes nothing.
+follow-on : (starts : Bool) (b : ℕ) (bs : List ℕ) (cs : List Call) → Follow (eqb b line-feed) bs cs → Follow starts (b ∷ bs) cs
+unfolding lineBehind
+follow-on starts b bs [] f = f
+follow-on starts b bs (c ∷ cs) f = f
+
+-- What bytes are split into, within a line or at its start: no letter line is inside, and each call starts a line.
+record Split (starts : Bool) (s : Sheet) : Type 0 where
+  plain : PlainFrom starts (s .before)
+  follow : Follow starts (s .before) (s .calls)
+
+-- No bytes are split so.
+split-none : (starts : Bool) → Split starts (sheetFrom starts [])
+unfolding linesOf
+split-none true = rw empty-sheet (record { plain = plain-none; follow = tt })
+split-none false = record { plain = plain-none; follow = tt }
+
+-- A byte more within a line leaves it so.
+split-inside : (b : ℕ) (s : Sheet) → Split (eqb b line-feed) s → Split false (withFront b s)
+split-inside b s h = record { plain = plain-inside b (s .before) (h .plain); follow = follow-on false b (s .before) (s .calls) (h .follow) }
+
+-- So does a byte more at a line's start, if no letter line starts there.
+split-start : (b : ℕ) (s : Sheet) → letterAt (b ∷ s .before) ≡ Other → Split (eqb b line-feed) s → Split true (withFront b s)
+split-start b s e h = record { plain = plain-start b (s .before) e (h .plain); follow = follow-on true b (s .before) (s .calls) (h .follow) }
+
+-- So does a letter line in front of a sheet.
+split-letter : (x : Letter) (s : Sheet) → Split true s → Split true (record { before = []; calls = record { letter = x; text = s .before } ∷ s .calls })
+unfolding lineBehind linesOf
+split-letter x s h = record { plain = plain-none; follow = (refl, follow-parts (s .before) (s .calls) (h .plain) (h .follow)) }
+
+-- Bytes that begin with no letter line begin with none if they are cut.
+cut-other : (n b : ℕ) (bs : List ℕ) → letterAt (b ∷ bs) ≡ Other → letterAt (b ∷ take n bs) ≡ Other
+unfolding letterAt
+cut-other zero b bs e = refl
+cut-other (suc n) b [] e = refl
+cut-other (suc n) b (f ∷ bs) e = e
+
+-- Bytes that begin with no letter line begin with none where the next ends them.
+before-other : (b : ℕ) (bs : List ℕ) → letterAt (b ∷ bs) ≡ Other → letterAt (b ∷ sheetFrom (eqb b line-feed) bs .before) ≡ Other
+before-other b bs e = ap (λ (r : List ℕ). letterAt (b ∷ r)) (front (eqb b line-feed) bs) ∙ cut-other (sizeTo (eqb b line-feed) bs) b bs e
+
+-- All bytes are split so.
+split-from : (starts : Bool) (bs : List ℕ) → Split starts (sheetFrom starts bs)
+split-from starts [] = split-none starts
+split-from false (b ∷ bs) = rw (byte-on b bs) (split-inside b _ (split-from (eqb b line-feed) bs))
+split-from true (b ∷ []) =
+    let e : letterAt (b ∷ []) ≡ Other = unfold letterAt in refl in
+    rw (byte-other b [] e) (split-start b _ (before-other b [] e) (split-from (eqb b line-feed) []))
+split-from true (b ∷ e ∷ rest) = go (letterAt (b ∷ e ∷ rest)) refl (split-from (eqb b line-feed) (e ∷ rest)) (split-from true rest)
+  where
+    -- By whether a letter line starts there.
+    go : (k : LineKind) → letterAt (b ∷ e ∷ rest) ≡ k → Split (eqb b line-feed) (sheetFrom (eqb b line-feed) (e ∷ rest)) → Split true (sheetOf rest)
+        → Split true (sheetOf (b ∷ e ∷ rest))
+    go (Asks x) p q r = rw (letter-sheet (b ∷ e ∷ rest) x p) (split-letter x (sheetOf rest) r)
+    go Other p q r = rw (byte-other b (e ∷ rest) p) (split-start b _ (before-other b (e ∷ rest) p) q)
+
+-- What bytes are split into is their sheet.
+pub sheet-is : (bs : List ℕ) → IsSheet bs (sheetOf bs)
+sheet-is bs =
+    let h = split-from true bs in
+    record { joins = sheet-joined bs; parts = follow-parts (sheetOf bs .before) (sheetOf bs .calls) (h .plain) (h .follow) }
+
+-- No line of the bytes before the first letter line is a letter line.
+pub no-letter-before : (bs : List ℕ) → Plain (sheetOf bs .before)
+no-letter-before bs = split-from true bs .plain
+
+-- No line of the first of parts is a letter line.
+parts-first : (bs : List ℕ) (cs : List Call) → Parts bs cs → Plain bs
+parts-first bs [] (last-part p) = p
+parts-first bs (c ∷ cs) (part p e r) = p
+
+-- No line of the text of a call is a letter line.
+parts-plain : (bs : List ℕ) (cs : List Call) → Parts bs cs → (c : Call) → c ∈ cs → Plain (c .text)
+parts-plain bs [] p c m = absurd (List·Memᴰ·not-nil m)
+parts-plain bs (d ∷ cs) (part _ _ r) c (here e) = subst (λ (y : Call). Plain (y .text)) (sym e) (parts-first (d .text) cs r)
+parts-plain bs (d ∷ cs) (part _ _ r) c (there m) = parts-plain (d .text) cs r c m
+
+-- No line of the text of a call that bytes ask for is a letter line.
+pub no-letter-inside : (bs : List ℕ) (c : Call) → c ∈ sheetOf bs .calls → Plain (c .text)
+no-letter-inside bs = parts-plain (sheetOf bs .before) (sheetOf bs .calls) (sheet-is bs .parts)
+
+-- ---- there is no other
+
+-- A byte that asks for nothing begins no letter line, whatever follows.
+asks-nothing : (b : ℕ) (bs : List ℕ) → letterOf b ≡ Other → letterAt (b ∷ bs) ≡ Other
+unfolding letterAt if_then_else_
+asks-nothing b [] e = refl
+asks-nothing b (f ∷ bs) e = go (eqb f line-feed)
+  where
+    -- By whether LF follows.
+    go : (t : Bool) → (if t then letterOf b else Other) ≡ Other
+    go true = e
+    go false = refl
+
+-- Bytes that begin with no letter line, and behind which a line starts, begin with none whatever follows.
+other-more : (b : ℕ) (a bs : List ℕ) → letterAt (b ∷ a) ≡ Other → lineBehind true (b ∷ a) ≡ true → letterAt (b ∷ (a ++ bs)) ≡ Other
+unfolding lineBehind
+other-more b [] bs e h = asks-nothing b bs (feed-asks-nothing b h)
+other-more b (f ∷ a) bs e h = unfold letterAt in e
+
+-- Nothing stands before what follows a line's end.
+none-on : (starts : Bool) (bs : List ℕ) → starts ≡ true → sheetFrom starts bs ≡ record { before = sheetOf bs .before; calls = sheetOf bs .calls }
+none-on true bs e = refl
+none-on false bs e = no-test e
+
+-- Bytes with no letter line in them, behind which a line starts, stand before what follows them.
+sheet-on : (starts : Bool) (a bs : List ℕ) → PlainFrom starts a → lineBehind starts a ≡ true
+    → sheetFrom starts (a ++ bs) ≡ record { before = a ++ sheetOf bs .before; calls = sheetOf bs .calls }
+unfolding lineBehind
+sheet-on starts [] bs p e = none-on starts bs e
+sheet-on false (b ∷ a) bs p e = byte-on b (a ++ bs) ∙ ap (withFront b) (sheet-on (eqb b line-feed) a bs (plain-on false b a p) e)
+sheet-on true (b ∷ a) bs p e =
+    let o : letterAt (b ∷ a) ≡ Other = sym (first-kind (b ∷ a)) ∙ plain-first (linesOf (b ∷ a)) p in
+    byte-other b (a ++ bs) (other-more b a bs o e) ∙ ap (withFront b) (sheet-on (eqb b line-feed) a bs (plain-on true b a p) e)
+
+-- No bytes have none before, within a line or at its start.
+end-none : (starts : Bool) → sheetFrom starts [] ≡ record { before = []; calls = [] }
+unfolding linesOf
+end-none true = empty-sheet
+end-none false = refl
+
+-- Bytes with no letter line in them are all before.
+sheet-end : (starts : Bool) (a : List ℕ) → PlainFrom starts a → sheetFrom starts a ≡ record { before = a; calls = [] }
+sheet-end starts [] p = end-none starts
+sheet-end false (b ∷ a) p = rw (byte-on b a, sheet-end (eqb b line-feed) a (plain-on false b a p))
+sheet-end true (b ∷ a) p =
+    let e : letterAt (b ∷ a) ≡ Other = sym (first-kind (b ∷ a)) ∙ plain-first (linesOf (b ∷ a)) p in
+    rw (byte-other b a e, sheet-end (eqb b line-feed) a (plain-on true b a p))
+
+-- Parts are split where they were joined.
+parts-split : (a : List ℕ) (cs : List Call) → Parts a cs → sheetOf (a ++ joinedCalls cs) ≡ record { before = a; calls = cs }
+unfolding joinedCalls
+parts-split a [] (last-part p) = ap sheetOf (append-nil a) ∙ sheet-end true a p
+parts-split a (c ∷ cs) (part p e r) =
+    let bs : List ℕ = letterByte (c .letter) ∷ line-feed ∷ (c .text ++ joinedCalls cs) in
+    let l : sheetOf bs ≡ record { before = []; calls = c ∷ cs } = letter-sheet bs (c .letter) (letter-there (c .letter) _) ∙ rw (parts-split (c .text) cs r) in
+    sheet-on true a bs p e ∙ rw (l, append-nil a)
+
+-- A sheet of bytes is what they are split into.
+pub sheet-only : (bs : List ℕ) (s : Sheet) → IsSheet bs s → sheetOf bs ≡ s
+unfolding joined
+sheet-only bs s h = ap sheetOf (sym (h .joins)) ∙ parts-split (s .before) (s .calls) (h .parts)
