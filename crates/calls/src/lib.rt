@@ -75,8 +75,8 @@ pub fn begin(input: &[u8], book: &mut [u16], out: &mut [u8]) -> Printed
         }
         Front::Opens(k) => {
             let answer = book::open(book, k);
-            let used = used_words(book);
-            let count = reply::put_reply(out, sheet::OPENING_LETTER, answer, used);
+            let words = used_words(book);
+            let count = reply::put_reply(out, sheet::OPENING_LETTER, answer, words);
             Printed {
                 taken: sheet::FIRST_LINE,
                 count,

@@ -1,12 +1,13 @@
 -- What the desk prints, by demands 2 and 3 (01, "Forms on the desk"): one line for the opening, which is done, and one for each form, which is its answer
 -- on the book as the forms before it left it. That book holds exactly the orders that remain of those forms, the words used that are printed are its
--- own, an order passes exactly if it is made of parts of these orders, and no form is answered by another number than 0, 2, 6, 8, 10, 20, 21 or 22.
+-- own, an order passes exactly if it is made of parts of these orders, and no form is answered by another number than 0, 2 and 10, below T 6, below W 8,
+-- and below J 20, 21 and 22. By a fault its line is all that is printed.
 --
 -- The orders that remain are those of demand 3, by the calls that the forms make (`madeBy`, specs/AtTheDesk.antt). Assumes nothing.
 use Prim.Native.Nat.{ℕ, suc, _+_, _≤_, _<_}
 use mathlib.Core.Path.{_≡_, refl, sym, ap, ap₂, subst, _∙_}
 use mathlib.Core.Bool.{Bool, true, false}
-use mathlib.Core.List.{List, [], _∷_, _++_}
+use mathlib.Core.List.{List, [], _∷_, _++_, append-nil}
 use native.Mathlib.Decide.{decLt}
 use native.Mathlib.Omega.{arith}
 use lib.ListN.{length, length-append, length-replicate, getD, replicate}
@@ -33,8 +34,10 @@ use Rattle.judge.proofs.Judgements.{by-verdict}
 use Rattle.teach.specs.Calls.{teachOf, withdrawOf}
 use Rattle.effects.specs.Conditions.{_exactly-when_}
 use Rattle.effects.proofs.Calling.{number-is}
+use Rattle.effects.proofs.Conditions.{teach-refusal-leaves, withdraw-refusal-leaves}
 use Rattle.reply.specs.Replies.{reply}
-use Rattle.sheet.specs.Sheets.{letter-K, letterByte, Call as Asking, handed, handedIn}
+use Rattle.sheet.specs.Sheets.{letter-K, letterByte, Call as Asking, Handed, faulty, handed, handedIn, openingBy, openingOf, frontAnswer}
+use Rattle.sheet.specs.declared.Front.the-variants.{Fault}
 use Rattle.sheet.specs.declared.Letter.{Letter}
 use Rattle.sheet.specs.declared.Letter.the-variants.{Teach, Withdraw, Judge}
 use Rattle.calls.specs.Desk.{askOf, callOf, lineFor, linesFor, printedFor, deskOf}
@@ -66,27 +69,61 @@ blank-long = length-replicate {A = ℕ} desk-book-words 0
 -- ---- verdicts
 
 -- The first unknown part is answered by 21 or 22, and where there is none the answer is 0.
-unknown-number : (b : Book) (line : ℕ) (ss : List Tree) → DeskNumber (firstUnknown b line ss .number)
+unknown-number : (b : Book) (line : ℕ) (ss : List Tree) → DeskNumber Judge (firstUnknown b line ss .number)
 unfolding firstUnknown if_then_else_
 unknown-number b line [] = is-done refl
 unknown-number b line (s ∷ ss) = go (knows b s) (isLow (b .k) s) (firstUnknown b (suc line) ss) (unknown-number b (suc line) ss)
   where
     -- By whether the part is known and low.
-    go : (x y : Bool) (a : Answer) → DeskNumber (a .number)
-        → DeskNumber ((if x then a else record { number = if y then low-unknown else middle-unknown; line = line }) .number)
+    go : (x y : Bool) (a : Answer) → DeskNumber Judge (a .number)
+        → DeskNumber Judge ((if x then a else record { number = if y then low-unknown else middle-unknown; line = line }) .number)
     go true y a n = n
-    go false true a n = is-low refl
-    go false false a n = is-middle refl
+    go false true a n = is-low refl refl
+    go false false a n = is-middle refl refl
 
 -- A verdict is 0, 20, 21 or 22.
-verdict-number : (b : Book) (t : Tree) → DeskNumber (verdict b t .number)
+verdict-number : (b : Book) (t : Tree) → DeskNumber Judge (verdict b t .number)
 unfolding verdict if_then_else_
 verdict-number b t = go (has (words (top (b .k) t)) (b .R)) (firstUnknown b 1 (subtrees t)) (unknown-number b 1 (subtrees t))
   where
     -- By whether the top is known.
-    go : (x : Bool) (a : Answer) → DeskNumber (a .number) → DeskNumber ((if x then a else record { number = top-unknown; line = 1 }) .number)
+    go : (x : Bool) (a : Answer) → DeskNumber Judge (a .number) → DeskNumber Judge ((if x then a else record { number = top-unknown; line = 1 }) .number)
     go true a n = n
-    go false a n = is-top refl
+    go false a n = is-top refl refl
+
+-- ---- faults and refusals
+
+-- By a fault "that line is then the whole output".
+pub fault-alone : (input : List ℕ) (a : Answer) → openingOf input ≡ Fault a → deskOf input ≡ reply letter-K a 0
+unfolding openingOf deskOf printedFor
+fault-alone input a e = go (handedIn input) refl
+  where
+    -- By what is handed in.
+    go : (h : Handed) → handedIn input ≡ h → deskOf input ≡ reply letter-K a 0
+    go (faulty b) q = let same : b ≡ a = cc in rw (q, same)
+    go (handed k cs) q = absurd (let z : _≡_ {A = ℕ} 0 1 = cc in omega arith)
+
+-- "A refusal, and every judgement, leaves" the book as it came: a form that is answered by another number than 0, and every form below J.
+pub desk-leaves : (c : Asking) (book : List ℕ) → (callOf c book .answer .number ≡ done → ⊥) → callOf c book .words ≡ book
+unfolding callOf byForm askOf
+desk-leaves c book r = go (formOf (c .text)) (c .letter) refl refl
+  where
+    -- By what the text is, and the letter.
+    go : (f : Form) (x : Letter) → formOf (c .text) ≡ f → c .letter ≡ x → callOf c book .words ≡ book
+    go (fault n line) x e l = rw e
+    go (form xs) Teach e l = rw (e, l) (teach-refusal-leaves book (wordsOf xs) (λ z. r (rw (e, l) z)))
+    go (form xs) Withdraw e l = rw (e, l) (withdraw-refusal-leaves book (wordsOf xs) (λ z. r (rw (e, l) z)))
+    go (form xs) Judge e l = rw (e, l)
+
+-- A form below J leaves the book as it came.
+pub judging-leaves : (text book : List ℕ) → callOf (record { letter = Judge; text = text }) book .words ≡ book
+unfolding callOf byForm askOf
+judging-leaves text book = go (formOf text)
+  where
+    -- By what the text is.
+    go : (f : Form) → byForm f (λ n line. outcome (record { number = n; line = line }) book) (λ xs. askOf Judge book (wordsOf xs)) .words ≡ book
+    go (fault n line) = refl
+    go (form xs) = refl
 
 -- ---- what the desk prints
 
@@ -169,49 +206,49 @@ module _ (input : List ℕ) (k : ℕ) (cs : List Asking) (is : handedIn input �
 
     -- Teaching an order is done or refused by 6.
     teaching-number : (c : Asking) (back : List Asking) → cs ≡ front ++ (c ∷ back) → (os : List ℕ) (t : Tree) → IsOrder os t
-        → DeskNumber (teachOf (after (madeBy front) opened) os .answer .number)
+        → DeskNumber Teach (teachOf (after (madeBy front) opened) os .answer .number)
     teaching-number c back e os t o = go (decLt (length blank) (used (booked k (os ∷ desk-orders))))
       where
         -- By whether there is room.
-        go : Dec (length blank < used (booked k (os ∷ desk-orders))) → DeskNumber (teachOf (after (madeBy front) opened) os .answer .number)
-        go (yes h) = is-no-room (refused-by-6 (opening k) blank starts (madeBy front) os t o .1 (fewer-remain c back e, h))
+        go : Dec (length blank < used (booked k (os ∷ desk-orders))) → DeskNumber Teach (teachOf (after (madeBy front) opened) os .answer .number)
+        go (yes h) = is-no-room refl (refused-by-6 (opening k) blank starts (madeBy front) os t o .1 (fewer-remain c back e, h))
         go (no h) = is-done (taught-exactly (opening k) blank starts (madeBy front) os t o .1 (fewer-remain c back e, omega arith))
 
     -- Withdrawing one is done or refused by 8.
-    withdrawing-number : (os : List ℕ) (t : Tree) → IsOrder os t → DeskNumber (withdrawOf (after (madeBy front) opened) os .answer .number)
+    withdrawing-number : (os : List ℕ) (t : Tree) → IsOrder os t → DeskNumber Withdraw (withdrawOf (after (madeBy front) opened) os .answer .number)
     withdrawing-number os t o = go (decLt 0 (timesOf os desk-orders))
       where
         -- By whether it remains.
-        go : Dec (0 < timesOf os desk-orders) → DeskNumber (withdrawOf (after (madeBy front) opened) os .answer .number)
+        go : Dec (0 < timesOf os desk-orders) → DeskNumber Withdraw (withdrawOf (after (madeBy front) opened) os .answer .number)
         go (yes h) = is-done (withdrawn-exactly (opening k) blank starts (madeBy front) os t o .1 h)
-        go (no h) = is-not-taught (refused-by-8 (opening k) blank starts (madeBy front) os t o .1 (omega arith))
+        go (no h) = is-not-taught refl (refused-by-8 (opening k) blank starts (madeBy front) os t o .1 (omega arith))
 
     -- Judging one is answered by the verdict.
-    judging-number : (os : List ℕ) (t : Tree) → IsOrder os t → DeskNumber (judgeOf desk-book os .number)
+    judging-number : (os : List ℕ) (t : Tree) → IsOrder os t → DeskNumber Judge (judgeOf desk-book os .number)
     judging-number os t o =
-        subst (λ (a : Answer). DeskNumber (a .number)) (sym (by-verdict desk-book os (desk-keeps .book) (desk-keeps .isBook) t (order-read os t o)))
+        subst (λ (a : Answer). DeskNumber Judge (a .number)) (sym (by-verdict desk-book os (desk-keeps .book) (desk-keeps .isBook) t (order-read os t o)))
         (verdict-number (desk-keeps .book) t)
 
-    -- The numbers that the desk prints for a form: 0, 2, 6, 8, 10, 20, 21 and 22, and no others. 1 is not printed, since a text that is read is an order; 3
+    -- The numbers that the desk prints for a form: 0, 2 and 10, below T 6, below W 8, below J 20, 21 and 22, and no others. 1 is not printed, since a text that is read is an order; 3
     -- and 4 are not, since a form opens no book and the desk's has a size for one; 5 and 9 are not, since it is in form and agrees with itself; 7 is not,
     -- since fewer orders remain than the input has bytes; 11 to 14 are not, since an order has room and no file is read.
-    pub desk-numbers : (c : Asking) (back : List Asking) → cs ≡ front ++ (c ∷ back) → DeskNumber (callOf c desk-book .answer .number)
+    pub desk-numbers : (c : Asking) (back : List Asking) → cs ≡ front ++ (c ∷ back) → DeskNumber (c .letter) (callOf c desk-book .answer .number)
     unfolding callOf byForm askOf
     desk-numbers c back e = by-form (formOf (c .text)) refl
       where
         -- Of a text that is an order, by the letter.
-        by-letter : (x : Letter) (os : List ℕ) (t : Tree) → IsOrder os t → DeskNumber (askOf x desk-book os .answer .number)
+        by-letter : (x : Letter) (os : List ℕ) (t : Tree) → IsOrder os t → DeskNumber x (askOf x desk-book os .answer .number)
         by-letter Teach os t o =
-            subst (λ (ws : List ℕ). DeskNumber (teachOf ws os .answer .number)) (sym (book-after front opened)) (teaching-number c back e os t o)
+            subst (λ (ws : List ℕ). DeskNumber Teach (teachOf ws os .answer .number)) (sym (book-after front opened)) (teaching-number c back e os t o)
         by-letter Withdraw os t o =
-            subst (λ (ws : List ℕ). DeskNumber (withdrawOf ws os .answer .number)) (sym (book-after front opened)) (withdrawing-number os t o)
+            subst (λ (ws : List ℕ). DeskNumber Withdraw (withdrawOf ws os .answer .number)) (sym (book-after front opened)) (withdrawing-number os t o)
         by-letter Judge os t o = judging-number os t o
 
         -- By what the text is.
         by-form : (f : Form) → formOf (c .text) ≡ f
-            → DeskNumber (byForm f (λ n line. outcome (record { number = n; line = line }) desk-book)
+            → DeskNumber (c .letter) (byForm f (λ n line. outcome (record { number = n; line = line }) desk-book)
             (λ xs. askOf (c .letter) desk-book (wordsOf xs)) .answer .number)
-        by-form (fault n line) q = text-refused-by (c .text) q
+        by-form (fault n line) q = text-refused-by (c .letter) (c .text) q
         by-form (form xs) q = let f = form-order (c .text) xs q in by-letter (c .letter) (wordsOf xs) (f .0) (read-order (wordsOf xs) (f .0) (f .1))
 
   -- The line of each form: its letter, its answer on the book as the forms before it left it, and the words used of the book of the orders that remain
@@ -222,3 +259,16 @@ module _ (input : List ℕ) (k : ℕ) (cs : List Asking) (is : handedIn input �
   line-says front c =
       ap (reply (letterByte (c .letter)) (callOf c (desk-book front) .answer))
       (ap (λ (ws : List ℕ). getD ws used-word 0) (sym (book-then front c opened)) ∙ desk-words-used (front ++ (c ∷ [])))
+
+-- The first line of any input is that of its opening or of its first fault, by the number and the line of `sheet::opening`.
+pub first-answer : (input : List ℕ) → (used : ℕ) × (rest : List ℕ) × (deskOf input ≡ reply letter-K (frontAnswer (openingOf input)) used ++ rest)
+unfolding openingOf
+first-answer input = go (handedIn input) refl
+  where
+    -- By what is handed in.
+    go : (h : Handed) → handedIn input ≡ h → (used : ℕ) × (rest : List ℕ) × (deskOf input ≡ reply letter-K (frontAnswer (openingBy (handedIn input))) used ++ rest)
+    go (faulty a) q =
+        let f : openingOf input ≡ Fault a = ap openingBy q in
+        (0, [], fault-alone input a f ∙ sym (append-nil (reply letter-K a 0)) ∙ ap (λ (h : Handed). reply letter-K (frontAnswer (openingBy h)) 0 ++ []) (sym q))
+    go (handed k cs) q =
+        (head-words, linesFor cs (opened input k cs q), first-line-printed input k cs q ∙ ap (λ (h : Handed). reply letter-K (frontAnswer (openingBy h)) head-words ++ linesFor cs (opened input k cs q)) (sym q))

@@ -26,6 +26,8 @@ use Rattle.judge.specs.Judging.{judgeOf}
 use Rattle.teach.specs.Calls.{teachOf, withdrawOf}
 use Rattle.agree.specs.Checking.{checkOf as agreesOf}
 use Rattle.store.specs.Files.{writeFileOf, readFileOf}
+use Rattle.sheet.specs.Sheets.{letterByte, openingOf}
+use Rattle.calls.specs.Steps.{stepping, beginOf, stepOf}
 use Rattle.order.proofs.check as order-check
 use Rattle.cuts.proofs.subtree
 use Rattle.cuts.proofs.cut_into as cut-into
@@ -40,6 +42,10 @@ use Rattle.teach.proofs.withdraw
 use Rattle.agree.proofs.check as agree-check
 use Rattle.store.proofs.write as store-write
 use Rattle.store.proofs.read as store-read
+use Rattle.sheet.proofs.opening
+use Rattle.sheet.proofs.Letter.byte as letter-byte
+use Rattle.calls.proofs.begin as calls-begin
+use Rattle.calls.proofs.step as calls-step
 use Rattle.order.proofs.check.Statement as order-check-statement
 use Rattle.order.proofs.check.Met as order-check-met
 use Rattle.cuts.proofs.subtree.Statement as subtree-statement
@@ -68,6 +74,14 @@ use Rattle.store.proofs.write.Statement as store-write-statement
 use Rattle.store.proofs.write.Met as store-write-met
 use Rattle.store.proofs.read.Statement as store-read-statement
 use Rattle.store.proofs.read.Met as store-read-met
+use Rattle.sheet.proofs.opening.Statement as opening-statement
+use Rattle.sheet.proofs.opening.Met as opening-met
+use Rattle.sheet.proofs.Letter.byte.Statement as letter-byte-statement
+use Rattle.sheet.proofs.Letter.byte.Met as letter-byte-met
+use Rattle.calls.proofs.begin.Statement as calls-begin-statement
+use Rattle.calls.proofs.begin.Met as calls-begin-met
+use Rattle.calls.proofs.step.Statement as calls-step-statement
+use Rattle.calls.proofs.step.Met as calls-step-met
 use Rattle.figures.proofs.depths.Depth.new as depth-new
 use Rattle.figures.proofs.depths.Depth.new.Statement as depth-new-statement
 use Rattle.figures.proofs.depths.Depth.new.Met as depth-new-met
@@ -142,6 +156,22 @@ module _ {M : Type 1} where
   -- `store::read`
   pub read-file-meets : store-read-statement.statement M
   read-file-meets = store-read-met.met
+
+  -- `sheet::opening`
+  pub opening-meets : opening-statement.statement M
+  opening-meets = opening-met.met
+
+  -- `sheet::Letter::byte`
+  pub letter-byte-meets : letter-byte-statement.statement M
+  letter-byte-meets = letter-byte-met.met
+
+  -- `calls::begin`
+  pub begin-meets : calls-begin-statement.statement M
+  begin-meets = calls-begin-met.met
+
+  -- `calls::step`
+  pub step-meets : calls-step-statement.statement M
+  step-meets = calls-step-met.met
 
   -- `figures::Depth::new`
   pub depth-new-meets : depth-new-statement.statement M
@@ -239,6 +269,28 @@ module _ {M : Type 1} (𝓤 : URA.URA M) (H : Wp.Heap 𝓤) (A : Atoms.Atoms �
   pub read-file-says : (κs args g r : _) → let c = store-read.spec 𝓤 H A mem run κs args in
       (c .ghost ≡ Unit {0}) × (c .requires g ≡ ⊤ₛ) × (c .ensures g r ≡ exits 𝓤 H A store-read.signature (store-read.ended .kept) κs args (λ end. ⌜ outcome r (now (end .1 .0)) ≡ readFileOf (now (args .0)) (now (args .1 .0)) ⌝))
   read-file-says κs args g r = (refl, refl, refl)
+
+  -- `sheet::opening`
+  pub opening-says : (κs args g r : _) → let c = opening.spec 𝓤 H A mem run κs args in
+      (c .ghost ≡ Unit {0}) × (c .requires g ≡ ⊤ₛ) × (c .ensures g r ≡ exits 𝓤 H A opening.signature (opening.ended .kept) κs args (λ end. ⌜ r ≡ openingOf (now (args .0)) ⌝))
+  opening-says κs args g r = (refl, refl, refl)
+
+  -- `sheet::Letter::byte`
+  pub letter-byte-says : (κs args g r : _) → let c = letter-byte.spec 𝓤 H A mem run κs args in
+      (c .ghost ≡ Unit {0}) × (c .requires g ≡ ⊤ₛ) × (c .ensures g r ≡ exits 𝓤 H A letter-byte.signature (letter-byte.ended .kept) κs args (λ end. ⌜ r ≡ letterByte (args .0) ⌝))
+  letter-byte-says κs args g r = (refl, refl, refl)
+
+  -- `calls::begin`
+  pub begin-says : (κs args g r : _) → let c = calls-begin.spec 𝓤 H A mem run κs args in
+      (c .ghost ≡ Unit {0}) × (c .requires g ≡ ⊤ₛ)
+      × (c .ensures g r ≡ exits 𝓤 H A calls-begin.signature (calls-begin.ended .kept) κs args (λ end. ⌜ stepping r (now (end .1 .0)) (now (end .1 .1 .0)) ≡ beginOf (now (args .0)) (now (args .1 .0)) (now (args .1 .1 .0)) ⌝))
+  begin-says κs args g r = (refl, refl, refl)
+
+  -- `calls::step`
+  pub step-says : (κs args g r : _) → let c = calls-step.spec 𝓤 H A mem run κs args in
+      (c .ghost ≡ Unit {0}) × (c .requires g ≡ ⊤ₛ)
+      × (c .ensures g r ≡ exits 𝓤 H A calls-step.signature (calls-step.ended .kept) κs args (λ end. ⌜ stepping r (now (end .1 .0)) (now (end .1 .1 .0)) ≡ stepOf (now (args .0)) (now (args .1 .0)) (now (args .1 .1 .0)) ⌝))
+  step-says κs args g r = (refl, refl, refl)
 
   -- `figures::Depth::new`
   pub depth-new-says : (κs args g r : _) → let c = depth-new.spec 𝓤 H A mem run κs args in

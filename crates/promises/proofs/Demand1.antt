@@ -4,7 +4,7 @@
 -- That a call ends, reads and writes only within what it was lent and wraps no sum is the theorem of each function, which the prover checks before it
 -- passes a crate: proofs/Contracts.antt cites those of the public functions (`teach-meets` and the like), and shows that their contracts ask nothing
 -- and say just the equations that stand here (`teach-says` and the like). What is lent by `&` comes back as it was, by the same theorem: so
--- `order::check`, `cuts::subtree`, `book::in_form`, `judge::judge` and `agree::check`, which are lent nothing to write, change nothing. Of what the others
+-- `order::check`, `cuts::subtree`, `book::in_form`, `judge::judge`, `agree::check` and `sheet::opening`, which are lent nothing to write, change nothing. Of what the others
 -- leave this file speaks. Assumes nothing.
 use Prim.Native.Nat.{ℕ, _<_}
 use mathlib.Core.Path.{_≡_, sym, ap, _∙_}
@@ -32,6 +32,12 @@ use Rattle.effects.proofs.Whys.{teach-why, teach-only, withdraw-why, withdraw-o
 use Rattle.effects.proofs.Conditions.{teach-refusal-leaves, withdraw-refusal-leaves, teach-line, withdraw-line}
 use Rattle.agree.specs.Checking.{checkOf as agreesOf}
 use Rattle.store.specs.Files.{writeFileOf, readFileOf}
+use Rattle.sheet.specs.Sheets.{openingOf}
+use Rattle.sheet.specs.Whys.{WhyFront}
+use Rattle.sheet.specs.declared.Front.{Front}
+use Rattle.sheet.proofs.Reasons.{opening-why, opening-only}
+use Rattle.calls.specs.Steps.{Stepping, stepping, beginOf, stepOf}
+use Rattle.calls.specs.declared.Printed.{Printed}
 use Rattle.promises.specs.Whys.{WhyNumbered, WhySubtree, WhyCut, WhyPart, WhyDepth, WhyOpened, WhyChecked, WhyPrinted, WhyRead, WhyFiled, WhyRestored}
 use Rattle.promises.proofs.Whys.{depth-why, depth-only, opened-why, opened-only, printed-why, printed-only, read-why, read-only}
 use Rattle.promises.proofs.PartWhys.{numbered-why, numbered-only, subtree-why, subtree-only, cut-why, cut-only, part-why, part-only}
@@ -110,6 +116,10 @@ module _ (ws os text file out : List ℕ) (k line d : ℕ) where
   pub read-file-rows : Exactly (WhyRestored file ws) (readFileOf file ws)
   read-file-rows = (restored-why file ws, restored-only file ws)
 
+  -- "Three faults are looked for before anything is printed, in this order": those of what is handed in at the desk, `text`.
+  pub opening-rows : Exactly (WhyFront text) (openingOf text)
+  opening-rows = (opening-why text, opening-only text)
+
 -- ---- the line
 
 -- "for every other answer, 0 and 11 included, it is 0": only a verdict of 20, 21 or 22, and 2 or 10 for a text, have another line.
@@ -176,6 +186,10 @@ two-outcomes e f = (ap (λ (o : Outcome). o .answer) (same e f), ap (λ (o : Out
 two-writings : {r s : Written} {ws vs : List ℕ} {o : Writing} → writing r ws ≡ o → writing s vs ≡ o → (r ≡ s) × (ws ≡ vs)
 two-writings e f = (ap (λ (o : Writing). o .answer) (same e f), ap (λ (o : Writing). o .out) (same e f))
 
+-- Two steps at the desk answer the same, and leave the same words in the book and the same bytes in the output.
+two-steps : {r s : Printed} {ws vs out₁ out₂ : List ℕ} {o : Stepping} → stepping r ws out₁ ≡ o → stepping s vs out₂ ≡ o → (r ≡ s) × (ws ≡ vs) × (out₁ ≡ out₂)
+two-steps e f = (ap (λ (o : Stepping). o .step) (same e f), ap (λ (o : Stepping). o .book) (same e f), ap (λ (o : Stepping). o .out) (same e f))
+
 -- "Two outcomes allowed by one promise are shown equal": r and s are two answers that the contract allows, and what stands beside them what was lent
 -- to be written, right after each call.
 module _ (ws os text file out : List ℕ) (k line d : ℕ) where
@@ -235,11 +249,23 @@ module _ (ws os text file out : List ℕ) (k line d : ℕ) where
   pub one-read-file : {r s : Answer} {u v : List ℕ} → outcome r u ≡ readFileOf file ws → outcome s v ≡ readFileOf file ws → (r ≡ s) × (u ≡ v)
   one-read-file = two-outcomes
 
+  -- `sheet::opening`
+  pub one-opening : {r s : Front} → r ≡ openingOf text → s ≡ openingOf text → r ≡ s
+  one-opening = same
+
+  -- `calls::begin`
+  pub one-begin : {r s : Printed} {u v p q : List ℕ} → stepping r u p ≡ beginOf text ws out → stepping s v q ≡ beginOf text ws out → (r ≡ s) × (u ≡ v) × (p ≡ q)
+  one-begin = two-steps
+
+  -- `calls::step`
+  pub one-step : {r s : Printed} {u v p q : List ℕ} → stepping r u p ≡ stepOf text ws out → stepping s v q ≡ stepOf text ws out → (r ≡ s) × (u ≡ v) × (p ≡ q)
+  one-step = two-steps
+
   -- `figures::Depth::new`
   pub one-depth : {r s : Asked} → r ≡ depthOf k → s ≡ depthOf k → r ≡ s
   one-depth = same
 
-  -- `figures::Asked::number`, `Depth::value`, `Depth::of_tops` and `Depth::of_middles`: n is the number that their contracts name.
+  -- `figures::Asked::number`, `Depth::value`, `Depth::of_tops`, `Depth::of_middles` and `sheet::Letter::byte`: n is the number that their contracts name.
   pub one-number : {r s n : ℕ} → r ≡ n → s ≡ n → r ≡ s
   one-number = same
 

@@ -249,7 +249,7 @@ asks-order x t o ws = let f = order-text (words t) t (order-read (words t) t o) 
 -- ---- texts that are refused
 
 -- A line at fault is refused by 2 or by 10, which the desk prints.
-line-refused : {before : List Line} {rest : List ℕ} {n : ℕ} → Why before rest n → DeskNumber n
+line-refused : {x : Letter} {before : List Line} {rest : List ℕ} {n : ℕ} → Why before rest n → DeskNumber x n
 line-refused (past q h) = is-too-large q
 line-refused (misspelt q h m) = is-no-form q
 line-refused (no-option q h x p o) = is-no-form q
@@ -258,7 +258,7 @@ line-refused (too-deep q h x p o a d) = is-too-large q
 line-refused (ninth-child q h x p o a d m) = is-no-form q
 
 -- So is a text.
-pub text-refused-by : (s : List ℕ) {n line : ℕ} → formOf s ≡ fault n line → DeskNumber n
+pub text-refused-by : (x : Letter) (s : List ℕ) {n line : ℕ} → formOf s ≡ fault n line → DeskNumber x n
 unfolding formOf
-text-refused-by [] {n} {line} e = let y : n ≡ no-form = cc in is-no-form y
-text-refused-by (b ∷ bs) {n} {line} e = line-refused (first-fault (b ∷ bs) n line (omega arith) e .why)
+text-refused-by x [] {n} {line} e = let y : n ≡ no-form = cc in is-no-form y
+text-refused-by x (b ∷ bs) {n} {line} e = line-refused (first-fault (b ∷ bs) n line (omega arith) e .why)

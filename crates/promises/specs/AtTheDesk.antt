@@ -30,21 +30,21 @@ unfoldable pub bookAfter : List Asking → List ℕ → List ℕ
 bookAfter [] book = book
 bookAfter (c ∷ cs) book = bookAfter cs (callOf c book .words)
 
--- The numbers that the desk prints for forms.
-pub data DeskNumber (n : ℕ) : Type 0 where
+-- The numbers that the desk prints for a form below a letter.
+pub data DeskNumber (x : Letter) (n : ℕ) : Type 0 where
   -- done, or passes
-  is-done : n ≡ done → DeskNumber n
+  is-done : n ≡ done → DeskNumber x n
   -- "text past line 64, or its level over 12"
-  is-too-large : n ≡ too-large → DeskNumber n
+  is-too-large : n ≡ too-large → DeskNumber x n
   -- "a line misspelt, code 0000, a level not allowed, a ninth child, or no bytes at all"
-  is-no-form : n ≡ no-form → DeskNumber n
-  -- teach: "the result needs more words than the book slice has"
-  is-no-room : n ≡ no-room → DeskNumber n
-  -- withdraw: "order has no entry in T"
-  is-not-taught : n ≡ not-taught → DeskNumber n
-  -- judge: "top not in R"
-  is-top : n ≡ top-unknown → DeskNumber n
-  -- judge: "low part unknown"
-  is-low : n ≡ low-unknown → DeskNumber n
-  -- judge: "middle part unknown"
-  is-middle : n ≡ middle-unknown → DeskNumber n
+  is-no-form : n ≡ no-form → DeskNumber x n
+  -- T: "the result needs more words than the book slice has"
+  is-no-room : x ≡ Teach → n ≡ no-room → DeskNumber x n
+  -- W: "order has no entry in T"
+  is-not-taught : x ≡ Withdraw → n ≡ not-taught → DeskNumber x n
+  -- J: "top not in R"
+  is-top : x ≡ Judge → n ≡ top-unknown → DeskNumber x n
+  -- J: "low part unknown"
+  is-low : x ≡ Judge → n ≡ low-unknown → DeskNumber x n
+  -- J: "middle part unknown"
+  is-middle : x ≡ Judge → n ≡ middle-unknown → DeskNumber x n

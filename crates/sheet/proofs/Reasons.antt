@@ -155,8 +155,8 @@ opening-only input f (alone k e h o) = row-alone input h k [] o refl ∙ sym e
 opening-only input f (with-calls k rest e h o l) = row-calls input h k rest o l ∙ sym e
 
 -- An input is answered for one of them.
-pub opening-rows : (input : List ℕ) → WhyFront input (openingOf input)
-opening-rows input = by-size (decLe (length input) most-input)
+pub opening-why : (input : List ℕ) → WhyFront input (openingOf input)
+opening-why input = by-size (decLe (length input) most-input)
   where
     -- By what stands behind line 1.
     by-rest : length input ≤ most-input → (k : ℕ) (rest : List ℕ) → OpensWith input k rest → WhyFront input (openingOf input)

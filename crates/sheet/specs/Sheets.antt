@@ -7,7 +7,7 @@ use lib.Dec.{ltb, eqb}
 use lib.ListN.{length}
 use Rattle.words.specs.Base.{_and_, if_then_else_, within}
 use Rattle.figures.specs.Limits.{least-k, greatest-k, most-input}
-use Rattle.figures.specs.Numbers.{too-large, k-outside, no-form}
+use Rattle.figures.specs.Numbers.{done, too-large, k-outside, no-form}
 use Rattle.figures.specs.Answers.{answered}
 use Rattle.figures.specs.declared.Answer.{Answer}
 use Rattle.form.specs.Text.{space, line-feed}
@@ -127,3 +127,8 @@ openingBy (handed k calls) = Opens k
 -- What the front of an input is.
 unfoldable pub openingOf : List ℕ → Front
 openingOf input = openingBy (handedIn input)
+
+-- 01's number and line for each case: 0 for a book to open.
+abbrev pub frontAnswer : Front → Answer
+frontAnswer (Fault a) = a
+frontAnswer (Opens k) = answered done
