@@ -16,7 +16,8 @@ use Rattle.reply.specs.Replies.{lastDigits, withoutZeros, most-digits, decimal,
 use Rattle.sheet.specs.Sheets.{letter-K, letterByte, Call, Handed, faulty, handed, handedIn}
 use Rattle.sheet.specs.declared.Letter.{Letter}
 use Rattle.sheet.specs.declared.Letter.the-variants.{Teach, Withdraw, Judge}
-use Rattle.calls.specs.Desk.{callOf, lineFor, linesFor, printedFor, deskOf}
+use Rattle.ask.specs.Asking.{callOf}
+use Rattle.calls.specs.Desk.{lineFor, linesFor, printedFor, deskOf}
 use Rattle.calls.specs.Lines.{feeds, EndsLine, linesDue}
 
 -- ---- bytes

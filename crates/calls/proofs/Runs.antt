@@ -29,7 +29,8 @@ use Rattle.sheet.specs.declared.Letter.{Letter}
 use Rattle.sheet.specs.declared.LineKind.{LineKind}
 use Rattle.sheet.specs.declared.LineKind.the-variants.{Asks, Other}
 use Rattle.sheet.proofs.Splitting.{letter-sheet, other-before, form-size, size-within, rest-calls, rest-before, empty-sheet}
-use Rattle.calls.specs.Desk.{callOf, lineFor, linesFor, printedFor, deskOf}
+use Rattle.ask.specs.Asking.{callOf}
+use Rattle.calls.specs.Desk.{lineFor, linesFor, printedFor, deskOf}
 use Rattle.calls.specs.Steps.{Stepping, idle, gives, first-line-size, letter-line-size, begunBy, beginOf, steppedBy, stepOf, lineIn, Run, begun, stepped}
 
 -- ---- lines

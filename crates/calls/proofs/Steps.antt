@@ -18,7 +18,8 @@ use Rattle.sheet.specs.declared.Front.the-variants.{Fault, Opens}
 use Rattle.sheet.specs.declared.Letter.{Letter}
 use Rattle.sheet.specs.declared.LineKind.the-variants.{Asks, Other}
 use Rattle.sheet.proofs.Splitting.{other-before, empty-sheet, form-front, form-size, size-within}
-use Rattle.calls.specs.Desk.{callOf, lineFor}
+use Rattle.ask.specs.Asking.{callOf}
+use Rattle.calls.specs.Desk.{lineFor}
 use Rattle.calls.specs.Steps.{Stepping, stepping, idle, gives, first-line-size, letter-line-size, begunBy, beginOf, steppedBy, stepOf}
 use Rattle.calls.proofs.Runs.{begin-is, letter-long, step-is}
 

@@ -3,30 +3,12 @@ use Prim.Native.Nat.{ℕ}
 use mathlib.Core.List.{List, [], _∷_, _++_}
 use lib.ListN.{getD, replicate}
 use Rattle.figures.specs.Limits.{used-word, desk-book-words}
-use Rattle.figures.specs.declared.Answer.{Answer}
-use Rattle.form.specs.Reading.{byForm, formOf, wordsOf}
-use Rattle.book.specs.Opening.{Outcome, outcome, openOf}
-use Rattle.judge.specs.Judging.{judgeOf}
-use Rattle.teach.specs.Calls.{teachOf, withdrawOf}
+use Rattle.book.specs.Opening.{Outcome, openOf}
 use Rattle.reply.specs.Replies.{reply}
 use Rattle.sheet.specs.Sheets.{letter-K, letterByte, Call, Handed, faulty, handed, handedIn}
-use Rattle.sheet.specs.declared.Letter.{Letter}
-use Rattle.sheet.specs.declared.Letter.the-variants.{Teach, Withdraw, Judge}
+use Rattle.ask.specs.Asking.{callOf}
 
--- ---- a call
-
--- "teach, withdraw, judge": what a letter does with the book and an order. Judging leaves the book as it came.
-unfoldable pub askOf : Letter → List ℕ → List ℕ → Outcome
-askOf Teach book os = teachOf book os
-askOf Withdraw book os = withdrawOf book os
-askOf Judge book os = outcome (judgeOf book os) book
-
--- "A form's text is read first and its refusal printed": a text that is refused does not reach the book.
-unfoldable pub callOf : Call → List ℕ → Outcome
-callOf c book =
-    byForm (formOf (c .text)) (λ n line. outcome (record { number = n; line = line }) book) (λ xs. askOf (c .letter) book (wordsOf xs))
-
--- ---- its line
+-- ---- the line of a call
 
 -- "letter, answer, line, words used", of the book after the call.
 unfoldable pub lineFor : ℕ → Outcome → List ℕ

@@ -10,7 +10,8 @@ use Rattle.figures.specs.Limits.{desk-book-words}
 use Rattle.book.specs.Opening.{openOf}
 use Rattle.reply.specs.Replies.{reply, reply-room}
 use Rattle.sheet.specs.Sheets.{letter-K, letterByte, Call, sheetOf, Handed, faulty, handed, handedIn}
-use Rattle.calls.specs.Desk.{callOf, lineFor}
+use Rattle.ask.specs.Asking.{callOf}
+use Rattle.calls.specs.Desk.{lineFor}
 use Rattle.calls.specs.declared.Printed.{Printed}
 
 -- ---- a step

@@ -1,7 +1,7 @@
--- What the proofs of several functions use, and the laws that crates above cite.
+-- The laws of the text, which crates above cite.
 pub mod Faults
-mod Spelling
-mod Steps
+pub mod Spelling
+pub mod Steps
 pub mod Counts
 pub mod TreeLines
 pub mod Digits
@@ -11,6 +11,6 @@ pub mod RoundTrip
 pub mod Grow
 pub mod Trips
 pub mod Letters
-mod Turn
+pub mod Turn
 pub mod LineBytes
-mod Answers
+pub mod Answers

@@ -40,7 +40,8 @@ use Rattle.sheet.specs.Sheets.{letter-K, letterByte, Call as Asking, Handed, fa
 use Rattle.sheet.specs.declared.Front.the-variants.{Fault}
 use Rattle.sheet.specs.declared.Letter.{Letter}
 use Rattle.sheet.specs.declared.Letter.the-variants.{Teach, Withdraw, Judge}
-use Rattle.calls.specs.Desk.{askOf, callOf, lineFor, linesFor, printedFor, deskOf}
+use Rattle.ask.specs.Asking.{askOf, callOf}
+use Rattle.calls.specs.Desk.{lineFor, linesFor, printedFor, deskOf}
 use Rattle.promises.specs.Remaining.{after, remaining, timesOf, booked, ExactlyThese, MadeOf}
 use Rattle.promises.specs.Starts.{opening}
 use Rattle.promises.specs.AtTheDesk.{madeBy, bookAfter, DeskNumber, is-done, is-no-room, is-not-taught, is-top, is-low, is-middle}

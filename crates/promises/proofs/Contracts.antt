@@ -32,7 +32,7 @@ use Rattle.order.proofs.check as order-check
 use Rattle.cuts.proofs.subtree
 use Rattle.cuts.proofs.cut_into as cut-into
 use Rattle.parts.proofs.part_into as part-into
-use Rattle.form.proofs.read
+use Rattle.scan.proofs.read
 use Rattle.print.proofs.write
 use Rattle.book.proofs.in_form as in-form
 use Rattle.book.proofs.open as book-open
@@ -54,8 +54,8 @@ use Rattle.cuts.proofs.cut_into.Statement as cut-into-statement
 use Rattle.cuts.proofs.cut_into.Met as cut-into-met
 use Rattle.parts.proofs.part_into.Statement as part-into-statement
 use Rattle.parts.proofs.part_into.Met as part-into-met
-use Rattle.form.proofs.read.Statement as read-statement
-use Rattle.form.proofs.read.Met as read-met
+use Rattle.scan.proofs.read.Statement as read-statement
+use Rattle.scan.proofs.read.Met as read-met
 use Rattle.print.proofs.write.Statement as write-statement
 use Rattle.print.proofs.write.Met as write-met
 use Rattle.book.proofs.in_form.Statement as in-form-statement
@@ -117,7 +117,7 @@ module _ {M : Type 1} where
   pub part-into-meets : part-into-statement.statement M
   part-into-meets = part-into-met.met
 
-  -- `form::read`
+  -- `scan::read`
   pub read-meets : read-statement.statement M
   read-meets = read-met.met
 
@@ -220,7 +220,7 @@ module _ {M : Type 1} (𝓤 : URA.URA M) (H : Wp.Heap 𝓤) (A : Atoms.Atoms �
       × (c .ensures g r ≡ exits 𝓤 H A part-into.signature (part-into.ended .kept) κs args (λ end. ⌜ partWriting r (now (end .1 .1 .1 .0)) ≡ partIntoOf (now (args .0)) (args .1 .0) (args .1 .1 .0 .k) (now (args .1 .1 .1 .0)) ⌝))
   part-into-says κs args g r = (refl, refl, refl)
 
-  -- `form::read`
+  -- `scan::read`
   pub read-says : (κs args g r : _) → let c = read.spec 𝓤 H A mem run κs args in
       (c .ghost ≡ Unit {0}) × (c .requires g ≡ ⊤ₛ) × (c .ensures g r ≡ exits 𝓤 H A read.signature (read.ended .kept) κs args (λ end. ⌜ writing r (now (end .1 .0)) ≡ readOf (now (args .0)) (now (args .1 .0)) ⌝))
   read-says κs args g r = (refl, refl, refl)

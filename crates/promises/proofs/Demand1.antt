@@ -164,7 +164,7 @@ module _ (ws os text file out : List ℕ) (k line d : ℕ) where
   pub read-file-no-line : readFileOf file ws .answer .line ≡ 0
   read-file-no-line = restored-line file ws
 
-  -- `form::read`, where it answers neither 2 nor 10
+  -- `scan::read`, where it answers neither 2 nor 10
   pub read-no-line : (readOf text out .answer .number ≡ too-large → ⊥) → (readOf text out .answer .number ≡ no-form → ⊥) → readOf text out .answer .line ≡ 0
   read-no-line = read-line text out
 
@@ -209,7 +209,7 @@ module _ (ws os text file out : List ℕ) (k line d : ℕ) where
   pub one-part : {r s : PartWritten} {u v : List ℕ} → partWriting r u ≡ partIntoOf os line k out → partWriting s v ≡ partIntoOf os line k out → (r ≡ s) × (u ≡ v)
   one-part e f = (ap (λ (o : PartWriting). o .answer) (same e f), ap (λ (o : PartWriting). o .out) (same e f))
 
-  -- `form::read`
+  -- `scan::read`
   pub one-read : {r s : Written} {u v : List ℕ} → writing r u ≡ readOf text out → writing s v ≡ readOf text out → (r ≡ s) × (u ≡ v)
   one-read = two-writings
 
@@ -285,7 +285,7 @@ module _ (ws os text file out : List ℕ) (k line d : ℕ) where
   pub withdraw-leaves : (withdrawOf ws os .answer .number ≡ done → ⊥) → withdrawOf ws os .words ≡ ws
   withdraw-leaves = withdraw-refusal-leaves ws os
 
-  -- `form::read`
+  -- `scan::read`
   pub read-leaves : (readOf text out .answer .number ≡ done → ⊥) → (readOf text out .out ≡ out) × (readOf text out .answer .count ≡ 0)
   read-leaves = read-refusal-leaves text out
 

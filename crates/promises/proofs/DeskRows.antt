@@ -35,7 +35,8 @@ use Rattle.reply.specs.Replies.{reply}
 use Rattle.sheet.specs.Sheets.{letter-K, letterByte, Call, faulty, handed, handedIn}
 use Rattle.sheet.specs.declared.Letter.{Letter}
 use Rattle.sheet.specs.declared.Letter.the-variants.{Teach, Withdraw, Judge}
-use Rattle.calls.specs.Desk.{askOf, callOf, lineFor, linesFor, printedFor, deskOf}
+use Rattle.ask.specs.Asking.{askOf, callOf}
+use Rattle.calls.specs.Desk.{lineFor, linesFor, printedFor, deskOf}
 use Rattle.promises.specs.Heard.{A}
 use Rattle.promises.proofs.Handing.{asks-order}
 use Rattle.promises.proofs.AtTheDesk.{blank, blank-long, first-line-printed}

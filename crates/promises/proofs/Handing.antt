@@ -28,7 +28,8 @@ use Rattle.sheet.specs.declared.Letter.{Letter}
 use Rattle.sheet.specs.declared.Letter.the-variants.{Teach, Withdraw, Judge}
 use Rattle.sheet.specs.declared.LineKind.{LineKind}
 use Rattle.sheet.specs.declared.LineKind.the-variants.{Asks, Other}
-use Rattle.calls.specs.Desk.{askOf, callOf, lineFor, linesFor}
+use Rattle.ask.specs.Asking.{askOf, callOf}
+use Rattle.calls.specs.Desk.{lineFor, linesFor}
 use Rattle.promises.specs.Remaining.{Call, teach, withdraw, outcomeOf, afterBy, after, without, remainBy, remainingBy, remaining}
 use Rattle.promises.specs.AtTheDesk.{callFor, madeOf, madeBy, bookAfter, DeskNumber, is-too-large, is-no-form}
 

@@ -7,7 +7,7 @@ use Rattle.form.specs.Reading.{byForm, formOf, wordsOf}
 use Rattle.sheet.specs.Sheets.{Call as Asking}
 use Rattle.sheet.specs.declared.Letter.{Letter}
 use Rattle.sheet.specs.declared.Letter.the-variants.{Teach, Withdraw, Judge}
-use Rattle.calls.specs.Desk.{callOf}
+use Rattle.ask.specs.Asking.{callOf}
 use Rattle.promises.specs.Remaining.{Call, teach, withdraw}
 
 -- The call on the book that a letter makes with an order; judging makes none that could change it.

@@ -19,7 +19,7 @@ use report::say;
 
 // Reads a text to an output, and says the answer, the words written and the words behind them.
 fn read_to(text: &[u8], out: &mut [u16]) {
-    let written = form::read(text, out);
+    let written = scan::read(text, out);
     let count = written.count;
     lent::answer(written);
     lent::words(out, count);

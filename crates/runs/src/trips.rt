@@ -27,7 +27,7 @@ pub fn words(order: &[u16]) -> bool {
         return false;
     }
     let mut words = [0u16; MOST];
-    let read = form::read(&text[0..bytes], &mut words);
+    let read = scan::read(&text[0..bytes], &mut words);
     let count = read.count;
     if read.number != numbers::DONE {
         return false;
@@ -41,7 +41,7 @@ pub fn words(order: &[u16]) -> bool {
 // Whether a text is read, and its words are written, to the same bytes.
 pub fn bytes(text: &[u8]) -> bool {
     let mut words = [0u16; MOST];
-    let read = form::read(text, &mut words);
+    let read = scan::read(text, &mut words);
     let count = read.count;
     if read.number != numbers::DONE {
         return false;

@@ -1,0 +1,2 @@
+-- What the proofs of several functions use.
+mod Forms
