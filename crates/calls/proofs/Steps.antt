@@ -20,7 +20,7 @@ use Rattle.sheet.specs.declared.LineKind.the-variants.{Asks, Other}
 use Rattle.sheet.proofs.Splitting.{other-before, empty-sheet, form-front, form-size, size-within}
 use Rattle.ask.specs.Asking.{callOf}
 use Rattle.calls.specs.Desk.{lineFor}
-use Rattle.calls.specs.Steps.{Stepping, stepping, idle, gives, first-line-size, letter-line-size, begunBy, beginOf, steppedBy, stepOf}
+use Rattle.calls.specs.Steps.{stepping, idle, gives, first-line-size, letter-line-size, begunBy, beginOf, steppedBy, stepOf}
 use Rattle.calls.proofs.Runs.{begin-is, letter-long, step-is}
 
 -- ---- no room for a line

@@ -3,7 +3,7 @@ ghost use mathlib.Core.Path.{_≡_};
 ghost use Prim.Native.Nat.{_≤_};
 ghost use lib.ListN.{length};
 ghost use Rattle.words.specs.Base.{over};
-ghost use Rattle.reply.specs.Replies.{lastDigits, most-digits, decimal, field, reply, reply-room};
+ghost use Rattle.reply.specs.Replies.{lastDigits, decimal, field, reply, reply-room};
 use figures::Answer;
 use print::digit_of;
 

@@ -11,7 +11,7 @@ use Rattle.reply.specs.Replies.{reply-room}
 use Rattle.calls.specs.Desk.{deskOf}
 use Rattle.calls.specs.Steps.{Stepping, stepping, beginOf, stepOf, Run, begun, stepped}
 use Rattle.calls.specs.declared.Printed.{Printed}
-use Rattle.calls.proofs.Runs.{begin-within, step-within, run-so-far, run-goes-on, run-prints}
+use Rattle.calls.proofs.Runs.{begin-within, step-within, run-goes-on, run-prints}
 
 -- The loop has come to a place in the input: a run of the desk has, with this book and this output, and the line to print next is the last of its
 -- lines; those before it are printed.
@@ -33,14 +33,6 @@ reached-first input book out p book₁ out₁ l r e =
     (record { before = []; run = begun book out l r; fits = begin-within input book out })
 
 module _ (input : List ℕ) (n : ℕ) (book out : List ℕ) (count : ℕ) (here : Reached input n book out count) where
-  -- There is room for a line.
-  pub reached-room : reply-room ≤ length out
-  reached-room = run-so-far (here .run) .room
-
-  -- No more was taken than there is.
-  pub reached-inside : n ≤ length input
-  reached-inside = run-so-far (here .run) .inside
-
   module _ (p : Printed) (book₁ out₁ : List ℕ) (more : n < length input) (e : stepping p book₁ out₁ ≡ stepOf (take (length input - n) (drop n input)) book out) where
     -- The step was made on what is left of the input.
     by-rest : stepping p book₁ out₁ ≡ stepOf (drop n input) book out

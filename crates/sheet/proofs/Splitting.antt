@@ -121,15 +121,6 @@ pub other-before : (bs : List ℕ) → 0 < length bs → letterAt bs ≡ Other �
 other-before [] h e = absurd (omega arith)
 other-before (b ∷ bs) h e = rw (byte-other b bs e) (omega arith)
 
--- Bytes with none before the first letter line begin with it.
-pub nothing-before : (bs : List ℕ) → sheetOf bs .before ≡ [] → 0 < length bs → isAsking (letterAt bs) ≡ true
-nothing-before bs e h = go (letterAt bs) refl
-  where
-    -- By what the bytes begin with.
-    go : (k : LineKind) → letterAt bs ≡ k → isAsking k ≡ true
-    go (Asks x) p = refl
-    go Other p = absurd (let l : length (sheetOf bs .before) ≡ 0 = ap length e in omega (arith, other-before bs h p))
-
 -- No more bytes stand before the next letter line than there are.
 pub size-within : (starts : Bool) (bs : List ℕ) → sizeTo starts bs ≤ length bs
 unfolding sizeTo if_then_else_
