@@ -6,32 +6,28 @@ use mathlib.Core.List.{List, [], _∷_, _++_, append-assoc, append-nil}
 use native.Mathlib.Decide.{decLt}
 use native.Mathlib.Omega.{arith}
 use borrow.Author.Tests.{le-ltb}
-use lib.Dec.{ltb, eqb}
+use lib.Dec.{ltb}
 use lib.ListN.{length, take, drop, replicate, length-append, length-drop, length-replicate, drop-of-length-le}
 use lib.Seq.{take-append-seam, drop-drop}
 use Rattle.words.specs.Base.{_and_, if_then_else_, over, within}
-use Rattle.words.proofs.Tests.{and-right}
-use Rattle.figures.specs.Limits.{head-words, least-k, greatest-k, most-book-words, most-input, desk-book-words}
-use Rattle.figures.specs.Numbers.{done, too-large}
+use Rattle.figures.specs.Limits.{head-words, least-k, greatest-k, most-book-words, desk-book-words}
+use Rattle.figures.specs.Numbers.{done}
 use Rattle.figures.specs.Answers.{answered}
-use Rattle.figures.specs.declared.Answer.{Answer}
-use Rattle.form.specs.Text.{space, line-feed}
-use Rattle.form.specs.Reading.{isDigit, figure}
-use Rattle.form.proofs.Faults.{within-both}
 use Rattle.book.specs.Book.{lay}
 use Rattle.book.specs.Taught.{bookOf}
 use Rattle.book.specs.Opening.{Outcome, outcome, openOf}
 use Rattle.book.proofs.Openings.{opened}
 use Rattle.reply.specs.Replies.{reply, reply-room}
-use Rattle.sheet.specs.Sheets.{letter-K, letterByte, Call, sheetOf, asks, otherwise, firstLine, Handed, faulty, handed, handedBy, byFirst, handedIn}
+use Rattle.sheet.specs.Sheets.{first-line-size, letter-line-size, letter-K, letterByte, Call, sheetOf, asks, Handed, faulty, handed, handedIn}
 use Rattle.sheet.specs.Places.{letterAt, sizeTo}
 use Rattle.sheet.specs.declared.Letter.{Letter}
 use Rattle.sheet.specs.declared.LineKind.{LineKind}
 use Rattle.sheet.specs.declared.LineKind.the-variants.{Asks, Other}
+use Rattle.sheet.proofs.Handing.{HandsIn, at-fault, opens, hands-in}
 use Rattle.sheet.proofs.Splitting.{letter-sheet, other-before, form-size, size-within, rest-calls, rest-before, empty-sheet}
 use Rattle.ask.specs.Asking.{callOf}
 use Rattle.calls.specs.Desk.{lineFor, linesFor, printedFor, deskOf}
-use Rattle.calls.specs.Steps.{Stepping, idle, gives, first-line-size, letter-line-size, begunBy, beginOf, steppedBy, stepOf, lineIn, Run, begun, stepped}
+use Rattle.calls.specs.Steps.{Stepping, idle, gives, begunBy, beginOf, steppedBy, stepOf, lineIn, Run, begun, stepped}
 
 -- ---- lines
 
@@ -91,50 +87,6 @@ pub record SoFar (input : List ℕ) (n : ℕ) (book out printed : List ℕ) : Ty
 
 -- ---- the opening
 
--- What the opening finds in an input: a fault, or a first line with a k, behind which a letter line is next, or nothing.
-data Start (input : List ℕ) : Handed → Type 0 where
-  at-fault : (a : Answer) → Start input (faulty a)
-  opens : (k : ℕ) → least-k ≤ k → k ≤ greatest-k → first-line-size ≤ length input → sheetOf (drop first-line-size input) .before ≡ []
-      → Start input (handed k (sheetOf (drop first-line-size input) .calls))
-
--- So it is, by the first line.
-first-found : (input : List ℕ) → Start input (byFirst (firstLine input))
-unfolding firstLine byFirst handedBy if_then_else_
-first-found [] = at-fault _
-first-found (a ∷ []) = at-fault _
-first-found (a ∷ b ∷ []) = at-fault _
-first-found (a ∷ b ∷ c ∷ []) = at-fault _
-first-found (a ∷ b ∷ c ∷ d ∷ rest) =
-    go (eqb a letter-K and eqb b space and isDigit c and eqb d line-feed and within least-k greatest-k (figure c)) refl
-  where
-    -- The last of the five tests.
-    in-range : (p q r s t : Bool) → (p and q and r and s and t) ≡ true → t ≡ true
-    in-range p q r s t e = and-right s t (and-right r (s and t) (and-right q (r and s and t) (and-right p (q and r and s and t) e)))
-
-    -- By the bytes before the first letter line.
-    behind : (bs : List ℕ) → sheetOf rest .before ≡ bs → (least-k ≤ figure c) × (figure c ≤ greatest-k)
-        → Start (a ∷ b ∷ c ∷ d ∷ rest) (handedBy (figure c) bs (sheetOf rest .calls))
-    behind [] q r = opens (figure c) (r .0) (r .1) (omega arith) q
-    behind (x ∷ xs) q r = at-fault _
-
-    -- By whether line 1 is as it should be.
-    go : (t : Bool) → (eqb a letter-K and eqb b space and isDigit c and eqb d line-feed and within least-k greatest-k (figure c)) ≡ t
-        → Start (a ∷ b ∷ c ∷ d ∷ rest) (byFirst (if t then asks (figure c) rest else otherwise))
-    go true e =
-        let w = in-range (eqb a letter-K) (eqb b space) (isDigit c) (eqb d line-feed) (within least-k greatest-k (figure c)) e in
-        behind (sheetOf rest .before) refl (within-both least-k greatest-k (figure c) w)
-    go false e = at-fault _
-
--- So it is, by the length of the input and the first line.
-found : (input : List ℕ) → Start input (handedIn input)
-unfolding handedIn if_then_else_
-found input = go (ltb most-input (length input))
-  where
-    -- By whether the input is too long.
-    go : (t : Bool) → Start input (if t then faulty (answered too-large) else byFirst (firstLine input))
-    go true = at-fault _
-    go false = first-found input
-
 -- What stood in a slice before a book is opened in it does not matter.
 open-same : (ws vs : List ℕ) (k : ℕ) → length ws ≡ length vs → head-words ≤ length ws → length ws ≤ most-book-words → least-k ≤ k → k ≤ greatest-k
     → openOf ws k ≡ openOf vs k
@@ -149,7 +101,7 @@ begin-is input book out h = rw (le-ltb (length out) reply-room h)
 module _ (input book out slice : List ℕ) (same : length book ≡ length slice) (long : head-words ≤ length book) (short : length book ≤ most-book-words)
     (room : reply-room ≤ length out) where
   -- So far, once the opening went by what is handed in.
-  begun-by : (h : Handed) → Start input h → deskOf input ≡ printedFor h slice
+  begun-by : (h : Handed) → HandsIn input h → deskOf input ≡ printedFor h slice
       → let s = begunBy (length input) h book out in SoFar input (s .step .taken) (s .book) (s .out) (lineIn s)
   unfolding begunBy printedFor
   begun-by _ (at-fault a) d =
@@ -162,7 +114,7 @@ module _ (input book out slice : List ℕ) (same : length book ≡ length slice)
         room = omega (arith, out-stays line out);
         inside = omega arith;
       }
-  begun-by _ (opens k l g i c) d =
+  begun-by _ (opens k m l g i c) d =
       let cs : List Call = sheetOf (drop first-line-size input) .calls in
       let o : openOf book k ≡ openOf slice k = open-same book slice k same long short l g in
       let line : List ℕ = lineFor letter-K (openOf book k) in
@@ -185,7 +137,7 @@ begin-so-far : (input book out : List ℕ) (n : ℕ) → length book ≡ n → n
     → let s = beginOf input book out in SoFar input (s .step .taken) (s .book) (s .out) (lineIn s)
 begin-so-far input book out n e z r =
     subst (λ (s : Stepping). SoFar input (s .step .taken) (s .book) (s .out) (lineIn s)) (sym (begin-is input book out r))
-    (begun-by input book out (replicate n 0) (e ∙ sym (length-replicate n 0)) (omega arith) (omega arith) r (handedIn input) (found input) (desk-is input n z))
+    (begun-by input book out (replicate n 0) (e ∙ sym (length-replicate n 0)) (omega arith) (omega arith) r (handedIn input) (hands-in input) (desk-is input n z))
 
 -- ---- a later step
 

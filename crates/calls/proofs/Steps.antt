@@ -11,7 +11,7 @@ use Rattle.figures.specs.Limits.{used-word}
 use Rattle.figures.specs.declared.Answer.{Answer}
 use Rattle.book.specs.Opening.{Outcome, outcome, openOf}
 use Rattle.reply.specs.Replies.{reply, reply-room}
-use Rattle.sheet.specs.Sheets.{letter-K, letterByte, Call, sheetOf, Handed, faulty, handed, handedIn, openingBy, openingOf}
+use Rattle.sheet.specs.Sheets.{first-line-size, letter-line-size, letter-K, letterByte, Call, sheetOf, Handed, faulty, handed, handedIn, openingBy, openingOf}
 use Rattle.sheet.specs.Places.{letterAt, sizeTo}
 use Rattle.sheet.specs.declared.Front.{Front}
 use Rattle.sheet.specs.declared.Front.the-variants.{Fault, Opens}
@@ -20,7 +20,7 @@ use Rattle.sheet.specs.declared.LineKind.the-variants.{Asks, Other}
 use Rattle.sheet.proofs.Splitting.{other-before, empty-sheet, form-front, form-size, size-within}
 use Rattle.ask.specs.Asking.{callOf}
 use Rattle.calls.specs.Desk.{lineFor}
-use Rattle.calls.specs.Steps.{stepping, idle, gives, first-line-size, letter-line-size, begunBy, beginOf, steppedBy, stepOf}
+use Rattle.calls.specs.Steps.{stepping, idle, gives, begunBy, beginOf, steppedBy, stepOf}
 use Rattle.calls.proofs.Runs.{begin-is, letter-long, step-is}
 
 -- ---- no room for a line

@@ -9,7 +9,7 @@ use Rattle.words.specs.Base.{if_then_else_, over}
 use Rattle.figures.specs.Limits.{desk-book-words}
 use Rattle.book.specs.Opening.{openOf}
 use Rattle.reply.specs.Replies.{reply, reply-room}
-use Rattle.sheet.specs.Sheets.{letter-K, letterByte, Call, sheetOf, Handed, faulty, handed, handedIn}
+use Rattle.sheet.specs.Sheets.{first-line-size, letter-line-size, letter-K, letterByte, Call, sheetOf, Handed, faulty, handed, handedIn}
 use Rattle.ask.specs.Asking.{callOf}
 use Rattle.calls.specs.Desk.{lineFor}
 use Rattle.calls.specs.declared.Printed.{Printed}
@@ -34,10 +34,6 @@ idle book out = stepping (record { taken = 0; count = 0 }) book out
 abbrev pub gives : ℕ → List ℕ → List ℕ → List ℕ → Stepping
 gives taken line book out = stepping (record { taken = taken; count = length line }) book (over line out)
 
--- How many bytes line 1 takes.
-abbrev pub first-line-size : ℕ
-first-line-size = 4
-
 -- The opening: line 1 is taken, or by a fault all of the input.
 unfoldable pub begunBy : ℕ → Handed → List ℕ → List ℕ → Stepping
 begunBy size (faulty a) book out = gives size (reply letter-K a 0) book out
@@ -46,10 +42,6 @@ begunBy size (handed k calls) book out = gives first-line-size (lineFor letter-K
 -- The first step, on any slice for a book; a slice for the line that is shorter than any line may be is left alone.
 unfoldable pub beginOf : List ℕ → List ℕ → List ℕ → Stepping
 beginOf input book out = if ltb (length out) reply-room then idle book out else begunBy (length input) (handedIn input) book out
-
--- How many bytes a letter line takes.
-abbrev pub letter-line-size : ℕ
-letter-line-size = 2
 
 -- The first of the calls is made, where no bytes stand before it.
 unfoldable pub steppedBy : List ℕ → List Call → List ℕ → List ℕ → Stepping

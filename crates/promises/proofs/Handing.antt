@@ -5,130 +5,53 @@ use mathlib.Core.Path.{_≡_, refl, sym, ap, _∙_}
 use mathlib.Core.Bool.{Bool, true, false}
 use mathlib.Core.List.{List, [], _∷_, _++_, append-assoc}
 use native.Mathlib.Omega.{arith}
-use borrow.Author.Tests.{ltb-false, leb-true}
-use lib.Dec.{ltb, eqb}
-use lib.ListN.{length, length-append}
-use Rattle.words.specs.Base.{_and_, if_then_else_, within, sameWords}
-use Rattle.words.proofs.Tests.{and-left, and-right}
+use lib.Dec.{eqb}
+use lib.ListN.{length, drop, length-append, length-drop}
+use Rattle.words.specs.Base.{_and_, if_then_else_, sameWords}
 use Rattle.figures.specs.Limits.{least-k, greatest-k, most-input}
-use Rattle.figures.specs.Numbers.{done, too-large, no-form}
-use Rattle.figures.specs.Answers.{answered}
+use Rattle.figures.specs.Numbers.{done, no-form}
 use Rattle.order.specs.Trees.{Tree, words}
 use Rattle.order.specs.Fits.{IsOrder}
 use Rattle.order.proofs.Fitting.{order-read}
-use Rattle.form.specs.Text.{Line, space, line-feed, textOf}
-use Rattle.form.specs.Reading.{isDigit, figure, Form, fault, form, byForm, formOf, wordsOf}
+use Rattle.form.specs.Text.{Line, textOf}
+use Rattle.form.specs.Reading.{Form, fault, form, byForm, formOf, wordsOf}
 use Rattle.form.specs.Faults.{Why, past, misspelt, no-option, not-allowed, too-deep, ninth-child}
 use Rattle.form.proofs.FirstFault.{first-fault}
 use Rattle.form.proofs.Trips.{order-text}
 use Rattle.book.specs.Opening.{outcome}
-use Rattle.sheet.specs.Sheets.{letter-K, letterByte, withByte, linesOf, kindOf, Call as Asking, Sheet, withLine, callsOf, sheetOf}
-use Rattle.sheet.specs.Sheets.{FirstLine, otherwise, asks, firstLine, faulty, handed, handedBy, byFirst, handedIn}
+use Rattle.sheet.specs.Sheets.{first-line-size, letterByte, Call as Asking, sheetOf, Handed, handed, handedIn}
+use Rattle.sheet.proofs.Handing.{calls-within, HandsIn, at-fault, opens, hands-in}
 use Rattle.sheet.specs.declared.Letter.{Letter}
 use Rattle.sheet.specs.declared.Letter.the-variants.{Teach, Withdraw, Judge}
-use Rattle.sheet.specs.declared.LineKind.{LineKind}
-use Rattle.sheet.specs.declared.LineKind.the-variants.{Asks, Other}
 use Rattle.ask.specs.Asking.{askOf, callOf}
 use Rattle.calls.specs.Desk.{lineFor, linesFor}
 use Rattle.promises.specs.Remaining.{Call, teach, withdraw, outcomeOf, afterBy, after, without, remainBy, remainingBy, remaining}
 use Rattle.promises.specs.AtTheDesk.{callFor, madeOf, madeBy, bookAfter, DeskNumber, is-too-large, is-no-form}
 
--- ---- how many calls
-
--- A line asks for one call at most.
-line-call : (x : LineKind) (l : List ℕ) (s : Sheet) → length (withLine x l s .calls) ≤ suc (length (s .calls))
-unfolding withLine
-line-call (Asks x) l s = omega arith
-line-call Other l s = omega arith
-
--- Lines ask for no more calls than they are.
-lines-calls : (ls : List (List ℕ)) → length (callsOf ls .calls) ≤ length ls
-unfolding callsOf
-lines-calls [] = omega arith
-lines-calls (l ∷ ls) = omega (arith, line-call (kindOf l) l (callsOf ls), lines-calls ls)
-
--- A byte begins one line more at most.
-byte-line : (x : Bool) (b : ℕ) (ls : List (List ℕ)) → length (withByte x b ls) ≤ suc (length ls)
-unfolding withByte
-byte-line true b ls = omega arith
-byte-line false b [] = omega arith
-byte-line false b (l ∷ ls) = omega arith
-
--- Bytes are no fewer than their lines.
-bytes-lines : (bs : List ℕ) → length (linesOf bs) ≤ length bs
-unfolding linesOf
-bytes-lines [] = omega arith
-bytes-lines (b ∷ bs) = omega (arith, byte-line (eqb b line-feed) b (linesOf bs), bytes-lines bs)
-
--- Bytes ask for no more calls than they are.
-pub calls-within : (bs : List ℕ) → length (sheetOf bs .calls) ≤ length bs
-unfolding sheetOf
-calls-within bs = omega (arith, lines-calls (linesOf bs), bytes-lines bs)
-
 -- ---- what is handed in
 
--- A first line that has a k has an allowed one, and the bytes behind it are no more than all.
-first-says : (input : List ℕ) (k : ℕ) (rest : List ℕ) → firstLine input ≡ asks k rest → (within least-k greatest-k k ≡ true) × (length rest ≤ length input)
-unfolding firstLine if_then_else_
-first-says [] k rest e = let z : _≡_ {A = ℕ} 0 1 = cc in absurd (omega arith)
-first-says (a ∷ []) k rest e = let z : _≡_ {A = ℕ} 0 1 = cc in absurd (omega arith)
-first-says (a ∷ b ∷ []) k rest e = let z : _≡_ {A = ℕ} 0 1 = cc in absurd (omega arith)
-first-says (a ∷ b ∷ c ∷ []) k rest e = let z : _≡_ {A = ℕ} 0 1 = cc in absurd (omega arith)
-first-says (a ∷ b ∷ c ∷ d ∷ bs) k rest e = go (eqb a letter-K and eqb b space and isDigit c and eqb d line-feed and within least-k greatest-k (figure c)) refl e
+-- An input that hands in k and calls is no longer than allowed, k is allowed, and the calls are those behind line 1.
+handed-in : (input : List ℕ) (k : ℕ) (cs : List Asking) → handedIn input ≡ handed k cs
+    → (length input ≤ most-input) × (least-k ≤ k) × (k ≤ greatest-k) × (cs ≡ sheetOf (drop first-line-size input) .calls)
+handed-in input k cs = go (handedIn input) (hands-in input)
   where
-    -- By whether it is spelt so and its k allowed.
-    go : (t : Bool) → (eqb a letter-K and eqb b space and isDigit c and eqb d line-feed and within least-k greatest-k (figure c)) ≡ t
-        → (if t then asks (figure c) bs else otherwise) ≡ asks k rest → (within least-k greatest-k k ≡ true) × (length rest ≤ length (a ∷ b ∷ c ∷ d ∷ bs))
-    go true s q =
-        let same : figure c ≡ k = cc in
-        let left : bs ≡ rest = cc in
-        (ap (within least-k greatest-k) (sym same) ∙ and-right _ _ (and-right _ _ (and-right _ _ (and-right _ _ s))), omega (arith, ap length left))
-    go false s q = let z : _≡_ {A = ℕ} 0 1 = cc in absurd (omega arith)
-
--- An input is no longer than allowed, its line 1 has this k, and the bytes behind that ask for these calls.
-record HandsIn (input : List ℕ) (k : ℕ) (cs : List Asking) : Type 0 where
-  rest : List ℕ
-  short : length input ≤ most-input
-  first : firstLine input ≡ asks k rest
-  calls : sheetOf rest .calls ≡ cs
-
--- Such is every input that hands in k and calls.
-hands-in : (input : List ℕ) (k : ℕ) (cs : List Asking) → handedIn input ≡ handed k cs → HandsIn input k cs
-unfolding handedIn byFirst handedBy if_then_else_
-hands-in input k cs = go (ltb most-input (length input)) refl
-  where
-    -- By the bytes before the first letter.
-    by-bytes : (j : ℕ) (rest : List ℕ) → length input ≤ most-input → firstLine input ≡ asks j rest → (before : List ℕ)
-        → handedBy j before (sheetOf rest .calls) ≡ handed k cs → HandsIn input k cs
-    by-bytes j rest short first [] e =
+    -- By what it hands in.
+    go : (h : Handed) → HandsIn input h → h ≡ handed k cs → (length input ≤ most-input) × (least-k ≤ k) × (k ≤ greatest-k) × (cs ≡ sheetOf (drop first-line-size input) .calls)
+    go _ (at-fault a) e = absurd (let z : _≡_ {A = ℕ} 0 1 = cc in omega arith)
+    go _ (opens j m l g i c) e =
         let same : j ≡ k = cc in
-        let left : sheetOf rest .calls ≡ cs = cc in
-        record { rest = rest; short = short; first = first ∙ ap (λ (n : ℕ). asks n rest) same; calls = left }
-    by-bytes j rest short first (b ∷ bs) e = let z : _≡_ {A = ℕ} 0 1 = cc in absurd (omega arith)
-
-    -- By the first line.
-    by-line : length input ≤ most-input → (f : FirstLine) → firstLine input ≡ f → byFirst f ≡ handed k cs → HandsIn input k cs
-    by-line short otherwise first e = let z : _≡_ {A = ℕ} 0 1 = cc in absurd (omega arith)
-    by-line short (asks j rest) first e = by-bytes j rest short first (sheetOf rest .before) e
-
-    -- By the length of the input.
-    go : (t : Bool) → ltb most-input (length input) ≡ t → (if t then faulty (answered too-large) else byFirst (firstLine input)) ≡ handed k cs
-        → HandsIn input k cs
-    go true l e = let z : _≡_ {A = ℕ} 0 1 = cc in absurd (omega arith)
-    go false l e = by-line (omega (arith, ltb-false most-input (length input) l)) (firstLine input) refl e
+        let calls : cs ≡ sheetOf (drop first-line-size input) .calls = cc in
+        (m, omega arith, omega arith, calls)
 
 -- The k that is handed in is allowed.
 pub allowed-k : (input : List ℕ) (k : ℕ) (cs : List Asking) → handedIn input ≡ handed k cs → (least-k ≤ k) × (k ≤ greatest-k)
-allowed-k input k cs e =
-    let h = hands-in input k cs e in
-    let w = first-says input k (h .rest) (h .first) .0 in
-    (leb-true least-k k (and-left _ _ w), leb-true k greatest-k (and-right _ _ w))
+allowed-k input k cs e = let h = handed-in input k cs e in (h .1, h .2)
 
 -- No more calls are handed in than an input may have bytes.
 pub few-calls : (input : List ℕ) (k : ℕ) (cs : List Asking) → handedIn input ≡ handed k cs → length cs ≤ most-input
 few-calls input k cs e =
-    let h = hands-in input k cs e in
-    omega (arith, h .short, first-says input k (h .rest) (h .first) .1, calls-within (h .rest), ap length (h .calls))
+    let h = handed-in input k cs e in
+    omega (arith, h .0, calls-within (drop first-line-size input), length-drop first-line-size input, ap length (h .3))
 
 -- ---- the calls that forms make
 

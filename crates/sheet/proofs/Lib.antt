@@ -3,3 +3,4 @@ pub mod Splitting
 pub mod Found
 pub mod Meaning
 pub mod Reasons
+pub mod Handing

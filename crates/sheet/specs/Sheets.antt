@@ -19,6 +19,16 @@ use Rattle.sheet.specs.declared.LineKind.the-variants.{Asks, Other}
 use Rattle.sheet.specs.declared.Front.{Front}
 use Rattle.sheet.specs.declared.Front.the-variants.{Fault, Opens}
 
+-- ---- sizes
+
+-- How many bytes line 1 takes: "K, space, one digit, LF".
+abbrev pub first-line-size : ℕ
+first-line-size = 4
+
+-- How many bytes a letter line takes.
+abbrev pub letter-line-size : ℕ
+letter-line-size = 2
+
 -- ---- letters
 
 -- K, the letter of the opening.
