@@ -169,7 +169,7 @@ pub fn check_sections(book: &[u16], places: Places) -> Answer
 pub fn check(book: &[u16]) -> Answer
     ensures { λ r. ⌜ r ≡ checkOf (now (book .entry)) ⌝ }
 {
-    match book::in_form(book) {
+    match look::in_form(book) {
         BookForm::Refused(number) => answered(number),
         BookForm::InForm(places) => check_sections(book, places),
     }

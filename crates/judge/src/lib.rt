@@ -175,7 +175,7 @@ fn judge_order(book: &[u16], places: Places, order: &[u16]) -> Answer
 pub fn judge(book: &[u16], order: &[u16]) -> Answer
     ensures { λ r. ⌜ r ≡ judgeOf (now (book .entry)) (now (order .entry)) ⌝ }
 {
-    match book::in_form(book) {
+    match look::in_form(book) {
         BookForm::Refused(number) => answered(number),
         BookForm::InForm(places) => judge_order(book, places, order),
     }

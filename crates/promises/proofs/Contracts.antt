@@ -34,7 +34,7 @@ use Rattle.cuts.proofs.cut_into as cut-into
 use Rattle.parts.proofs.part_into as part-into
 use Rattle.scan.proofs.read
 use Rattle.print.proofs.write
-use Rattle.book.proofs.in_form as in-form
+use Rattle.look.proofs.in_form as in-form
 use Rattle.book.proofs.open as book-open
 use Rattle.judge.proofs.judge
 use Rattle.teach.proofs.teach
@@ -58,8 +58,8 @@ use Rattle.scan.proofs.read.Statement as read-statement
 use Rattle.scan.proofs.read.Met as read-met
 use Rattle.print.proofs.write.Statement as write-statement
 use Rattle.print.proofs.write.Met as write-met
-use Rattle.book.proofs.in_form.Statement as in-form-statement
-use Rattle.book.proofs.in_form.Met as in-form-met
+use Rattle.look.proofs.in_form.Statement as in-form-statement
+use Rattle.look.proofs.in_form.Met as in-form-met
 use Rattle.book.proofs.open.Statement as book-open-statement
 use Rattle.book.proofs.open.Met as book-open-met
 use Rattle.judge.proofs.judge.Statement as judge-statement
@@ -125,7 +125,7 @@ module _ {M : Type 1} where
   pub write-meets : write-statement.statement M
   write-meets = write-met.met
 
-  -- `book::in_form`
+  -- `look::in_form`
   pub in-form-meets : in-form-statement.statement M
   in-form-meets = in-form-met.met
 
@@ -230,7 +230,7 @@ module _ {M : Type 1} (𝓤 : URA.URA M) (H : Wp.Heap 𝓤) (A : Atoms.Atoms �
       (c .ghost ≡ Unit {0}) × (c .requires g ≡ ⊤ₛ) × (c .ensures g r ≡ exits 𝓤 H A write.signature (write.ended .kept) κs args (λ end. ⌜ writing r (now (end .1 .0)) ≡ writeOf (now (args .0)) (now (args .1 .0)) ⌝))
   write-says κs args g r = (refl, refl, refl)
 
-  -- `book::in_form`
+  -- `look::in_form`
   pub in-form-says : (κs args g r : _) → let c = in-form.spec 𝓤 H A mem run κs args in
       (c .ghost ≡ Unit {0}) × (c .requires g ≡ ⊤ₛ) × (c .ensures g r ≡ exits 𝓤 H A in-form.signature (in-form.ended .kept) κs args (λ end. ⌜ r ≡ bookFormOf (now (args .0)) ⌝))
   in-form-says κs args g r = (refl, refl, refl)

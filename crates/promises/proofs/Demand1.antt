@@ -4,7 +4,7 @@
 -- That a call ends, reads and writes only within what it was lent and wraps no sum is the theorem of each function, which the prover checks before it
 -- passes a crate: proofs/Contracts.antt cites those of the public functions (`teach-meets` and the like), and shows that their contracts ask nothing
 -- and say just the equations that stand here (`teach-says` and the like). What is lent by `&` comes back as it was, by the same theorem: so
--- `order::check`, `cuts::subtree`, `book::in_form`, `judge::judge`, `agree::check` and `sheet::opening`, which are lent nothing to write, change nothing. Of what the others
+-- `order::check`, `cuts::subtree`, `look::in_form`, `judge::judge`, `agree::check` and `sheet::opening`, which are lent nothing to write, change nothing. Of what the others
 -- leave this file speaks. Assumes nothing.
 use Prim.Native.Nat.{ℕ, _<_}
 use mathlib.Core.Path.{_≡_, sym, ap, _∙_}
@@ -217,7 +217,7 @@ module _ (ws os text file out : List ℕ) (k line d : ℕ) where
   pub one-write : {r s : Written} {u v : List ℕ} → writing r u ≡ writeOf os out → writing s v ≡ writeOf os out → (r ≡ s) × (u ≡ v)
   one-write = two-writings
 
-  -- `book::in_form`
+  -- `look::in_form`
   pub one-form : {r s : BookForm} → r ≡ bookFormOf ws → s ≡ bookFormOf ws → r ≡ s
   one-form = same
 

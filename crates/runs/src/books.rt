@@ -56,7 +56,7 @@ fn places(places: Places) {
 }
 
 // Says what a look at a book's form gave.
-fn look(form: BookForm) {
+fn say_form(form: BookForm) {
     match form {
         BookForm::Refused(number) => {
             say::text(b"refused ");
@@ -74,7 +74,7 @@ fn form(rest: &[u8]) {
         say::not_understood();
         return;
     }
-    look(book::in_form(&words[0..n]));
+    say_form(look::in_form(&words[0..n]));
 }
 
 // A list without the space behind it, where there is one.

@@ -1,6 +1,6 @@
-// Runs the crates `order`, `cuts`, `parts`, `form`, `print`, `book`, `judge`, `teach` and `agree` on the cases that 01 wants run and compared. The cases
-// of orders are said in one line each; those of forms and books are lines of `stdin`, each said with what came of it behind it. `stdout` has what is
-// said.
+// Runs the crates `order`, `cuts`, `parts`, `form`, `print`, `book`, `look`, `judge`, `teach` and `agree` on the cases that 01 wants run and
+// compared. The cases of orders are said in one line each; those of forms and books are lines of `stdin`, each said with what came of it behind
+// it. `stdout` has what is said.
 mod books;
 mod cases;
 mod depths;

@@ -101,7 +101,7 @@ fn stored_number(words: &[u16], places: Places) -> u16
 fn read_words(words: &[u16], book: &mut [u16]) -> Answer
     ensures { λ r. ⌜ outcome r (now (book .exit)) ≡ readRestOf (bytesOf (now (words .entry))) (now (book .entry)) ⌝ }
 {
-    let BookForm::InForm(places) = book::in_form(words) else {
+    let BookForm::InForm(places) = look::in_form(words) else {
         return answered(numbers::NO_STORED_BOOK);
     };
     let number = stored_number(words, places);

@@ -64,7 +64,7 @@ fn withdraw_order(book: &mut [u16], places: Places, order: &[u16]) -> Answer
 pub fn teach(book: &mut [u16], order: &[u16]) -> Answer
     ensures { λ r. ⌜ outcome r (now (book .exit)) ≡ teachOf (now (book .entry)) (now (order .entry)) ⌝ }
 {
-    match book::in_form(book) {
+    match look::in_form(book) {
         BookForm::Refused(number) => answered(number),
         BookForm::InForm(places) => teach_order(book, places, order),
     }
@@ -74,7 +74,7 @@ pub fn teach(book: &mut [u16], order: &[u16]) -> Answer
 pub fn withdraw(book: &mut [u16], order: &[u16]) -> Answer
     ensures { λ r. ⌜ outcome r (now (book .exit)) ≡ withdrawOf (now (book .entry)) (now (order .entry)) ⌝ }
 {
-    match book::in_form(book) {
+    match look::in_form(book) {
         BookForm::Refused(number) => answered(number),
         BookForm::InForm(places) => withdraw_order(book, places, order),
     }

@@ -1,10 +1,10 @@
--- `book::head_right` meets its contract: each test that led to a return decides one part of `headOf`. Assumes nothing.
+-- `look::head_right` meets its contract: each test that led to a return decides one part of `headOf`. Assumes nothing.
 use mathlib.Core.Path.{sym, _∙_}
 use native.Mathlib.Omega.{arith}
 use borrow.Author.Needs.{needs}
 use Rattle.book.proofs.Runs.{head-live, head-used, head-zeros}
-use Rattle.book.proofs.head_right.Statement.{statement}
-use Rattle.book.proofs.head_right.Tie as tie
+use Rattle.look.proofs.head_right.Statement.{statement}
+use Rattle.look.proofs.head_right.Tie as tie
 
 shared-slice-read-says-live : tie.Need-shared-slice-read-says-live
 shared-slice-read-says-live c = search needs

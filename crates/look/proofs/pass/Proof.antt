@@ -1,4 +1,4 @@
--- `book::pass` meets its contract: each turn leaves what is to be found to the entries left, past the entry that it passed. Assumes nothing.
+-- `look::pass` meets its contract: each turn leaves what is to be found to the entries left, past the entry that it passed. Assumes nothing.
 use Prim.Native.Nat.{ℕ, _+_, _*_, _-_, _≤_}
 use mathlib.Core.Path.{_≡_, refl, sym, _∙_}
 use mathlib.Core.List.{List}
@@ -7,10 +7,10 @@ use lib.ListN.{length, take, drop}
 use borrow.Author.Tests.{not-true, not-false}
 use borrow.Author.Needs.{needs}
 use Rattle.figures.specs.Limits.{greatest-count}
 use Rattle.book.specs.Passes.{stretchOf, stretch}
 use Rattle.book.proofs.Runs.{Told, told, not-told, all-passed, runs-out, uncounted, misfit, unsorted, goes-on}
-use Rattle.book.proofs.pass.Statement.{statement}
-use Rattle.book.proofs.pass.Tie as tie
+use Rattle.look.proofs.pass.Statement.{statement}
+use Rattle.look.proofs.pass.Tie as tie
 
 -- The key passed last lies in the book, the sum is small enough, and what is to be found is found of the entries left.
 abbrev Inv-loop : tie.InvT-loop

@@ -1,4 +1,4 @@
--- `book::in_form` meets its contract: each test that led to a return decides the form, and each pass says where the next section starts.
+-- `look::in_form` meets its contract: each test that led to a return decides the form, and each pass says where the next section starts.
 -- Assumes nothing.
 use Prim.Native.Nat.{ℕ, _≤_}
 use mathlib.Core.Path.{refl, sym, _∙_}
@@ -9,11 +9,11 @@ use borrow.Author.Needs.{needs}
 use lib.ListN.{length}
 use Rattle.figures.specs.Limits.{head-words, most-book-words}
 use Rattle.figures.specs.declared.depths.Depth.{Depth}
 use Rattle.book.specs.declared.Section.the-variants.{Taught, Tops, Lows, Middles}
 use Rattle.book.proofs.Depths.{allowed, outside}
 use Rattle.book.proofs.Heads.{sized-by, size-told, Head, Ran, Sections, form-unsized, no-k, section-found, no-section, no-head, in-form-at}
-use Rattle.book.proofs.in_form.Statement.{statement}
-use Rattle.book.proofs.in_form.Tie as tie
+use Rattle.look.proofs.in_form.Statement.{statement}
+use Rattle.look.proofs.in_form.Tie as tie
 
 -- The slice has the size of a book.
 size : (c : tie.Else1) → (head-words ≤ length (c .before .before .before .args .book .now)) × (length (c .before .before .before .args .book .now) ≤ most-book-words)

@@ -1,11 +1,11 @@
--- `book::whole_at` meets its contract: each test that led to a return decides whether all the entry's words are there. Assumes nothing.
+-- `look::whole_at` meets its contract: each test that led to a return decides whether all the entry's words are there. Assumes nothing.
 use Prim.Native.Nat.{_+_}
 use mathlib.Core.Path.{sym}
 use native.Mathlib.Omega.{arith}
 use borrow.Author.Needs.{needs}
 use Rattle.book.proofs.Runs.{not-whole, whole}
-use Rattle.book.proofs.whole_at.Statement.{statement}
-use Rattle.book.proofs.whole_at.Tie as tie
+use Rattle.look.proofs.whole_at.Statement.{statement}
+use Rattle.look.proofs.whole_at.Tie as tie
 
 returns : tie.Need-returns
 returns c = sym (not-whole _ _ (omega arith))

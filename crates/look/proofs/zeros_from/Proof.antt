@@ -1,13 +1,13 @@
--- `book::zeros_from` meets its contract: each turn leaves the question to the words from `i` on. Assumes nothing.
+-- `look::zeros_from` meets its contract: each turn leaves the question to the words from `i` on. Assumes nothing.
 use Prim.Native.Nat.{_-_}
 use mathlib.Core.Path.{_≡_, sym, _∙_}
 use native.Mathlib.Omega.{arith}
 use lib.ListN.{length, drop}
 use borrow.Author.Needs.{needs}
 use Rattle.book.specs.Passes.{zeros}
 use Rattle.book.proofs.Runs.{zeros-not, zeros-on, zeros-end}
-use Rattle.book.proofs.zeros_from.Statement.{statement}
-use Rattle.book.proofs.zeros_from.Tie as tie
+use Rattle.look.proofs.zeros_from.Statement.{statement}
+use Rattle.look.proofs.zeros_from.Tie as tie
 
 -- What is asked of all the words is still to be asked of those from `i` on.
 abbrev Inv-loop : tie.InvT-loop
