@@ -1,5 +1,5 @@
-// The desk's run on what a file descriptor holds: the input is read, each call is one step, and the line of each is printed before the next. Assumes
-// nothing beyond each inner function's `requires`.
+// The desk's run on what a file descriptor holds: the input is read, each call is one step, and the line of each is printed before the next. Assumes what
+// the kit assumes of C's functions, and nothing else.
 use figures::limits;
 use libc::STDOUT_FILENO;
 use reply::REPLY_ROOM;
