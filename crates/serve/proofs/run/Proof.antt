@@ -1,16 +1,18 @@
--- `serve::run` ends: its loop is a run of the desk, and each step takes some of the input. Assumes nothing.
+-- `serve::run` ends: its loop is a run of the desk, whose last line is the one to be printed, and each step takes some of the input. Assumes nothing.
 use Prim.Native.Nat.{_+_, _-_, _<_, _≤_}
 use mathlib.Core.Path.{_≡_, refl, sym, _∙_}
 use native.Mathlib.Omega.{arith}
 use lib.ListN.{length}
 use lib.Seq.{length-take-le}
-use Rattle.serve.proofs.Serving.{Reached, reached-first, reached-next, reached-on}
+use Rattle.figures.specs.Limits.{desk-book-words}
+use Rattle.reply.specs.Replies.{reply-room}
+use Rattle.serve.proofs.Serving.{Reached, reached-first, reached-fits, reached-next, reached-on}
 use borrow.Author.Needs.{needs}
 use Rattle.serve.proofs.run.Statement.{statement}
 use Rattle.serve.proofs.run.Tie as tie
 
 abbrev Inv-loop : tie.InvT-loop
-Inv-loop input book₀ line₀ at₀ count₀ book line n count = (length book ≡ 8192) × (length line ≡ 65) × Reached input n book line count
+Inv-loop input book₀ line₀ at₀ count₀ book line n count = (length book ≡ desk-book-words) × (length line ≡ reply-room) × Reached input n book line count
 
 abbrev μ-loop : tie.MeasureT-loop
 μ-loop input book₀ line₀ at₀ count₀ book line n count = length input - n
@@ -30,10 +32,10 @@ loop-holds c =
     (b .kept .1 .0, b .kept .1 .1 .0, reached-first _ _ _ _ _ _ refl (omega arith) (b .ensures))
 
 array-share-prefix-line : tie.Need-array-share-prefix-line Inv-loop μ-loop
-array-share-prefix-line c = omega (arith, c .loop .inv .2 .fits, c .loop .inv .1)
+array-share-prefix-line c = omega (arith, reached-fits (c .loop .inv .2), c .loop .inv .1)
 
 slice-aggregate-write-all : tie.Need-slice-aggregate-write-all Inv-loop μ-loop
-slice-aggregate-write-all c = sym (length-take-le _ _ (c .before .loop .inv .2 .fits))
+slice-aggregate-write-all c = sym (length-take-le _ _ (reached-fits (c .before .loop .inv .2)))
 
 write-all-requires : tie.Need-write-all-requires Inv-loop μ-loop
 write-all-requires c κs = search needs
