@@ -21,7 +21,7 @@ linesFor (c ∷ cs) book = lineFor (letterByte (c .letter)) (callOf c book) ++ l
 
 -- ---- all that is printed
 
--- "one line for the opening, with letter K, and one for each form", on a book in that slice; by a fault, "that line is then the whole output".
+-- "one line for the opening, with letter K, and one for each form", on a book in that slice. By a fault: "That line is then the whole output."
 unfoldable pub printedFor : Handed → List ℕ → List ℕ
 printedFor (faulty a) slice = reply letter-K a 0
 printedFor (handed k calls) slice = lineFor letter-K (openOf slice k) ++ linesFor calls (openOf slice k .words)

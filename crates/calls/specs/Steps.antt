@@ -22,11 +22,11 @@ pub record Stepping : Type 0 where
   pub book : List ℕ
   pub out : List ℕ
 
--- They as a step has them.
+-- A step's answer, the book and the output, put together.
 abbrev pub stepping : Printed → List ℕ → List ℕ → Stepping
 stepping s book out = record { step = s; book = book; out = out }
 
--- Nothing is done: nothing is taken of the input, and no line is given.
+-- Nothing is done, since the output is too short or no letter line stands in front: nothing is taken of the input, and no line is given.
 abbrev pub idle : List ℕ → List ℕ → Stepping
 idle book out = stepping (record { taken = 0; count = 0 }) book out
 

@@ -66,7 +66,7 @@ fn letter_of(b: u8) -> LineKind
     }
 }
 
-// Whether a letter line stands at `at`, where a line starts, and what it asks for.
+// What the line at `at` asks for, if it is a letter line; it is read as if a line started there.
 pub fn letter_at(text: &[u8], at: usize) -> LineKind
     requires { ⌜ at ≤ length (now text) ⌝ }
     ensures { λ r. ⌜ r ≡ letterAt (drop at (now (text .entry))) ⌝ }
@@ -80,7 +80,7 @@ pub fn letter_at(text: &[u8], at: usize) -> LineKind
     letter_of(text[at])
 }
 
-// Where the form that starts at `from` ends: at the next letter line, or at the end of the text.
+// Where the form that starts at `from` ends: at the next letter line, or at the end of the text. A line starts at `from`.
 pub fn form_end(text: &[u8], from: usize) -> usize
     requires { ⌜ from ≤ length (now text) ⌝ }
     ensures { λ r. ⌜ r ≡ from + sizeTo true (drop from (now (text .entry))) ⌝ }
