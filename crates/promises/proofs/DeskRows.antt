@@ -1,12 +1,14 @@
--- The run that 01 prints for the desk, byte by byte, and rows for its faults, all computed. The desk's slice of 8,192 words is not: a book in form that is
--- laid in a slice is gone by alone, so that its steps are computed on small books. Assumes nothing.
-use Prim.Native.Nat.{ℕ, _≤_, _<_}
-use mathlib.Core.Path.{_≡_, refl, ap, ap₂, _∙_}
+-- The run that 01 prints for the desk, byte by byte, the lines of its opening and of its faults, and rows for these, all computed. The desk's slice of
+-- 8,192 words is not: a book in form that is laid in a slice is gone by alone, so that its steps are computed on small books. Assumes nothing.
+use Prim.Native.Nat.{ℕ, suc, _≤_, _<_}
+use mathlib.Core.Path.{_≡_, refl, sym, ap, ap₂, _∙_}
 use mathlib.Core.Bool.{true}
 use mathlib.Core.List.{List, [], _∷_, _++_}
+use native.Mathlib.Decide.{decLt}
 use native.Mathlib.Omega.{arith}
 use borrow.Author.Tests.{lt-ltb}
-use lib.ListN.{length}
+use lib.ListN.{length, take}
+use lib.Seq.{take-all, length-take-le}
 use Rattle.words.specs.Base.{if_then_else_}
 use Rattle.figures.specs.Limits.{head-words, most-book-words, desk-book-words, least-k, greatest-k, most-input}
 use Rattle.figures.specs.Numbers.{done, too-large, k-outside, no-form}
@@ -32,14 +34,15 @@ use Rattle.section.specs.Entries.{has}
 use Rattle.effects.specs.Conditions.{BookAndOrder}
 use Rattle.effects.proofs.Calling.{words-are, teach-does, withdraw-does}
 use Rattle.reply.specs.Replies.{reply}
-use Rattle.sheet.specs.Sheets.{letter-K, letterByte, Call, faulty, handed, handedIn}
+use Rattle.sheet.specs.Sheets.{letter-K, letterByte, Call, faulty, handed, handedIn, openingOf}
+use Rattle.sheet.specs.declared.Front.the-variants.{Fault}
 use Rattle.sheet.specs.declared.Letter.{Letter}
 use Rattle.sheet.specs.declared.Letter.the-variants.{Teach, Withdraw, Judge}
 use Rattle.ask.specs.Asking.{askOf, callOf}
-use Rattle.calls.specs.Desk.{lineFor, linesFor, printedFor, deskOf}
+use Rattle.calls.specs.Desk.{lineFor, linesFor, deskOf}
 use Rattle.promises.specs.Heard.{A}
 use Rattle.promises.proofs.Handing.{asks-order}
-use Rattle.promises.proofs.AtTheDesk.{blank, blank-long, first-line-printed}
+use Rattle.promises.proofs.AtTheDesk.{blank, blank-long, fault-alone, first-line-printed}
 use Rattle.promises.proofs.Computed.{computes, desk-computes}
 
 -- ---- books in a slice
@@ -250,11 +253,16 @@ run-lines n enough short =
     (line-then n _ _ (lay n bookA) _ bookNone _ _ withdraw-A (said .2)
     (line-then n _ _ (lay n bookNone) _ bookNone _ _ judge-A (said .3) (no-lines (lay n bookNone)))))
 
+-- An input without fault prints "K 0 0 7" LF first, and then the lines of its forms on the opened book.
+pub opening-printed : (input : List ℕ) (k : ℕ) (cs : List Call) → handedIn input ≡ handed k cs → deskOf input ≡ says-K ++ linesFor cs (openOf blank k .words)
+opening-printed input k cs is =
+    first-line-printed input k cs is ∙ ap (λ (l : List ℕ). l ++ linesFor cs (openOf blank k .words)) (said .4)
+
 -- "the input K 3, T A, J (A with 0016 for 0010), W A, J A prints exactly" these lines.
 pub printed-run : deskOf printedInput ≡ printedOutput
 printed-run =
-    first-line-printed printedInput 3 printedCalls hands-in-printed
-    ∙ ap₂ (λ (x y : List ℕ). x ++ y) (said .4)
+    opening-printed printedInput 3 printedCalls hands-in-printed
+    ∙ ap (λ (l : List ℕ). says-K ++ l)
     (ap (linesFor printedCalls) (desk-opened 3 (omega arith) (omega arith)) ∙ run-lines desk-book-words (omega arith) (omega arith))
 
 -- ---- the first line alone, and a form of no bytes
@@ -263,7 +271,7 @@ printed-run =
 pub opening-alone : deskOf line-K ≡ says-K
 opening-alone =
     let is : handedIn line-K ≡ handed 3 [] = unfold desk-computes in refl in
-    first-line-printed line-K 3 [] is ∙ ap₂ (λ (x y : List ℕ). x ++ y) (said .4) (no-lines (openOf blank 3 .words))
+    opening-printed line-K 3 [] is ∙ ap (λ (l : List ℕ). says-K ++ l) (no-lines (openOf blank 3 .words))
 
 -- A form of no bytes.
 abbrev no-bytes : Call
@@ -284,17 +292,17 @@ no-bytes-printed =
     let is : handedIn (line-K ++ line-T) ≡ handed 3 (no-bytes ∷ []) = unfold desk-computes in refl in
     let says : reply (letterByte Teach) (record { number = no-form; line = 1 }) (used bookNone) ≡ says-T-10 = unfold desk-computes in refl in
     let n : ℕ = desk-book-words in
-    first-line-printed (line-K ++ line-T) 3 (no-bytes ∷ []) is
-    ∙ ap₂ (λ (x y : List ℕ). x ++ y) (said .4)
+    opening-printed (line-K ++ line-T) 3 (no-bytes ∷ []) is
+    ∙ ap (λ (l : List ℕ). says-K ++ l)
     (ap (linesFor (no-bytes ∷ [])) (desk-opened 3 (omega arith) (omega arith))
     ∙ line-then n no-bytes [] (lay n bookNone) _ bookNone _ _ (no-bytes-refused (lay n bookNone)) says (no-lines (lay n bookNone)))
 
 -- ---- the three faults
 
--- "That line is then the whole output."
-fault-printed : (input : List ℕ) (a : Answer) → handedIn input ≡ faulty a → deskOf input ≡ reply letter-K a 0
-unfolding deskOf printedFor
-fault-printed input a e = rw e
+-- What is handed in at fault is the fault of the opening.
+front-fault : (input : List ℕ) (a : Answer) → handedIn input ≡ faulty a → openingOf input ≡ Fault a
+unfolding openingOf
+front-fault input a e = rw e
 
 -- "K 2 0 0" LF
 abbrev says-2 : List ℕ
@@ -322,7 +330,26 @@ long-faulty input h = rw (lt-ltb most-input (length input) h)
 
 -- "longer input prints "K 2 0 0""
 pub too-long : (input : List ℕ) → most-input < length input → deskOf input ≡ says-2
-too-long input h = fault-printed input (answered too-large) (long-faulty input h) ∙ faults-said .0
+too-long input h = let a : Answer = answered too-large in fault-alone input a (front-fault input a (long-faulty input h)) ∙ faults-said .0
+
+-- "a first line otherwise spelt, no input, or k out of range, "K 3 0 0""
+pub otherwise-printed : (input : List ℕ) → openingOf input ≡ Fault (answered k-outside) → deskOf input ≡ says-3
+otherwise-printed input e = fault-alone input (answered k-outside) e ∙ faults-said .1
+
+-- "bytes between line 1 and the first letter, or bytes and no letter, "K 10 2 0""
+pub stray-printed : (input : List ℕ) → openingOf input ≡ Fault (record { number = no-form; line = 2 }) → deskOf input ≡ says-10
+stray-printed input e = fault-alone input (record { number = no-form; line = 2 }) e ∙ faults-said .2
+
+-- What stands behind the first 32,769 bytes does not matter.
+pub longer-alike : (s : List ℕ) → deskOf (take (suc most-input) s) ≡ deskOf s
+longer-alike s = go most-input refl
+  where
+    -- By whether there are more bytes than allowed.
+    go : (n : ℕ) → n ≡ most-input → deskOf (take (suc n) s) ≡ deskOf s
+    go n e = elim (decLt n (length s)) [
+      | yes h ↦ too-long (take (suc n) s) (omega (arith, length-take-le (suc n) s (omega arith))) ∙ sym (too-long s (omega arith))
+      | no h ↦ ap deskOf (take-all (suc n) s (omega arith))
+    ]
 
 -- "K 7" LF
 abbrev line-K-7 : List ℕ
@@ -339,7 +366,7 @@ handed-faults = (refl, refl, refl)
 -- "K 3" LF "0 1000" LF.
 pub faults : (deskOf [] ≡ says-3) × (deskOf line-K-7 ≡ says-3) × (deskOf (line-K ++ top-1000) ≡ says-10)
 faults = (
-  fault-printed [] _ (handed-faults .0) ∙ faults-said .1,
-  fault-printed line-K-7 _ (handed-faults .1) ∙ faults-said .1,
-  fault-printed (line-K ++ top-1000) _ (handed-faults .2) ∙ faults-said .2,
+  otherwise-printed [] (front-fault [] _ (handed-faults .0)),
+  otherwise-printed line-K-7 (front-fault line-K-7 _ (handed-faults .1)),
+  stray-printed (line-K ++ top-1000) (front-fault (line-K ++ top-1000) _ (handed-faults .2)),
 )
