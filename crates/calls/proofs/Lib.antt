@@ -1,4 +1,4 @@
--- What the proofs of several functions use, and the laws: that runs print what the desk prints, and how many lines that is.
+-- What the proofs of several functions use, and the laws: that runs print what the desk prints, how many lines that is, and what a step answers.
 pub mod Runs
 pub mod Lines
-mod Steps
+pub mod Steps

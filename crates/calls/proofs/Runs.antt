@@ -8,7 +8,7 @@ use native.Mathlib.Omega.{arith}
 use borrow.Author.Tests.{le-ltb}
 use lib.Dec.{ltb}
 use lib.ListN.{length, take, drop, replicate, length-append, length-drop, length-replicate, drop-of-length-le}
-use lib.Seq.{take-append-seam, drop-drop}
+use lib.Seq.{take-append-seam, drop-append-seam, drop-drop}
 use Rattle.words.specs.Base.{_and_, if_then_else_, over, within}
 use Rattle.figures.specs.Limits.{head-words, least-k, greatest-k, most-book-words, desk-book-words}
 use Rattle.figures.specs.Numbers.{done}
@@ -65,6 +65,33 @@ step-within left book out = go (ltb (length out) reply-room) (sheetOf left .befo
     go false (b ∷ bs) cs = omega arith
     go false [] [] = omega arith
     go false [] (c ∷ cs) = line-within (letter-line-size + length (c .text)) (lineFor (letterByte (c .letter)) (callOf c book)) (callOf c book .words) out
+
+-- Behind a line that is written to the front of an output its bytes stay.
+line-behind : (taken : ℕ) (line book out : List ℕ) → let s = gives taken line book out in drop (s .step .count) (s .out) ≡ drop (s .step .count) out
+line-behind taken line book out = drop-append-seam line (drop (length line) out)
+
+-- Behind the line of the first step the bytes of the output stay.
+pub begin-behind : (input book out : List ℕ) → let s = beginOf input book out in drop (s .step .count) (s .out) ≡ drop (s .step .count) out
+unfolding beginOf begunBy if_then_else_
+begin-behind input book out = go (ltb (length out) reply-room) (handedIn input)
+  where
+    -- By the room for it and what is handed in.
+    go : (t : Bool) (h : Handed) → let s = if t then idle book out else begunBy (length input) h book out in drop (s .step .count) (s .out) ≡ drop (s .step .count) out
+    go true h = refl
+    go false (faulty a) = line-behind (length input) (reply letter-K a 0) book out
+    go false (handed k cs) = line-behind first-line-size (lineFor letter-K (openOf book k)) (openOf book k .words) out
+
+-- So they do behind that of a later step.
+pub step-behind : (left book out : List ℕ) → let s = stepOf left book out in drop (s .step .count) (s .out) ≡ drop (s .step .count) out
+unfolding stepOf steppedBy if_then_else_
+step-behind left book out = go (ltb (length out) reply-room) (sheetOf left .before) (sheetOf left .calls)
+  where
+    -- By the room for it and the calls that are left.
+    go : (t : Bool) (bs : List ℕ) (cs : List Call) → let s = if t then idle book out else steppedBy bs cs book out in drop (s .step .count) (s .out) ≡ drop (s .step .count) out
+    go true bs cs = refl
+    go false (b ∷ bs) cs = refl
+    go false [] [] = refl
+    go false [] (c ∷ cs) = line-behind (letter-line-size + length (c .text)) (lineFor (letterByte (c .letter)) (callOf c book)) (callOf c book .words) out
 
 -- Where no calls are left, no lines are.
 none-left : (input : List ℕ) (n : ℕ) (book : List ℕ) → length input ≤ n → linesFor (sheetOf (drop n input) .calls) book ≡ []

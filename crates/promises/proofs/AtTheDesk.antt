@@ -13,7 +13,7 @@ use native.Mathlib.Omega.{arith}
 use lib.ListN.{length, length-append, length-replicate, getD, replicate}
 use Rattle.words.specs.Base.{if_then_else_}
 use Rattle.figures.specs.Limits.{head-words, desk-book-words, least-k, greatest-k, greatest-count, used-word}
-use Rattle.figures.specs.Numbers.{done, top-unknown, low-unknown, middle-unknown}
+use Rattle.figures.specs.Numbers.{done, no-room, not-taught, top-unknown, low-unknown, middle-unknown}
 use Rattle.figures.specs.Answers.{answered}
 use Rattle.figures.specs.declared.Answer.{Answer}
 use Rattle.section.specs.Entries.{has}
@@ -104,7 +104,7 @@ fault-alone input a e = go (handedIn input) refl
     go (faulty b) q = let same : b ≡ a = cc in rw (q, same)
     go (handed k cs) q = absurd (let z : _≡_ {A = ℕ} 0 1 = cc in omega arith)
 
--- "A refusal, and every judgement, leaves" the book as it came: a form that is answered by another number than 0, and every form below J.
+-- "A refusal" leaves the book as it came: so does a form that is answered by another number than 0.
 pub desk-leaves : (c : Asking) (book : List ℕ) → (callOf c book .answer .number ≡ done → ⊥) → callOf c book .words ≡ book
 unfolding callOf byForm askOf
 desk-leaves c book r = go (formOf (c .text)) (c .letter) refl refl
@@ -198,6 +198,59 @@ module _ (input : List ℕ) (k : ℕ) (cs : List Asking) (is : handedIn input �
         let e : callOf (record { letter = Judge; text = textOf t }) desk-book .answer .number ≡ judgeOf desk-book (words t) .number =
         number-is (asks-order Judge t o desk-book) in
         (λ z. p .0 (sym e ∙ z), λ m. e ∙ p .1 m)
+
+    -- Teaching and withdrawing by a form: one with an order's text is answered as the call on the book after the calls that were made.
+    module _ (t : Tree) (o : IsOrder (words t) t) where
+      -- A form T.
+      teaching-is : callOf (record { letter = Teach; text = textOf t }) desk-book .answer .number
+          ≡ teachOf (after (madeBy front) opened) (words t) .answer .number
+      unfolding askOf
+      teaching-is =
+          number-is (asks-order Teach t o desk-book)
+          ∙ ap (λ (ws : List ℕ). teachOf ws (words t) .answer .number) (book-after front opened)
+
+      -- A form W.
+      withdrawing-is : callOf (record { letter = Withdraw; text = textOf t }) desk-book .answer .number
+          ≡ withdrawOf (after (madeBy front) opened) (words t) .answer .number
+      unfolding askOf
+      withdrawing-is =
+          number-is (asks-order Withdraw t o desk-book)
+          ∙ ap (λ (ws : List ℕ). withdrawOf ws (words t) .answer .number) (book-after front opened)
+
+    -- A form T of an order's text is answered by 0 exactly if fewer than 65,535 orders remain and the book of these with this one more has room in
+    -- the slice: neither "live teachings or a touched count would pass 65,535" nor "the result needs more words than the book slice has".
+    pub desk-taught : (t : Tree) → IsOrder (words t) t
+        → (callOf (record { letter = Teach; text = textOf t }) desk-book .answer .number ≡ done)
+        exactly-when ((length desk-orders < greatest-count) × (used (booked k (words t ∷ desk-orders)) ≤ desk-book-words))
+    desk-taught t o =
+        let p = taught-exactly (opening k) blank starts (madeBy front) (words t) t o in
+        let e = teaching-is t o in
+        (λ z. let q = p .0 (sym e ∙ z) in (q .0, omega (arith, q .1, blank-long)), λ q. e ∙ p .1 (q .0, omega (arith, q .1, blank-long)))
+
+    -- It is answered by 6 exactly if fewer than 65,535 orders remain and "the result needs more words than the book slice has".
+    pub desk-no-room : (t : Tree) → IsOrder (words t) t
+        → (callOf (record { letter = Teach; text = textOf t }) desk-book .answer .number ≡ no-room)
+        exactly-when ((length desk-orders < greatest-count) × (desk-book-words < used (booked k (words t ∷ desk-orders))))
+    desk-no-room t o =
+        let p = refused-by-6 (opening k) blank starts (madeBy front) (words t) t o in
+        let e = teaching-is t o in
+        (λ z. let q = p .0 (sym e ∙ z) in (q .0, omega (arith, q .1, blank-long)), λ q. e ∙ p .1 (q .0, omega (arith, q .1, blank-long)))
+
+    -- A form W of an order's text is answered by 0 exactly if such an order remains,
+    pub desk-withdrawn : (t : Tree) → IsOrder (words t) t
+        → (callOf (record { letter = Withdraw; text = textOf t }) desk-book .answer .number ≡ done) exactly-when (1 ≤ timesOf (words t) desk-orders)
+    desk-withdrawn t o =
+        let p = withdrawn-exactly (opening k) blank starts (madeBy front) (words t) t o in
+        let e = withdrawing-is t o in
+        (λ z. p .0 (sym e ∙ z), λ q. e ∙ p .1 q)
+
+    -- and by 8, "order has no entry in T", exactly if none does.
+    pub desk-not-taught : (t : Tree) → IsOrder (words t) t
+        → (callOf (record { letter = Withdraw; text = textOf t }) desk-book .answer .number ≡ not-taught) exactly-when (timesOf (words t) desk-orders ≡ 0)
+    desk-not-taught t o =
+        let p = refused-by-8 (opening k) blank starts (madeBy front) (words t) t o in
+        let e = withdrawing-is t o in
+        (λ z. p .0 (sym e ∙ z), λ q. e ∙ p .1 q)
 
     -- Fewer than 65,535 orders remain of forms that have one behind them: each takes a byte of the input at least.
     fewer-remain : (c : Asking) (back : List Asking) → cs ≡ front ++ (c ∷ back) → length desk-orders < greatest-count

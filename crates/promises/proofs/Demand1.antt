@@ -6,9 +6,14 @@
 -- and say just the equations that stand here (`teach-says` and the like). What is lent by `&` comes back as it was, by the same theorem: so
 -- `order::check`, `cuts::subtree`, `look::in_form`, `judge::judge`, `agree::check` and `sheet::opening`, which are lent nothing to write, change nothing. Of what the others
 -- leave this file speaks. Assumes nothing.
-use Prim.Native.Nat.{ℕ, _<_}
-use mathlib.Core.Path.{_≡_, sym, ap, _∙_}
+use Prim.Native.Nat.{ℕ, _≤_, _<_}
+use mathlib.Core.Path.{_≡_, refl, sym, ap, _∙_}
+use mathlib.Core.Bool.{Bool, true, false}
 use mathlib.Core.List.{List}
+use native.Mathlib.Omega.{arith}
+use lib.Dec.{ltb}
+use lib.ListN.{length, drop}
+use Rattle.words.specs.Base.{if_then_else_}
 use Rattle.figures.specs.Numbers.{done, too-large, no-form, top-unknown}
 use Rattle.figures.specs.Answers.{depthOf}
 use Rattle.figures.specs.declared.depths.Asked.{Asked}
@@ -32,12 +37,18 @@ use Rattle.effects.proofs.Whys.{teach-why, teach-only, withdraw-why, withdraw-o
 use Rattle.effects.proofs.Conditions.{teach-refusal-leaves, withdraw-refusal-leaves, teach-line, withdraw-line}
 use Rattle.agree.specs.Checking.{checkOf as agreesOf}
 use Rattle.store.specs.Files.{writeFileOf, readFileOf}
-use Rattle.sheet.specs.Sheets.{openingOf}
+use Rattle.reply.specs.Replies.{reply-room}
+use Rattle.sheet.specs.Sheets.{Handed, faulty, handed, handedIn, openingBy, openingOf}
+use Rattle.sheet.specs.Places.{letterAt}
 use Rattle.sheet.specs.Whys.{WhyFront}
 use Rattle.sheet.specs.declared.Front.{Front}
+use Rattle.sheet.specs.declared.Front.the-variants.{Fault}
+use Rattle.sheet.specs.declared.LineKind.the-variants.{Other}
 use Rattle.sheet.proofs.Reasons.{opening-why, opening-only}
-use Rattle.calls.specs.Steps.{Stepping, stepping, beginOf, stepOf}
+use Rattle.calls.specs.Steps.{Stepping, stepping, idle, begunBy, beginOf, stepOf}
 use Rattle.calls.specs.declared.Printed.{Printed}
+use Rattle.calls.proofs.Runs.{begin-behind, step-behind}
+use Rattle.calls.proofs.Steps.{begin-short, step-short, step-other}
 use Rattle.promises.specs.Whys.{WhyNumbered, WhySubtree, WhyCut, WhyPart, WhyDepth, WhyOpened, WhyChecked, WhyPrinted, WhyRead, WhyFiled, WhyRestored}
 use Rattle.promises.proofs.Whys.{depth-why, depth-only, opened-why, opened-only, printed-why, printed-only, read-why, read-only}
 use Rattle.promises.proofs.PartWhys.{numbered-why, numbered-only, subtree-why, subtree-only, cut-why, cut-only, part-why, part-only}
@@ -309,3 +320,37 @@ module _ (ws os text file out : List ℕ) (k line d : ℕ) where
   pub part-leaves : (partIntoOf os line k out .answer .written .number ≡ done → ⊥)
       → (partIntoOf os line k out .out ≡ out) × (partIntoOf os line k out .answer .written .count ≡ 0)
   part-leaves = part-refusal-leaves os out line k
+
+-- A step at the desk prints a refusal's line to the front of the output: the words of the book's slice stay by a fault, as they do by a form that is
+-- refused (`desk-leaves`, proofs/AtTheDesk.antt); a step that prints no line leaves all, and one that does the bytes behind its line.
+module _ (ws text out : List ℕ) where
+  -- `calls::begin`: by a fault the words of the book's slice stay.
+  pub begin-leaves : (a : Answer) → openingOf text ≡ Fault a → beginOf text ws out .book ≡ ws
+  unfolding openingOf beginOf begunBy if_then_else_
+  begin-leaves a = go (ltb (length out) reply-room) (handedIn text)
+    where
+      -- By the room for a line and what is handed in.
+      go : (t : Bool) (h : Handed) → openingBy h ≡ Fault a → (if t then idle ws out else begunBy (length text) h ws out) .book ≡ ws
+      go true h e = refl
+      go false (faulty b) e = refl
+      go false (handed j cs) e = absurd (let z : _≡_ {A = ℕ} 0 1 = cc in omega arith)
+
+  -- Where the output has no room for a line, nothing is done: nothing is taken of the input, and the book's slice and the output stay.
+  pub begin-idle : length out < reply-room → beginOf text ws out ≡ idle ws out
+  begin-idle h = sym (begin-short text ws out h)
+
+  -- `calls::step`: so it is then too,
+  pub step-idle : length out < reply-room → stepOf text ws out ≡ idle ws out
+  step-idle h = sym (step-short text ws out h)
+
+  -- and where no letter line stands in front.
+  pub step-other-idle : reply-room ≤ length out → letterAt text ≡ Other → stepOf text ws out ≡ idle ws out
+  step-other-idle h e = sym (step-other text ws out h e)
+
+  -- The bytes of the output behind the line that `calls::begin` gives stay,
+  pub begin-tail : drop (beginOf text ws out .step .count) (beginOf text ws out .out) ≡ drop (beginOf text ws out .step .count) out
+  begin-tail = begin-behind text ws out
+
+  -- and those behind the line that `calls::step` gives.
+  pub step-tail : drop (stepOf text ws out .step .count) (stepOf text ws out .out) ≡ drop (stepOf text ws out .step .count) out
+  step-tail = step-behind text ws out
