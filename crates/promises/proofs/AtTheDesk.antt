@@ -143,7 +143,7 @@ module _ (input : List ℕ) (k : ℕ) (cs : List Asking) (is : handedIn input �
   opens-by-0 = opening-done blank k (omega (arith, blank-long)) (omega (arith, blank-long)) (handed-k .0) (handed-k .1)
 
   -- So a run of demand 3 starts with it.
-  starts : openOf blank k .answer .number ≡ done
+  pub starts : openOf blank k .answer .number ≡ done
   starts = ap (λ (a : Answer). a .number) opens-by-0
 
   -- All that is printed is the line of the opening and those of the forms on the opened book.

@@ -22,6 +22,7 @@ pub mod Demand1
 pub mod Demand2
 pub mod Demand3
 pub mod AtTheDesk
+pub mod DeskFigures
 pub mod Uniqueness
 pub mod Impostors
 mod Rows
