@@ -9,7 +9,7 @@ use borrow.Author.Tests.{le-ltb}
 use lib.Dec.{ltb}
 use lib.ListN.{length, take, drop, replicate, length-append, length-drop, length-replicate, drop-of-length-le}
 use lib.Seq.{take-append-seam, drop-append-seam, drop-drop}
-use Rattle.words.specs.Base.{_and_, if_then_else_, over, within}
+use Rattle.words.specs.Base.{if_then_else_, over}
 use Rattle.figures.specs.Limits.{head-words, least-k, greatest-k, most-book-words, desk-book-words}
 use Rattle.figures.specs.Numbers.{done}
 use Rattle.figures.specs.Answers.{answered}
@@ -18,7 +18,7 @@ use Rattle.book.specs.Taught.{bookOf}
 use Rattle.book.specs.Opening.{Outcome, outcome, openOf}
 use Rattle.book.proofs.Openings.{opened}
 use Rattle.reply.specs.Replies.{reply, reply-room}
-use Rattle.sheet.specs.Sheets.{first-line-size, letter-line-size, letter-K, letterByte, Call, sheetOf, asks, Handed, faulty, handed, handedIn}
+use Rattle.sheet.specs.Sheets.{first-line-size, letter-line-size, letter-K, letterByte, Call, sheetOf, Handed, faulty, handed, handedIn}
 use Rattle.sheet.specs.Places.{letterAt, sizeTo}
 use Rattle.sheet.specs.declared.Letter.{Letter}
 use Rattle.sheet.specs.declared.LineKind.{LineKind}

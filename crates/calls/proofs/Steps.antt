@@ -13,7 +13,6 @@ use Rattle.book.specs.Opening.{Outcome, outcome, openOf}
 use Rattle.reply.specs.Replies.{reply, reply-room}
 use Rattle.sheet.specs.Sheets.{first-line-size, letter-line-size, letter-K, letterByte, Call, sheetOf, Handed, faulty, handed, handedIn, openingBy, openingOf}
 use Rattle.sheet.specs.Places.{letterAt, sizeTo}
-use Rattle.sheet.specs.declared.Front.{Front}
 use Rattle.sheet.specs.declared.Front.the-variants.{Fault, Opens}
 use Rattle.sheet.specs.declared.Letter.{Letter}
 use Rattle.sheet.specs.declared.LineKind.the-variants.{Asks, Other}

@@ -1,7 +1,7 @@
 -- What the desk prints, by demands 2 and 3 (01, "Forms on the desk"): one line for the opening, which is done, and one for each form, which is its answer
 -- on the book as the forms before it left it. That book holds exactly the orders that remain of those forms, the words used that are printed are its
--- own, an order passes exactly if it is made of parts of these orders, and no form is answered by another number than 0, 2 and 10, below T 6, below W 8,
--- and below J 20, 21 and 22. By a fault its line is all that is printed.
+-- own, an order passes exactly if it is made of parts of these orders, is taught exactly if there is room and withdrawn exactly if it remains, and no
+-- form is answered by another number than 0, 2 and 10, below T 6, below W 8, and below J 20, 21 and 22. By a fault its line is all that is printed.
 --
 -- The orders that remain are those of demand 3, by the calls that the forms make (`madeBy`, specs/AtTheDesk.antt). Assumes nothing.
 use Prim.Native.Nat.{ℕ, suc, _+_, _≤_, _<_}
@@ -104,7 +104,7 @@ fault-alone input a e = go (handedIn input) refl
     go (faulty b) q = let same : b ≡ a = cc in rw (q, same)
     go (handed k cs) q = absurd (let z : _≡_ {A = ℕ} 0 1 = cc in omega arith)
 
--- "A refusal" leaves the book as it came: so does a form that is answered by another number than 0.
+-- "a refusal changes nothing lent to the call": a form that is answered by another number than 0 leaves the book as it came.
 pub desk-leaves : (c : Asking) (book : List ℕ) → (callOf c book .answer .number ≡ done → ⊥) → callOf c book .words ≡ book
 unfolding callOf byForm askOf
 desk-leaves c book r = go (formOf (c .text)) (c .letter) refl refl
@@ -236,7 +236,7 @@ module _ (input : List ℕ) (k : ℕ) (cs : List Asking) (is : handedIn input �
         let e = teaching-is t o in
         (λ z. let q = p .0 (sym e ∙ z) in (q .0, omega (arith, q .1, blank-long)), λ q. e ∙ p .1 (q .0, omega (arith, q .1, blank-long)))
 
-    -- A form W of an order's text is answered by 0 exactly if such an order remains,
+    -- A form W of an order's text is answered by 0 exactly if such an order remains, so that it is not so that "order has no entry in T",
     pub desk-withdrawn : (t : Tree) → IsOrder (words t) t
         → (callOf (record { letter = Withdraw; text = textOf t }) desk-book .answer .number ≡ done) exactly-when (1 ≤ timesOf (words t) desk-orders)
     desk-withdrawn t o =
@@ -244,7 +244,7 @@ module _ (input : List ℕ) (k : ℕ) (cs : List Asking) (is : handedIn input �
         let e = withdrawing-is t o in
         (λ z. p .0 (sym e ∙ z), λ q. e ∙ p .1 q)
 
-    -- and by 8, "order has no entry in T", exactly if none does.
+    -- and by 8, "order has no entry in T", exactly if none remains.
     pub desk-not-taught : (t : Tree) → IsOrder (words t) t
         → (callOf (record { letter = Withdraw; text = textOf t }) desk-book .answer .number ≡ not-taught) exactly-when (timesOf (words t) desk-orders ≡ 0)
     desk-not-taught t o =
