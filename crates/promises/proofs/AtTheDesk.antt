@@ -52,7 +52,7 @@ use Rattle.promises.proofs.Uniqueness.{booked-is}
 
 -- ---- the book after forms
 
--- "The book after forms" is the book after the calls that they make.
+-- The book after forms is the book after the calls that they make.
 pub book-after : (cs : List Asking) (ws : List ℕ) → bookAfter cs ws ≡ after (madeBy cs) ws
 book-after = forms-after
 
@@ -94,7 +94,7 @@ verdict-number b t = go (has (words (top (b .k) t)) (b .R)) (firstUnknown b 1 (s
 
 -- ---- faults and refusals
 
--- By a fault "that line is then the whole output".
+-- By a fault: "That line is then the whole output."
 pub fault-alone : (input : List ℕ) (a : Answer) → openingOf input ≡ Fault a → deskOf input ≡ reply letter-K a 0
 unfolding openingOf deskOf printedFor
 fault-alone input a e = go (handedIn input) refl

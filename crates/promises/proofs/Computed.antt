@@ -19,7 +19,7 @@ use Rattle.teach.specs.Calls.{onOrder, withinCounts, teachTree, teachOf, lowerE
 use Rattle.agree.specs.Checking.{checkOf}
 use Rattle.form.specs.Text.{linesOf, levelText, codeText, lineText, spell, textOf}
 use Rattle.reply.specs.Replies.{lastDigits, withoutZeros, decimal, field, reply}
-use Rattle.sheet.specs.Sheets.{letterOf, withByte, linesOf as inputLines, kindOf, withLine, callsOf, sheetOf, firstLine, handedBy, byFirst, handedIn}
+use Rattle.sheet.specs.Sheets.{letterOf, withByte, inputLines, kindOf, withLine, callsOf, sheetOf, firstLine, handedBy, byFirst, handedIn}
 use Rattle.promises.specs.Heard.{computed, heard}
 
 -- Opens them all.

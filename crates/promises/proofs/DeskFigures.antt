@@ -28,7 +28,7 @@ use Rattle.judge.specs.Judging.{knows, firstUnknown, verdict}
 use Rattle.judge.proofs.Judgements.{by-verdict}
 use Rattle.effects.proofs.Conditions.{teach-line, withdraw-line}
 use Rattle.reply.specs.Replies.{most-digits, decimal}
-use Rattle.reply.specs.Meaning.{numberOf}
+use Rattle.reply.specs.Meaning.{valueOf}
 use Rattle.reply.proofs.Meaning.{decimal-value}
 use Rattle.sheet.specs.Sheets.{Call as Asking, handed, handedIn}
 use Rattle.sheet.specs.declared.Letter.{Letter}
@@ -161,8 +161,8 @@ module _ (input : List ℕ) (k : ℕ) (cs : List Asking) (is : handedIn input �
         (few-digits number-printed (omega (arith, f .0)), few-digits line-printed (omega (arith, f .1)), few-digits used-printed (f .2))
 
     -- and the digits that are printed for each stand for it.
-    pub printed-as-they-are : (numberOf (decimal number-printed) ≡ number-printed) × (numberOf (decimal line-printed) ≡ line-printed)
-        × (numberOf (decimal used-printed) ≡ used-printed)
+    pub printed-as-they-are : (valueOf (decimal number-printed) ≡ number-printed) × (valueOf (decimal line-printed) ≡ line-printed)
+        × (valueOf (decimal used-printed) ≡ used-printed)
     printed-as-they-are =
         let f = desk-figures-small in
         (decimal-value number-printed (f .0), decimal-value line-printed (f .1), decimal-value used-printed (f .2))

@@ -17,7 +17,7 @@ use Rattle.form.specs.Reading.{isDigit, figure}
 use Rattle.form.proofs.Digits.{is-digit}
 use Rattle.form.proofs.Faults.{within-both}
 use Rattle.reply.specs.Replies.{lastDigits, withoutZeros, most-digits, decimal}
-use Rattle.reply.specs.Meaning.{allDigits, numberBehind, numberOf, noLeadingZero}
+use Rattle.reply.specs.Meaning.{allDigits, numberBehind, valueOf, noLeadingZero}
 use Rattle.reply.proofs.Decimals.{length-digits, digits-none, digits-more, tenth-below, no-more}
 
 -- ---- the number
@@ -29,26 +29,26 @@ behind-last b d [] = refl
 behind-last b d (e ∷ l) = behind-last (10 * b + figure e) d l
 
 -- The last digits of a number that has no more stand for it.
-number-last : (p n : ℕ) → n < 10 ^ p → numberOf (lastDigits p n) ≡ n
+number-last : (p n : ℕ) → n < 10 ^ p → valueOf (lastDigits p n) ≡ n
 unfolding numberBehind lastDigits
 number-last zero n h = omega arith
 number-last (suc p) n h = behind-last 0 (digit n) (lastDigits p (n / 10)) ∙ omega (arith, number-last p (n / 10) (tenth-below p n h))
 
 -- Leading zeros do not count.
-number-stays : (l : List ℕ) → numberOf (withoutZeros l) ≡ numberOf l
+number-stays : (l : List ℕ) → valueOf (withoutZeros l) ≡ valueOf l
 unfolding withoutZeros numberBehind if_then_else_
 number-stays [] = refl
 number-stays (d ∷ []) = refl
 number-stays (d ∷ e ∷ l) = go (eqb d digit-0) refl (number-stays (e ∷ l))
   where
     -- So it is in both branches of the test.
-    go : (t : Bool) → eqb d digit-0 ≡ t → numberOf (withoutZeros (e ∷ l)) ≡ numberOf (e ∷ l)
-        → numberOf (if t then withoutZeros (e ∷ l) else d ∷ e ∷ l) ≡ numberOf (d ∷ e ∷ l)
+    go : (t : Bool) → eqb d digit-0 ≡ t → valueOf (withoutZeros (e ∷ l)) ≡ valueOf (e ∷ l)
+        → valueOf (if t then withoutZeros (e ∷ l) else d ∷ e ∷ l) ≡ valueOf (d ∷ e ∷ l)
     go true q h = let z : 0 ≡ 10 * 0 + figure d = omega (arith, eqb-true d digit-0 q) in h ∙ ap (λ (b : ℕ). numberBehind b (e ∷ l)) z
     go false q h = refl
 
 -- The digits of a number in decimal stand for it.
-pub decimal-value : (n : ℕ) → n < 10 ^ most-digits → numberOf (decimal n) ≡ n
+pub decimal-value : (n : ℕ) → n < 10 ^ most-digits → valueOf (decimal n) ≡ n
 unfolding decimal
 decimal-value n h = number-stays (lastDigits most-digits n) ∙ number-last most-digits n h
 
@@ -131,16 +131,16 @@ all-before (e ∷ l) d h =
 
 -- Digits are the last digits of the number that they stand for, which has no more.
 record Stand (l : List ℕ) (p : ℕ) : Type 0 where
-  pub last : lastDigits p (numberOf l) ≡ l
-  pub below : numberOf l < 10 ^ p
+  pub last : lastDigits p (valueOf l) ≡ l
+  pub below : valueOf l < 10 ^ p
 
 -- One digit more stands for ten times the number and its figure.
-stand-more : (l : List ℕ) (d p m : ℕ) → numberOf (l ++ (d ∷ [])) ≡ m → Stand l p → isDigit d ≡ true → Stand (l ++ (d ∷ [])) (suc p)
+stand-more : (l : List ℕ) (d p m : ℕ) → valueOf (l ++ (d ∷ [])) ≡ m → Stand l p → isDigit d ≡ true → Stand (l ++ (d ∷ [])) (suc p)
 unfolding isDigit
 stand-more l d p m e s h =
     let f = within-both digit-0 digit-9 d h in
-    let n : m ≡ 10 * numberOf l + figure d = sym e ∙ behind-last 0 d l in
-    let q : m / 10 ≡ numberOf l = omega (arith, f .0, f .1) in
+    let n : m ≡ 10 * valueOf l + figure d = sym e ∙ behind-last 0 d l in
+    let q : m / 10 ≡ valueOf l = omega (arith, f .0, f .1) in
     let r : digit m ≡ d = omega (arith, f .0, f .1) in
     record {
       last = ap (lastDigits (suc p)) e ∙ digits-more p m ∙ rw (q, r) (ap (λ (k : List ℕ). k ++ (d ∷ [])) (s .last));
@@ -167,7 +167,7 @@ none-more (suc k) p n h =
     rw z (no-more (k + p) n (omega arith) ∙ none-more k p n h)
 
 -- Up to 20 digits without a leading zero are the decimal of the number that they stand for.
-pub decimal-only : (l : List ℕ) (n : ℕ) → allDigits l ≡ true → noLeadingZero l ≡ true → length l ≤ most-digits → numberOf l ≡ n → l ≡ decimal n
+pub decimal-only : (l : List ℕ) (n : ℕ) → allDigits l ≡ true → noLeadingZero l ≡ true → length l ≤ most-digits → valueOf l ≡ n → l ≡ decimal n
 unfolding decimal noLeadingZero
 decimal-only [] n a b h e = no-test b
 decimal-only (d ∷ l) n a b h e =

@@ -18,8 +18,8 @@ numberBehind before [] = before
 numberBehind before (d ∷ ds) = numberBehind (10 * before + figure d) ds
 
 -- The number that decimal digits stand for, read from the first on.
-abbrev pub numberOf : List ℕ → ℕ
-numberOf ds = numberBehind 0 ds
+abbrev pub valueOf : List ℕ → ℕ
+valueOf ds = numberBehind 0 ds
 
 -- "without leading zeros": there is a byte, and the first of several is not that of 0.
 unfoldable pub noLeadingZero : List ℕ → Bool

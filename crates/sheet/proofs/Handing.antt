@@ -16,7 +16,7 @@ use Rattle.figures.specs.declared.Answer.{Answer}
 use Rattle.form.specs.Text.{space, line-feed}
 use Rattle.form.specs.Reading.{isDigit, figure}
 use Rattle.form.proofs.Faults.{within-both}
-use Rattle.sheet.specs.Sheets.{first-line-size, letter-K, withByte, linesOf, kindOf, Sheet, withLine, callsOf, sheetOf}
+use Rattle.sheet.specs.Sheets.{first-line-size, letter-K, withByte, inputLines, kindOf, Sheet, withLine, callsOf, sheetOf}
 use Rattle.sheet.specs.Sheets.{asks, otherwise, firstLine, Handed, faulty, handed, handedBy, byFirst, handedIn}
 use Rattle.sheet.specs.declared.LineKind.{LineKind}
 use Rattle.sheet.specs.declared.LineKind.the-variants.{Asks, Other}
@@ -43,15 +43,15 @@ byte-line false b [] = omega arith
 byte-line false b (l ∷ ls) = omega arith
 
 -- Bytes are no fewer than their lines.
-bytes-lines : (bs : List ℕ) → length (linesOf bs) ≤ length bs
-unfolding linesOf
+bytes-lines : (bs : List ℕ) → length (inputLines bs) ≤ length bs
+unfolding inputLines
 bytes-lines [] = omega arith
-bytes-lines (b ∷ bs) = omega (arith, byte-line (eqb b line-feed) b (linesOf bs), bytes-lines bs)
+bytes-lines (b ∷ bs) = omega (arith, byte-line (eqb b line-feed) b (inputLines bs), bytes-lines bs)
 
 -- Bytes ask for no more calls than they are.
 pub calls-within : (bs : List ℕ) → length (sheetOf bs .calls) ≤ length bs
 unfolding sheetOf
-calls-within bs = omega (arith, lines-calls (linesOf bs), bytes-lines bs)
+calls-within bs = omega (arith, lines-calls (inputLines bs), bytes-lines bs)
 
 -- ---- what is handed in
 

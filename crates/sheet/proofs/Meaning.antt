@@ -10,7 +10,7 @@ use borrow.Author.Tests.{eqb-true}
 use Rattle.words.specs.Base.{_∈_, if_then_else_}
 use Rattle.words.proofs.Tests.{no-test}
 use Rattle.form.specs.Text.{line-feed}
-use Rattle.sheet.specs.Sheets.{letterByte, letterOf, withByte, linesOf, kindOf, Call, Sheet, sheetOf}
+use Rattle.sheet.specs.Sheets.{letterByte, letterOf, withByte, inputLines, kindOf, Call, Sheet, sheetOf}
 use Rattle.sheet.specs.Places.{letterAt, sizeTo}
 use Rattle.sheet.specs.Joined.{joinedCalls, joined, Plain, lineBehind, Parts, last-part, part, IsSheet}
 use Rattle.sheet.specs.declared.Letter.{Letter}
@@ -66,7 +66,7 @@ joined-letter x s = refl
 
 -- What no bytes are split into gives none, within a line or at its start.
 joined-none : (starts : Bool) → joined (sheetFrom starts []) ≡ []
-unfolding joined joinedCalls linesOf
+unfolding joined joinedCalls inputLines
 joined-none true = rw empty-sheet
 joined-none false = refl
 
@@ -109,12 +109,12 @@ started false ls = laterLines ls
 
 -- None of the lines that start among the bytes is a letter line.
 abbrev PlainFrom : Bool → List ℕ → Type 0
-PlainFrom starts bs = PlainLines (started starts (linesOf bs))
+PlainFrom starts bs = PlainLines (started starts (inputLines bs))
 
 -- The lines behind the first of some are those that start behind its first byte.
-later-lines : (b : ℕ) (bs : List ℕ) → laterLines (linesOf (b ∷ bs)) ≡ started (eqb b line-feed) (linesOf bs)
-unfolding linesOf withByte
-later-lines b bs = go (eqb b line-feed) (linesOf bs)
+later-lines : (b : ℕ) (bs : List ℕ) → laterLines (inputLines (b ∷ bs)) ≡ started (eqb b line-feed) (inputLines bs)
+unfolding inputLines withByte
+later-lines b bs = go (eqb b line-feed) (inputLines bs)
   where
     -- By whether the byte is LF, and the lines behind it.
     go : (t : Bool) (ls : List (List ℕ)) → laterLines (withByte t b ls) ≡ started t ls
@@ -145,7 +145,7 @@ plain-later true (a ∷ ls) h l m = h l (there m)
 
 -- Lines that start behind a byte have none if those from the byte on have none.
 plain-on : (starts : Bool) (b : ℕ) (bs : List ℕ) → PlainFrom starts (b ∷ bs) → PlainFrom (eqb b line-feed) bs
-plain-on starts b bs h = subst PlainLines (later-lines b bs) (plain-later starts (linesOf (b ∷ bs)) h)
+plain-on starts b bs h = subst PlainLines (later-lines b bs) (plain-later starts (inputLines (b ∷ bs)) h)
 
 -- Within a line a byte more starts none.
 plain-inside : (b : ℕ) (bs : List ℕ) → PlainFrom (eqb b line-feed) bs → PlainFrom false (b ∷ bs)
@@ -153,7 +153,7 @@ plain-inside b bs h = subst PlainLines (sym (later-lines b bs)) h
 
 -- At a line's start it starts one, which may not be a letter line.
 plain-start : (b : ℕ) (bs : List ℕ) → letterAt (b ∷ bs) ≡ Other → PlainFrom (eqb b line-feed) bs → PlainFrom true (b ∷ bs)
-plain-start b bs e h = plain-both (linesOf (b ∷ bs)) (first-kind (b ∷ bs) ∙ e) (plain-inside b bs h)
+plain-start b bs e h = plain-both (inputLines (b ∷ bs)) (first-kind (b ∷ bs) ∙ e) (plain-inside b bs h)
 
 -- ---- the parts of a sheet
 
@@ -180,7 +180,7 @@ record Split (starts : Bool) (s : Sheet) : Type 0 where
 
 -- No bytes are split so.
 split-none : (starts : Bool) → Split starts (sheetFrom starts [])
-unfolding linesOf
+unfolding inputLines
 split-none true = rw empty-sheet (record { plain = plain-none; follow = tt })
 split-none false = record { plain = plain-none; follow = tt }
 
@@ -194,7 +194,7 @@ split-start b s e h = record { plain = plain-start b (s .before) e (h .plain); f
 
 -- So does a letter line in front of a sheet.
 split-letter : (x : Letter) (s : Sheet) → Split true s → Split true (record { before = []; calls = record { letter = x; text = s .before } ∷ s .calls })
-unfolding lineBehind linesOf
+unfolding lineBehind inputLines
 split-letter x s h = record { plain = plain-none; follow = (refl, follow-parts (s .before) (s .calls) (h .plain) (h .follow)) }
 
 -- Bytes that begin with no letter line begin with none if they are cut.
@@ -279,12 +279,12 @@ unfolding lineBehind
 sheet-on starts [] bs p e = none-on starts bs e
 sheet-on false (b ∷ a) bs p e = byte-on b (a ++ bs) ∙ ap (withFront b) (sheet-on (eqb b line-feed) a bs (plain-on false b a p) e)
 sheet-on true (b ∷ a) bs p e =
-    let o : letterAt (b ∷ a) ≡ Other = sym (first-kind (b ∷ a)) ∙ plain-first (linesOf (b ∷ a)) p in
+    let o : letterAt (b ∷ a) ≡ Other = sym (first-kind (b ∷ a)) ∙ plain-first (inputLines (b ∷ a)) p in
     byte-other b (a ++ bs) (other-more b a bs o e) ∙ ap (withFront b) (sheet-on (eqb b line-feed) a bs (plain-on true b a p) e)
 
 -- No bytes have none before, within a line or at its start.
 end-none : (starts : Bool) → sheetFrom starts [] ≡ record { before = []; calls = [] }
-unfolding linesOf
+unfolding inputLines
 end-none true = empty-sheet
 end-none false = refl
 
@@ -293,7 +293,7 @@ sheet-end : (starts : Bool) (a : List ℕ) → PlainFrom starts a → sheetFrom 
 sheet-end starts [] p = end-none starts
 sheet-end false (b ∷ a) p = rw (byte-on b a, sheet-end (eqb b line-feed) a (plain-on false b a p))
 sheet-end true (b ∷ a) p =
-    let e : letterAt (b ∷ a) ≡ Other = sym (first-kind (b ∷ a)) ∙ plain-first (linesOf (b ∷ a)) p in
+    let e : letterAt (b ∷ a) ≡ Other = sym (first-kind (b ∷ a)) ∙ plain-first (inputLines (b ∷ a)) p in
     rw (byte-other b a e, sheet-end (eqb b line-feed) a (plain-on true b a p))
 
 -- Parts are split where they were joined.

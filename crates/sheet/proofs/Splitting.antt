@@ -10,7 +10,7 @@ use lib.Seq.{length-take-le}
 use borrow.Author.Tests.{eqb-true}
 use Rattle.words.specs.Base.{_and_, if_then_else_}
 use Rattle.form.specs.Text.{line-feed}
-use Rattle.sheet.specs.Sheets.{letterOf, withByte, linesOf, kindOf, Sheet, withLine, callsOf, sheetOf}
+use Rattle.sheet.specs.Sheets.{letterOf, withByte, inputLines, kindOf, Sheet, withLine, callsOf, sheetOf}
 use Rattle.sheet.specs.Places.{letterAt, isAsking, sizeTo}
 use Rattle.sheet.specs.declared.Letter.{Letter}
 use Rattle.sheet.specs.declared.LineKind.{LineKind}
@@ -29,8 +29,8 @@ unfolding letterOf if_then_else_
 feed-asks-nothing b p = rw (eqb-true b line-feed p)
 
 -- The first line of bytes asks for what the bytes at their front do.
-pub first-kind : (bs : List ℕ) → firstKind (linesOf bs) ≡ letterAt bs
-unfolding linesOf withByte kindOf letterAt if_then_else_
+pub first-kind : (bs : List ℕ) → firstKind (inputLines bs) ≡ letterAt bs
+unfolding inputLines withByte kindOf letterAt if_then_else_
 first-kind [] = refl
 first-kind (b ∷ []) = one (eqb b line-feed)
   where
@@ -38,7 +38,7 @@ first-kind (b ∷ []) = one (eqb b line-feed)
     one : (t : Bool) → firstKind (withByte t b []) ≡ Other
     one true = refl
     one false = refl
-first-kind (b ∷ e ∷ rest) = go (eqb b line-feed) refl (eqb e line-feed) refl (linesOf rest)
+first-kind (b ∷ e ∷ rest) = go (eqb b line-feed) refl (eqb e line-feed) refl (inputLines rest)
   where
     -- By whether the first byte is LF, whether the second is, and the lines behind them.
     go : (t : Bool) → eqb b line-feed ≡ t → (u : Bool) → eqb e line-feed ≡ u → (ls : List (List ℕ))
@@ -60,7 +60,7 @@ goingOn (l ∷ ls) = withLine Other l (callsOf ls)
 -- What bytes ask for; whether a line starts at the first of them is told.
 abbrev pub sheetFrom : Bool → List ℕ → Sheet
 sheetFrom true bs = sheetOf bs
-sheetFrom false bs = goingOn (linesOf bs)
+sheetFrom false bs = goingOn (inputLines bs)
 
 -- A byte in front of what is before the first letter line.
 abbrev pub withFront : ℕ → Sheet → Sheet
@@ -68,7 +68,7 @@ withFront b s = record { before = b ∷ s .before; calls = s .calls }
 
 -- No bytes ask for nothing.
 pub empty-sheet : sheetOf [] ≡ record { before = []; calls = [] }
-unfolding sheetOf callsOf linesOf
+unfolding sheetOf callsOf inputLines
 empty-sheet = refl
 
 -- Lines of which the first is no letter line ask for what they ask for behind a line's beginning.
@@ -79,7 +79,7 @@ calls-on (l ∷ ls) e = rw e
 
 -- A byte behind a line's beginning goes in front of what follows.
 pub byte-on : (b : ℕ) (bs : List ℕ) → sheetFrom false (b ∷ bs) ≡ withFront b (sheetFrom (eqb b line-feed) bs)
-unfolding sheetOf linesOf withByte withLine callsOf
+unfolding sheetOf inputLines withByte withLine callsOf
 byte-on b bs = go (eqb b line-feed)
   where
     -- Any byte but LF goes in front of the line that follows it, if there is one.
@@ -88,27 +88,27 @@ byte-on b bs = go (eqb b line-feed)
     inside (l ∷ ls) = refl
 
     -- By whether the byte is LF.
-    go : (t : Bool) → goingOn (withByte t b (linesOf bs)) ≡ withFront b (sheetFrom t bs)
+    go : (t : Bool) → goingOn (withByte t b (inputLines bs)) ≡ withFront b (sheetFrom t bs)
     go true = refl
-    go false = inside (linesOf bs)
+    go false = inside (inputLines bs)
 
 -- So does a byte at a line's beginning, if no letter line starts there.
 pub byte-other : (b : ℕ) (bs : List ℕ) → letterAt (b ∷ bs) ≡ Other → sheetFrom true (b ∷ bs) ≡ withFront b (sheetFrom (eqb b line-feed) bs)
 unfolding sheetOf
-byte-other b bs e = calls-on (linesOf (b ∷ bs)) (first-kind (b ∷ bs) ∙ e) ∙ byte-on b bs
+byte-other b bs e = calls-on (inputLines (b ∷ bs)) (first-kind (b ∷ bs) ∙ e) ∙ byte-on b bs
 
 -- Bytes that begin with a letter line ask for a call, whose text is what stands before the next.
 pub letter-sheet : (bs : List ℕ) (x : Letter) → letterAt bs ≡ Asks x
     → sheetOf bs ≡ record { before = []; calls = record { letter = x; text = sheetOf (drop 2 bs) .before } ∷ sheetOf (drop 2 bs) .calls }
-unfolding letterAt sheetOf linesOf callsOf withByte withLine kindOf if_then_else_
+unfolding letterAt sheetOf inputLines callsOf withByte withLine kindOf if_then_else_
 letter-sheet [] x e = absurd (let z : _≡_ {A = ℕ} 0 1 = cc in omega arith)
 letter-sheet (b ∷ []) x e = absurd (let z : _≡_ {A = ℕ} 0 1 = cc in omega arith)
 letter-sheet (b ∷ f ∷ rest) x e = go (eqb b line-feed) refl (eqb f line-feed) refl e
   where
     -- By whether the first byte is LF, and whether the second is.
     go : (t : Bool) → eqb b line-feed ≡ t → (u : Bool) → eqb f line-feed ≡ u → (if u then letterOf b else Other) ≡ Asks x
-        → callsOf (withByte t b (withByte u f (linesOf rest)))
-        ≡ record { before = []; calls = record { letter = x; text = callsOf (linesOf rest) .before } ∷ callsOf (linesOf rest) .calls }
+        → callsOf (withByte t b (withByte u f (inputLines rest)))
+        ≡ record { before = []; calls = record { letter = x; text = callsOf (inputLines rest) .before } ∷ callsOf (inputLines rest) .calls }
     go true p true q g = absurd (let n = feed-asks-nothing b p in let z : _≡_ {A = ℕ} 0 1 = cc in omega arith)
     go true p false q g = absurd (let z : _≡_ {A = ℕ} 0 1 = cc in omega arith)
     go false p true q g = rw (q, g)
@@ -150,7 +150,7 @@ size-letter (b ∷ bs) x e = rw e
 
 -- Of no bytes none stand before a letter line.
 front-none : (starts : Bool) → sheetFrom starts [] .before ≡ take (sizeTo starts []) []
-unfolding sizeTo sheetOf callsOf linesOf
+unfolding sizeTo sheetOf callsOf inputLines
 front-none true = refl
 front-none false = refl
 
@@ -168,7 +168,7 @@ front true (b ∷ bs) = go (letterAt (b ∷ bs)) refl (front (eqb b line-feed) b
 
 -- Behind no bytes there are no calls.
 behind-none : (starts : Bool) → sheetOf (drop (sizeTo starts []) []) ≡ record { before = []; calls = sheetFrom starts [] .calls }
-unfolding sizeTo sheetOf callsOf linesOf
+unfolding sizeTo sheetOf callsOf inputLines
 behind-none true = refl
 behind-none false = refl
 

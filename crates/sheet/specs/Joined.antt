@@ -6,7 +6,7 @@ use mathlib.Core.List.{List, [], _∷_, _++_}
 use lib.Dec.{eqb}
 use Rattle.words.specs.Base.{_∈_}
 use Rattle.form.specs.Text.{line-feed}
-use Rattle.sheet.specs.Sheets.{letterByte, linesOf, kindOf, Call, Sheet}
+use Rattle.sheet.specs.Sheets.{letterByte, inputLines, kindOf, Call, Sheet}
 use Rattle.sheet.specs.declared.LineKind.the-variants.{Other}
 
 -- A call as it is written: "a line of the one letter T, W or J and LF", and its form.
@@ -24,7 +24,7 @@ joined s = s .before ++ joinedCalls (s .calls)
 
 -- No line of the bytes is a letter line.
 abbrev pub Plain : List ℕ → Type 0
-Plain bs = (l : List ℕ) → l ∈ linesOf bs → kindOf l ≡ Other
+Plain bs = (l : List ℕ) → l ∈ inputLines bs → kindOf l ≡ Other
 
 -- Whether a line starts behind the bytes; whether one starts at the first of them is told.
 unfoldable pub lineBehind : Bool → List ℕ → Bool

@@ -57,9 +57,9 @@ withByte false b [] = (b ∷ []) ∷ []
 withByte false b (l ∷ ls) = (b ∷ l) ∷ ls
 
 -- The lines of a text, each with its LF, which the last may lack.
-unfoldable pub linesOf : List ℕ → List (List ℕ)
-linesOf [] = []
-linesOf (b ∷ bs) = withByte (eqb b line-feed) b (linesOf bs)
+unfoldable pub inputLines : List ℕ → List (List ℕ)
+inputLines [] = []
+inputLines (b ∷ bs) = withByte (eqb b line-feed) b (inputLines bs)
 
 -- "a line of the one letter T, W or J and LF"
 unfoldable pub kindOf : List ℕ → LineKind
@@ -92,7 +92,7 @@ callsOf (l ∷ ls) = withLine (kindOf l) l (callsOf ls)
 
 -- What the bytes behind line 1 ask for.
 unfoldable pub sheetOf : List ℕ → Sheet
-sheetOf bytes = callsOf (linesOf bytes)
+sheetOf bytes = callsOf (inputLines bytes)
 
 -- ---- the first line, and the faults
 
