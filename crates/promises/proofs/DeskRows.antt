@@ -1,5 +1,5 @@
--- The run that 01 prints for the desk, byte by byte, the lines of its opening and of its faults, and rows for these, all computed. The desk's slice of
--- 8,192 words is not: a book in form that is laid in a slice is gone by alone, so that its steps are computed on small books. Assumes nothing.
+-- The run that 01 prints for the desk, byte by byte, the lines of its opening and of its faults for any input, and rows for these. What is small is
+-- computed. The desk's slice of 8,192 words is not: a call on a slice goes by the book that is laid in it, and these books are small. Assumes nothing.
 use Prim.Native.Nat.{ℕ, suc, _≤_, _<_}
 use mathlib.Core.Path.{_≡_, refl, sym, ap, ap₂, _∙_}
 use mathlib.Core.Bool.{true}
