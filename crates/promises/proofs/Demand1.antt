@@ -37,6 +37,7 @@ use Rattle.effects.proofs.Whys.{teach-why, teach-only, withdraw-why, withdraw-o
 use Rattle.effects.proofs.Conditions.{teach-refusal-leaves, withdraw-refusal-leaves, teach-line, withdraw-line}
 use Rattle.agree.specs.Checking.{checkOf as agreesOf}
 use Rattle.store.specs.Files.{writeFileOf, readFileOf}
+use Rattle.ofb.proofs.Figures.{open-line, check-line as agrees-line, print-line, filed-line, restored-line}
 use Rattle.reply.specs.Replies.{reply-room}
 use Rattle.sheet.specs.Sheets.{Handed, faulty, handed, handedIn, openingBy, openingOf}
 use Rattle.sheet.specs.Places.{letterAt}
@@ -54,7 +55,7 @@ use Rattle.promises.proofs.Whys.{depth-why, depth-only, opened-why, ope
 use Rattle.promises.proofs.PartWhys.{numbered-why, numbered-only, subtree-why, subtree-only, cut-why, cut-only, part-why, part-only}
 use Rattle.promises.proofs.Checks.{checked-why, checked-only}
 use Rattle.promises.proofs.FileWhys.{filed-why, filed-only, restored-why, restored-only}
-use Rattle.promises.proofs.LineNumbers.{check-line, cut-line, part-line, open-line, agrees-line, judge-line, print-line, read-line, filed-line, restored-line}
+use Rattle.promises.proofs.LineNumbers.{check-line, cut-line, part-line, judge-line, read-line}
 use Rattle.promises.proofs.Refusals.{read-refusal-leaves, print-refusal-leaves, cut-refusal-leaves, part-refusal-leaves, open-refusal-leaves}
 use Rattle.promises.proofs.FileTrips.{file-refusal-leaves, restore-refusal-leaves}
 

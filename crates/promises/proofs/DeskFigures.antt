@@ -1,32 +1,18 @@
 -- The figures that the desk prints for a form are small: its number is at most 22, its line at most 65, and the words used at most the 8,192 of the
 -- desk's slice. So each is printed as it is, with all its digits. Assumes nothing.
-use Prim.Native.Nat.{ℕ, suc, _+_, _^_, _≤_, _<_}
+use Prim.Native.Nat.{ℕ, suc, _^_, _≤_, _<_}
 use mathlib.Core.Path.{_≡_, refl, sym, ap, _∙_}
-use mathlib.Core.Bool.{Bool, true, false}
 use mathlib.Core.List.{List, [], _∷_, _++_}
 use native.Mathlib.Omega.{arith}
-use lib.ListN.{length, getD, length-reverse}
-use Rattle.words.specs.Base.{if_then_else_}
+use lib.ListN.{length, getD}
 use Rattle.figures.specs.Limits.{most-nodes, desk-book-words, used-word}
-use Rattle.figures.specs.Numbers.{top-unknown, low-unknown, middle-unknown}
-use Rattle.figures.specs.declared.Answer.{Answer}
-use Rattle.section.specs.Entries.{has}
-use Rattle.order.specs.Trees.{Tree, words, subtrees}
-use Rattle.order.specs.Fits.{IsOrder}
-use Rattle.order.specs.Parts.{top, isLow}
-use Rattle.order.proofs.Fitting.{order-read, read-order}
-use Rattle.form.specs.Text.{Line}
+use Rattle.figures.specs.Numbers.{middle-unknown}
 use Rattle.form.specs.Reading.{Form, fault, form, byForm, formOf, wordsOf}
-use Rattle.form.specs.Faults.{Why, past, misspelt, no-option, not-allowed, too-deep, ninth-child}
-use Rattle.form.proofs.FirstFault.{first-fault}
-use Rattle.form.proofs.Trips.{form-order}
-use Rattle.book.specs.Book.{Book}
 use Rattle.book.specs.Opening.{outcome}
 use Rattle.book.proofs.Meaning.{used-fits}
 use Rattle.book.proofs.Sound.{head-says}
-use Rattle.judge.specs.Judging.{knows, firstUnknown, verdict}
-use Rattle.judge.proofs.Judgements.{by-verdict}
 use Rattle.effects.proofs.Conditions.{teach-line, withdraw-line}
+use Rattle.ofb.proofs.Figures.{text-line, judge-line-most}
 use Rattle.reply.specs.Replies.{most-digits, decimal}
 use Rattle.reply.specs.Meaning.{valueOf}
 use Rattle.reply.proofs.Meaning.{decimal-value}
@@ -52,47 +38,6 @@ number-most (is-not-taught q e) = omega arith
 number-most (is-top q e) = omega arith
 number-most (is-low q e) = omega arith
 number-most (is-middle q e) = omega arith
-
--- ---- the line
-
--- Before a line at fault stand at most 64 lines.
-lines-before : {before : List Line} {rest : List ℕ} {n : ℕ} → Why before rest n → length before ≤ most-nodes
-lines-before (past q h) = omega arith
-lines-before (misspelt q h m) = omega arith
-lines-before (no-option q h x p o) = omega arith
-lines-before (not-allowed q h x p o a) = omega arith
-lines-before (too-deep q h x p o a d) = omega arith
-lines-before (ninth-child q h x p o a d m) = omega arith
-
--- So the line at fault of a text is line 65 at most.
-text-line : (s : List ℕ) {n line : ℕ} → formOf s ≡ fault n line → line ≤ suc most-nodes
-unfolding formOf
-text-line [] {n} {line} e = let y : line ≡ 1 = cc in omega arith
-text-line (b ∷ bs) {n} {line} e =
-    let f = first-fault (b ∷ bs) n line (omega arith) e in
-    omega (arith, f .place, lines-before (f .why), length-reverse (f .before))
-
--- The first unknown line of subtrees is one of theirs, or 0.
-unknown-line : (b : Book) (line : ℕ) (ss : List Tree) → firstUnknown b (suc line) ss .line ≤ line + length ss
-unfolding firstUnknown if_then_else_
-unknown-line b line [] = omega arith
-unknown-line b line (s ∷ ss) = go (knows b s) (firstUnknown b (suc (suc line)) ss) (unknown-line b (suc line) ss)
-  where
-    -- By whether the first is known.
-    go : (x : Bool) (a : Answer) → a .line ≤ suc line + length ss
-        → (if x then a else record { number = if isLow (b .k) s then low-unknown else middle-unknown; line = suc line }) .line ≤ line + length (s ∷ ss)
-    go true a h = omega arith
-    go false a h = omega arith
-
--- The line of a verdict on an order of at most 64 lines is 64 at most.
-verdict-line : (b : Book) (t : Tree) → length (subtrees t) ≤ most-nodes → verdict b t .line ≤ most-nodes
-unfolding verdict if_then_else_
-verdict-line b t few = go (has (words (top (b .k) t)) (b .R)) (firstUnknown b 1 (subtrees t)) (unknown-line b 0 (subtrees t))
-  where
-    -- By whether the top is known.
-    go : (x : Bool) (a : Answer) → a .line ≤ 0 + length (subtrees t) → (if x then a else record { number = top-unknown; line = 1 }) .line ≤ most-nodes
-    go true a h = omega arith
-    go false a h = omega arith
 
 -- ---- the figures of a form
 
@@ -124,19 +69,16 @@ module _ (input : List ℕ) (k : ℕ) (cs : List Asking) (is : handedIn input �
   line-most = by-form (formOf (c .text)) refl
     where
       -- Of a text that is an order, by the letter.
-      by-letter : (x : Letter) (os : List ℕ) (t : Tree) → IsOrder os t → askOf x book os .answer .line ≤ suc most-nodes
-      by-letter Teach os t o = omega (arith, teach-line book os)
-      by-letter Withdraw os t o = omega (arith, withdraw-line book os)
-      by-letter Judge os t o =
-          let keeps = desk-keeps input k cs is front in
-          let e = ap (λ (a : Answer). a .line) (by-verdict book os (keeps .book) (keeps .isBook) t (order-read os t o)) in
-          omega (arith, e, verdict-line (keeps .book) t (o .nodes))
+      by-letter : (x : Letter) (os : List ℕ) → askOf x book os .answer .line ≤ suc most-nodes
+      by-letter Teach os = omega (arith, teach-line book os)
+      by-letter Withdraw os = omega (arith, withdraw-line book os)
+      by-letter Judge os = omega (arith, judge-line-most book os)
 
       -- By what the text is.
       by-form : (f : Form) → formOf (c .text) ≡ f
           → byForm f (λ n line. outcome (record { number = n; line = line }) book) (λ xs. askOf (c .letter) book (wordsOf xs)) .answer .line ≤ suc most-nodes
       by-form (fault n line) q = text-line (c .text) q
-      by-form (form xs) q = let f = form-order (c .text) xs q in by-letter (c .letter) (wordsOf xs) (f .0) (read-order (wordsOf xs) (f .0) (f .1))
+      by-form (form xs) q = by-letter (c .letter) (wordsOf xs)
 
   -- The words used are no more than the slice has.
   used-most : used-printed ≤ desk-book-words

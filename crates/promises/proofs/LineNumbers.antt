@@ -1,4 +1,5 @@
--- The line of an answer, for all inputs: 0 but for a verdict that names a line and for a text with a line at fault. Assumes nothing.
+-- The line of an answer, for all inputs: it is 0 for an order and its parts, for a judgement unless its verdict names a line, and for a text unless
+-- a line of it is at fault. That of the other calls, always 0, is in ofb/proofs/Figures.antt. Assumes nothing.
 use Prim.Native.Nat.{ℕ, _≤_, _<_}
 use mathlib.Core.Path.{_≡_, ap, _∙_}
 use mathlib.Core.List.{List}
@@ -9,34 +10,21 @@ use Rattle.order.specs.Answers.{checkOf, Writing, cutIntoOf, PartWriting, partI
 use Rattle.form.specs.Text.{Line}
 use Rattle.form.specs.Reading.{readOf}
 use Rattle.form.specs.Faults.{Why, past, misspelt, no-option, not-allowed, too-deep, ninth-child}
-use Rattle.form.specs.Writing.{writeOf}
-use Rattle.book.specs.Opening.{Outcome, openOf}
 use Rattle.judge.specs.Judging.{judgeOf}
 use Rattle.judge.specs.Verdicts.{passing, no-top, no-low, no-middle, Judged, no-book, no-order, judged}
 use Rattle.judge.proofs.Answers.{judged-is}
-use Rattle.agree.specs.Checking.{checkOf as agreesOf}
-use Rattle.store.specs.Files.{writeFileOf, readFileOf}
 use Rattle.promises.specs.Whys.{WhyNumbered, numbered, WhyCut, cut-no-order, cut-lacks, cut-short, cut-written}
 use Rattle.promises.specs.Whys.{WhyPart, part-no-order, part-lacks, low-short, low-written, middle-short, middle-written}
-use Rattle.promises.specs.Whys.{WhyOpened, slice-short, slice-long, k-below, k-above, opened, WhyChecked, check-no-book, disagrees, agrees}
-use Rattle.promises.specs.Whys.{WhyPrinted, print-no-order, print-short, printed, WhyRead, no-bytes, at-fault, read-short, read}
-use Rattle.promises.specs.Whys.{WhyFiled, file-no-book, file-disagrees, file-short, filed}
-use Rattle.promises.specs.Whys.{WhyRestored, restore-shorter, restore-longer, few-bytes, wrong-mark, wrong-version, no-used-words, restore-disagrees, restore-no-room, restores}
-use Rattle.promises.proofs.Whys.{opened-why, printed-why, read-why}
+use Rattle.promises.specs.Whys.{WhyRead, no-bytes, at-fault, read-short, read}
+use Rattle.promises.proofs.Whys.{read-why}
 use Rattle.promises.proofs.Refusals.{writing-number}
 use Rattle.promises.proofs.PartWhys.{numbered-why, cut-why, part-why}
-use Rattle.promises.proofs.Checks.{checked-why}
-use Rattle.promises.proofs.FileWhys.{filed-why, restored-why}
 
 -- ---- lines of equal answers
 
 -- The line of an answer that is known.
 line-of : {a b : Answer} → a ≡ b → a .line ≡ b .line
 line-of e = ap (λ (a : Answer). a .line) e
-
--- The line of an outcome that is known.
-outcome-line : {o p : Outcome} → o ≡ p → o .answer .line ≡ p .answer .line
-outcome-line e = ap (λ (o : Outcome). o .answer .line) e
 
 -- The line of a writing that is known.
 writing-line : {v w : Writing} → v ≡ w → v .answer .line ≡ w .answer .line
@@ -80,29 +68,7 @@ part-line os out line k = go (part-why os out line k)
     go (middle-short t s e q f h l) = part-line-of e
     go (middle-written t s e q f h l) = part-line-of e
 
--- ---- books
-
--- Opening: line 0.
-pub open-line : (ws : List ℕ) (k : ℕ) → openOf ws k .answer .line ≡ 0
-open-line ws k = go (opened-why ws k)
-  where
-    -- By the row of opening.
-    go : WhyOpened ws k (openOf ws k) → openOf ws k .answer .line ≡ 0
-    go (slice-short e h) = outcome-line e
-    go (slice-long e h) = outcome-line e
-    go (k-below e l s h) = outcome-line e
-    go (k-above e l s h) = outcome-line e
-    go (opened e l s a z) = outcome-line e
-
--- Checking a book: line 0.
-pub agrees-line : (ws : List ℕ) → agreesOf ws .line ≡ 0
-agrees-line ws = go (checked-why ws)
-  where
-    -- By the row of checking.
-    go : WhyChecked ws (agreesOf ws) → agreesOf ws .line ≡ 0
-    go (check-no-book n e w) = line-of e
-    go (disagrees b e i x) = line-of e
-    go (agrees b e i g) = line-of e
+-- ---- verdicts
 
 -- Judging: line 0, where the number is below 20.
 pub judge-line : (ws os : List ℕ) → judgeOf ws os .number < top-unknown → judgeOf ws os .line ≡ 0
@@ -123,16 +89,6 @@ judge-line ws os low = go (judged-is ws os)
 
 -- ---- forms
 
--- Writing a form: line 0.
-pub print-line : (os out : List ℕ) → writeOf os out .answer .line ≡ 0
-print-line os out = go (printed-why os out)
-  where
-    -- By the row of writing.
-    go : WhyPrinted os out (writeOf os out) → writeOf os out .answer .line ≡ 0
-    go (print-no-order n e c x) = writing-line e
-    go (print-short t e q h) = writing-line e
-    go (printed t e q l) = writing-line e
-
 -- A line at fault is refused by 2 or 10.
 fault-number : {A : Type 0} (before : List Line) (rest : List ℕ) (n : ℕ) → Why before rest n → (n ≡ too-large → A) → (n ≡ no-form → A) → A
 fault-number before rest n (past e l) two ten = two e
@@ -143,7 +99,8 @@ fault-number before rest n (too-deep e l x s o a d) two ten = two e
 fault-number before rest n (ninth-child e l x s o a d c) two ten = ten e
 
 -- Reading a form: line 0, where the number is neither 2 nor 10.
-pub read-line : (text out : List ℕ) → (readOf text out .answer .number ≡ too-large → ⊥) → (readOf text out .answer .number ≡ no-form → ⊥) → readOf text out .answer .line ≡ 0
+pub read-line : (text out : List ℕ) → (readOf text out .answer .number ≡ too-large → ⊥) → (readOf text out .answer .number ≡ no-form → ⊥)
+    → readOf text out .answer .line ≡ 0
 read-line text out not-2 not-10 = go (read-why text out)
   where
     -- By the row of reading.
@@ -152,32 +109,3 @@ read-line text out not-2 not-10 = go (read-why text out)
     go (at-fault n line e o f) = absurd (fault-number _ _ n (f .why) (λ i. not-2 (writing-number e ∙ i)) (λ i. not-10 (writing-number e ∙ i)))
     go (read-short t e x q h) = writing-line e
     go (read t e x q l) = writing-line e
-
--- ---- files
-
--- Writing a file: line 0.
-pub filed-line : (ws out : List ℕ) → writeFileOf ws out .answer .line ≡ 0
-filed-line ws out = go (filed-why ws out)
-  where
-    -- By the row of writing.
-    go : WhyFiled ws out (writeFileOf ws out) → writeFileOf ws out .answer .line ≡ 0
-    go (file-no-book n e w) = writing-line e
-    go (file-disagrees b e i x) = writing-line e
-    go (file-short b e i g h) = writing-line e
-    go (filed b e i g h) = writing-line e
-
--- Reading a file: line 0.
-pub restored-line : (file ws : List ℕ) → readFileOf file ws .answer .line ≡ 0
-restored-line file ws = go (restored-why file ws)
-  where
-    -- By the row of reading.
-    go : WhyRestored file ws (readFileOf file ws) → readFileOf file ws .answer .line ≡ 0
-    go (restore-shorter e h) = outcome-line e
-    go (restore-longer e h) = outcome-line e
-    go (few-bytes e z h) = outcome-line e
-    go (wrong-mark e z l x) = outcome-line e
-    go (wrong-version high low rest e z f x) = outcome-line e
-    go (no-used-words high low rest e z f v x) = outcome-line e
-    go (restore-disagrees b e z f x) = outcome-line e
-    go (restore-no-room b e z f g h) = outcome-line e
-    go (restores b e z f g h) = outcome-line e

@@ -1,0 +1,4 @@
+-- What the proofs of several functions, and those of other crates, use.
+pub mod Figures
+pub mod Parts
+pub mod Handing

@@ -1,0 +1,44 @@
+-- What a program in C gets of each call: the answer in C's numbers, and what was lent, as they are below the interface. Assumes nothing: these are
+-- definitions.
+use Prim.Native.Nat.{ℕ, _*_, _-_}
+use mathlib.Core.List.{List}
+use lib.Dec.{eqb}
+use lib.ListN.{length}
+use Rattle.words.specs.Base.{if_then_else_}
+use Rattle.figures.specs.declared.Answer.{Answer}
+use Rattle.figures.specs.declared.Written.{Written}
+use Rattle.order.specs.Answers.{Writing, subtreeOf}
+use Rattle.book.specs.Opening.{Outcome}
+use Rattle.ofb.specs.declared.OfbAnswer.{OfbAnswer}
+use Rattle.ofb.specs.declared.OfbPart.{OfbPart}
+
+-- An answer, with nothing written to an output that is not a book.
+abbrev pub toldOf : Answer → OfbAnswer
+toldOf a = record { number = a .number; line = a .line; written = 0 }
+
+-- An answer of a call that writes words or bytes.
+abbrev pub toldWrittenOf : Written → OfbAnswer
+toldWrittenOf a = record { number = a .number; line = a .line; written = a .count }
+
+-- What a call answers in C, and the words or bytes of the slice that it may write, after it.
+pub record Handed : Type 0 where
+  pub answer : OfbAnswer
+  pub lent : List ℕ
+
+-- The answer and the slice, as a call has them.
+abbrev pub handed : OfbAnswer → List ℕ → Handed
+handed a ws = record { answer = a; lent = ws }
+
+-- A call that may write a book, as C gets it.
+abbrev pub outcomeInC : Outcome → Handed
+outcomeInC o = handed (toldOf (o .answer)) (o .words)
+
+-- A call that writes an output, as C gets it.
+abbrev pub writingInC : Writing → Handed
+writingInC w = handed (toldWrittenOf (w .answer)) (w .out)
+
+-- Where the subtree of a line lies in the order, and how many words it has: the lines before it take two words each. An empty part lies at the front.
+unfoldable pub partInC : List ℕ → ℕ → OfbPart
+partInC os line =
+    let n : ℕ = length (subtreeOf os line) in
+    record { start = if eqb n 0 then 0 else (line - 1) * 2; words = n }

@@ -1,0 +1,150 @@
+// The C interface of the library: the ten functions of include/ofb.h, each of which calls the function below it and hands its answer on in C's numbers. A
+// slice is a pointer and a length to C. Assumes nothing beyond each inner function's `requires`.
+ghost use mathlib.Core.Path.{_≡_};
+ghost use Prim.Native.Nat.{_^_, _<_};
+ghost use Rattle.book.specs.Opening.{openOf};
+ghost use Rattle.judge.specs.Judging.{judgeOf};
+ghost use Rattle.teach.specs.Calls.{teachOf, withdrawOf};
+ghost use Rattle.agree.specs.Checking.{checkOf};
+ghost use Rattle.store.specs.Files.{writeFileOf, readFileOf};
+ghost use Rattle.form.specs.Reading.{readOf};
+ghost use Rattle.form.specs.Writing.{writeOf};
+ghost use Rattle.ofb.specs.Interface.{toldOf, toldWrittenOf, handed, outcomeInC, writingInC, partInC};
+use figures::Answer;
+use figures::Written;
+
+// An answer, as C has it.
+#[repr(C)]
+pub struct OfbAnswer {
+    pub number: u16,
+    pub line: u16,
+    pub written: u32,
+}
+
+// A part of an order, as C has it: the word at which it starts, and how many words it has.
+#[repr(C)]
+pub struct OfbPart {
+    pub start: u32,
+    pub words: u32,
+}
+
+// An answer in C's numbers; nothing was written to an output that is not a book.
+fn told(answer: Answer) -> OfbAnswer
+    requires { ⌜ answer .line < 2 ^ 16 ⌝ }
+    ensures { λ r. ⌜ r ≡ toldOf answer ⌝ }
+{
+    OfbAnswer {
+        number: answer.number,
+        line: answer.line as u16,
+        written: 0,
+    }
+}
+
+// An answer in C's numbers, with how many words or bytes were written.
+fn told_written(answer: Written) -> OfbAnswer
+    requires { ⌜ (answer .line < 2 ^ 16) × (answer .count < 2 ^ 32) ⌝ }
+    ensures { λ r. ⌜ r ≡ toldWrittenOf answer ⌝ }
+{
+    OfbAnswer {
+        number: answer.number,
+        line: answer.line as u16,
+        written: answer.count as u32,
+    }
+}
+
+// Opens an empty book: `book::open`.
+#[no_mangle]
+pub extern "C" fn ofb_open(book: &mut [u16], k: u16) -> OfbAnswer
+    ensures { λ r. ⌜ handed r (now (book .exit)) ≡ outcomeInC (openOf (now (book .entry)) k) ⌝ }
+{
+    let answer = book::open(book, k);
+    told(answer)
+}
+
+// Teaches an order: `teach::teach`.
+#[no_mangle]
+pub extern "C" fn ofb_teach(book: &mut [u16], order: &[u16]) -> OfbAnswer
+    ensures { λ r. ⌜ handed r (now (book .exit)) ≡ outcomeInC (teachOf (now (book .entry)) (now (order .entry))) ⌝ }
+{
+    let answer = teach::teach(book, order);
+    told(answer)
+}
+
+// Withdraws an order: `teach::withdraw`.
+#[no_mangle]
+pub extern "C" fn ofb_withdraw(book: &mut [u16], order: &[u16]) -> OfbAnswer
+    ensures { λ r. ⌜ handed r (now (book .exit)) ≡ outcomeInC (withdrawOf (now (book .entry)) (now (order .entry))) ⌝ }
+{
+    let answer = teach::withdraw(book, order);
+    told(answer)
+}
+
+// Judges an order by a book: `judge::judge`.
+#[no_mangle]
+pub extern "C" fn ofb_judge(book: &[u16], order: &[u16]) -> OfbAnswer
+    ensures { λ r. ⌜ r ≡ toldOf (judgeOf (now (book .entry)) (now (order .entry))) ⌝ }
+{
+    let answer = judge::judge(book, order);
+    told(answer)
+}
+
+// Whether a book agrees with itself: `agree::check`.
+#[no_mangle]
+pub extern "C" fn ofb_check(book: &[u16]) -> OfbAnswer
+    ensures { λ r. ⌜ r ≡ toldOf (checkOf (now (book .entry))) ⌝ }
+{
+    let answer = agree::check(book);
+    told(answer)
+}
+
+// Writes a book's file: `store::write`.
+#[no_mangle]
+pub extern "C" fn ofb_write_file(book: &[u16], out: &mut [u8]) -> OfbAnswer
+    ensures { λ r. ⌜ handed r (now (out .exit)) ≡ writingInC (writeFileOf (now (book .entry)) (now (out .entry))) ⌝ }
+{
+    let answer = store::write(book, out);
+    told_written(answer)
+}
+
+// Reads a book's file: `store::read`.
+#[no_mangle]
+pub extern "C" fn ofb_read_file(file: &[u8], book: &mut [u16]) -> OfbAnswer
+    ensures { λ r. ⌜ handed r (now (book .exit)) ≡ outcomeInC (readFileOf (now (file .entry)) (now (book .entry))) ⌝ }
+{
+    let answer = store::read(file, book);
+    told(answer)
+}
+
+// Reads the text of a form: `scan::read`.
+#[no_mangle]
+pub extern "C" fn ofb_read_text(text: &[u8], out: &mut [u16]) -> OfbAnswer
+    ensures { λ r. ⌜ handed r (now (out .exit)) ≡ writingInC (readOf (now (text .entry)) (now (out .entry))) ⌝ }
+{
+    let answer = scan::read(text, out);
+    told_written(answer)
+}
+
+// Writes the text of an order: `print::write`.
+#[no_mangle]
+pub extern "C" fn ofb_write_text(order: &[u16], out: &mut [u8]) -> OfbAnswer
+    ensures { λ r. ⌜ handed r (now (out .exit)) ≡ writingInC (writeOf (now (order .entry)) (now (out .entry))) ⌝ }
+{
+    let answer = print::write(order, out);
+    told_written(answer)
+}
+
+// The place of the subtree of a line: `cuts::subtree`.
+#[no_mangle]
+pub extern "C" fn ofb_subtree(order: &[u16], line: usize) -> OfbPart
+    ensures { λ r. ⌜ r ≡ partInC (now (order .entry)) line ⌝ }
+{
+    let words = cuts::subtree(order, line).len();
+    if words == 0 {
+        return OfbPart { start: 0, words: 0 };
+    }
+    let start = (line - 1) * 2;
+    OfbPart {
+        start: start as u32,
+        words: words as u32,
+    }
+}

@@ -1,0 +1,99 @@
+/*
+ * The book of built orders, for programs in C or in a language that calls C. The library behind it, libofb.a, is written in Rattle: each function
+ * below is proved, for all that may be lent to it, to end, to read and write only what it is lent, and to answer as the rules say.
+ * It keeps nothing between calls, asks for no memory, and needs no other library. It is for x86-64.
+ *
+ * An order is a tree of options in preorder, two words for each: its code, 1 to 9999, and how many children it has, 0 to 8. It has at most 64 options, and
+ * is at most 12 deep. A book is a slice of 7 to 16,384 words; ofb_open makes an empty one. Word 0 of a book is how deep it looks, k, word 1 how many of
+ * its words it uses, word 2 how many teachings it holds.
+ *
+ * What is lent, for a call: a pointer, aligned for what it points to, and how many words or bytes stand there. The parts of one call may not overlap. A
+ * part of length 0 has a pointer too, to anything that is aligned, and not NULL. Calls on different books may run at the same time.
+ *
+ * A call that answers another number than 0, and every call of ofb_judge, leaves all that was lent to it as it was.
+ */
+#ifndef OFB_H
+#define OFB_H
+
+#include <stddef.h>
+#include <stdint.h>
+
+#ifdef __cplusplus
+extern "C" {
+#endif
+
+/* The numbers that are answered. */
+enum {
+    OFB_DONE = 0,              /* done, or the order passes */
+    OFB_NO_ORDER = 1,          /* the order is empty, of odd length, has a code or child count out of range, or is not exactly one tree */
+    OFB_TOO_LARGE = 2,         /* the order has over 128 words or is deeper than 12; the text goes past line 64, or has a level over 12 */
+    OFB_K_OUTSIDE = 3,         /* k is not 2 to 6 */
+    OFB_BOOK_SIZE = 4,         /* the book's slice is shorter than 7 or longer than 16,384 words */
+    OFB_NOT_IN_FORM = 5,       /* these words are no book in form */
+    OFB_NO_ROOM = 6,           /* the result needs more words than the book's slice has */
+    OFB_TOO_MANY = 7,          /* the teachings held, or a count, would pass 65,535 */
+    OFB_NOT_TAUGHT = 8,        /* the book does not hold this order */
+    OFB_NOT_AGREEING = 9,      /* the book does not agree with itself, or, in withdrawing, lacks a part of the order */
+    OFB_NO_FORM = 10,          /* the text has a line that is misspelt, or none */
+    OFB_SHORT_OUTPUT = 11,     /* the lent output is too short */
+    OFB_NO_MARK = 12,          /* the file is under 5 bytes, or does not begin with OFB */
+    OFB_OTHER_VERSION = 13,    /* the file's version is not 1 */
+    OFB_NO_STORED_BOOK = 14,   /* what follows in the file is not the used words of a book in form */
+    OFB_TOP_UNKNOWN = 20,      /* the book holds no order that begins like this one */
+    OFB_LOW_UNKNOWN = 21,      /* the option on this line, with all that stands below it, is in no order that the book holds */
+    OFB_MIDDLE_UNKNOWN = 22    /* the option on this line, with what stands below it as deep as the book looks, is in no order that the book holds */
+};
+
+/* An answer: its number; the line it speaks of, counted from 1, or 0; and how many words or bytes were written to an output that is not a book. */
+typedef struct { uint16_t number; uint16_t line; uint32_t written; } ofb_answer;
+
+/* A part of an order: the word at which it starts, counted from 0, and how many words it has. */
+typedef struct { uint32_t start; uint32_t words; } ofb_part;
+
+/* Makes an empty book of the whole slice, which looks k deep. Refused by 4, 3, looked for in this order. */
+ofb_answer ofb_open(uint16_t *book, size_t words, uint16_t k);
+
+/* Teaches an order to the book. Refused by 4, 5, 1, 2, 7, 6, looked for in this order. */
+ofb_answer ofb_teach(uint16_t *book, size_t words, const uint16_t *order, size_t order_words);
+
+/* Withdraws one teaching of an order; the book is then as if that had never been taught. Refused by 4, 5, 1, 2, 8, 9, looked for in this order. */
+ofb_answer ofb_withdraw(uint16_t *book, size_t words, const uint16_t *order, size_t order_words);
+
+/*
+ * Judges an order: 0 if its top, its low parts and its middle parts are all in the book; 20 with line 1 if its top is not; and otherwise the first line
+ * whose part is not, with 21 for a low part and 22 for a middle part. Refused before that by 4, 5, 1, 2, looked for in this order.
+ */
+ofb_answer ofb_judge(const uint16_t *book, size_t words, const uint16_t *order, size_t order_words);
+
+/* Whether the book agrees with itself: its parts and counts are those of the orders that it holds. 0, or 4, 5, 9, looked for in this order. */
+ofb_answer ofb_check(const uint16_t *book, size_t words);
+
+/*
+ * Writes the book's file to the front of out: 5 bytes and two for each word used. `written` is how many bytes. Refused by 4, 5, 9, 11, looked for in
+ * this order.
+ */
+ofb_answer ofb_write_file(const uint16_t *book, size_t words, uint8_t *out, size_t bytes);
+
+/*
+ * Makes the whole slice the book of a file. Refused by 4, 12, 13, 14, 9, 6, looked for in this order. It takes some 32 KiB of the stack; no other call
+ * takes over 24 KiB.
+ */
+ofb_answer ofb_read_file(const uint8_t *file, size_t bytes, uint16_t *book, size_t words);
+
+/*
+ * Reads the text of an order form to the order's words, at the front of out. `written` is how many words. Refused by 2 or 10 with the first line at fault,
+ * and then by 11.
+ */
+ofb_answer ofb_read_text(const uint8_t *text, size_t bytes, uint16_t *out, size_t words);
+
+/* Writes the text of an order to the front of out. `written` is how many bytes. Refused by 1, 2, 11, looked for in this order. */
+ofb_answer ofb_write_text(const uint16_t *order, size_t words, uint8_t *out, size_t bytes);
+
+/* The subtree of a line of an order, counted from 1; start 0 and 0 words for what is no order, and for a line that the order lacks. */
+ofb_part ofb_subtree(const uint16_t *order, size_t words, size_t line);
+
+#ifdef __cplusplus
+}
+#endif
+
+#endif
