@@ -15,6 +15,7 @@ pub mod Wordings
 pub mod GoingOn
 pub mod LineNumbers
 pub mod Contracts
+pub mod InC
 pub mod Handing
 mod Computed
 pub mod Cases
