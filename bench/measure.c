@@ -1,0 +1,441 @@
+/*
+ * Measures how long each of the ten functions takes in the library and in plain C, in one process and by turns, and prints the ratios.
+ *
+ *     measure [indicative] [K]
+ *
+ * K is how deep the books look, 2 to 6; 3 where it is not given. With the word `indicative` the table says that it was made under
+ * an emulator.
+ */
+#define _POSIX_C_SOURCE 200809L
+
+#include <stdio.h>
+#include <stdlib.h>
+#include <string.h>
+#include <time.h>
+
+#include "inputs.h"
+
+enum {
+    ROUNDS = 9,                 /* rounds in which both are measured by turns; the least time of them counts */
+    BATCH_NS = 5000000,         /* how long a batch of calls takes at least */
+    COPIES_BYTES = 2 << 20,     /* the most bytes of the copies of a book to which a batch teaches */
+    MOST_COPIES = 256,
+    SIZES = 4,
+    SHAPES = 3,
+    MOST_ROWS = 96,
+    TRIES = 400                 /* orders tried where the book is nearly as large as it should be */
+};
+
+static const unsigned sizes[SIZES] = {500, 2000, 8000, 16000};
+static const unsigned shapes[SHAPES] = {5, 20, MOST_NODES};
+static const struct style practice = {4, MOST_CHILDREN, 10, 0, 4, 6, 8};
+static const struct style unheard = {4, MOST_CHILDREN, 10, 9000, 0, 0, 0};
+
+/* One line of the table. */
+struct row {
+    const char *function;
+    unsigned size;              /* words used that were asked for, or 0 where no book plays a part */
+    unsigned used;              /* words used */
+    unsigned nodes;             /* nodes of the order, or 0 where no order plays a part */
+    double ns[2];               /* a call of the library, and of plain C */
+};
+
+/* All that is lent in a measurement. */
+struct task {
+    uint16_t k;
+    size_t slice;               /* words of the book's slice */
+    uint16_t book[BOOK_WORDS];
+    uint16_t spare[BOOK_WORDS];
+    struct order order;
+    uint8_t text[MOST_NODES * LINE_BYTES];
+    size_t text_bytes;
+    uint8_t file[FILE_HEAD + 2 * BOOK_WORDS];
+    size_t file_bytes;
+    uint16_t *copies;           /* slices with copies of the book, one behind the other */
+    unsigned copies_count;
+};
+
+/* Makes so many calls of one function and gives the sum of their answers' numbers, which is 0 where all are done. */
+typedef unsigned long batch(const struct implementation *which, struct task *task, unsigned long calls);
+
+static struct row rows[MOST_ROWS];
+static unsigned rows_count;
+static const struct implementation *const both[2] = {&library, &plain};
+
+/* Gives the time that the process has run in nanoseconds, so that what else the machine does is not measured. */
+static double now(void)
+{
+    struct timespec t;
+    clock_gettime(CLOCK_PROCESS_CPUTIME_ID, &t);
+    return (double)t.tv_sec * 1e9 + (double)t.tv_nsec;
+}
+
+/* Ends the program where a call that is measured is refused, since its time would say nothing. */
+static void demand(int held, const char *what)
+{
+    if (held)
+        return;
+    fprintf(stderr, "measure: %s\n", what);
+    exit(2);
+}
+
+/* Opens the spare slice. */
+static unsigned long batch_open(const struct implementation *which, struct task *task, unsigned long calls)
+{
+    unsigned long sum = 0;
+    for (unsigned long i = 0; i < calls; i++)
+        sum += which->open(task->spare, task->slice, task->k).number;
+    return sum;
+}
+
+/* Judges the order by the book. */
+static unsigned long batch_judge(const struct implementation *which, struct task *task, unsigned long calls)
+{
+    unsigned long sum = 0;
+    for (unsigned long i = 0; i < calls; i++)
+        sum += which->judge(task->book, task->slice, task->order.at, task->order.words).number;
+    return sum;
+}
+
+/* Checks the book. */
+static unsigned long batch_check(const struct implementation *which, struct task *task, unsigned long calls)
+{
+    unsigned long sum = 0;
+    for (unsigned long i = 0; i < calls; i++)
+        sum += which->check(task->book, task->slice).number;
+    return sum;
+}
+
+/* Writes the book's file. */
+static unsigned long batch_write_file(const struct implementation *which, struct task *task, unsigned long calls)
+{
+    unsigned long sum = 0;
+    for (unsigned long i = 0; i < calls; i++)
+        sum += which->write_file(task->book, task->slice, task->file, sizeof task->file).number;
+    return sum;
+}
+
+/* Reads the book's file to the spare slice. */
+static unsigned long batch_read_file(const struct implementation *which, struct task *task, unsigned long calls)
+{
+    unsigned long sum = 0;
+    for (unsigned long i = 0; i < calls; i++)
+        sum += which->read_file(task->file, task->file_bytes, task->spare, task->slice).number;
+    return sum;
+}
+
+/* Reads the order's text to the spare slice. */
+static unsigned long batch_read_text(const struct implementation *which, struct task *task, unsigned long calls)
+{
+    unsigned long sum = 0;
+    for (unsigned long i = 0; i < calls; i++)
+        sum += which->read_text(task->text, task->text_bytes, task->spare, BOOK_WORDS).number;
+    return sum;
+}
+
+/* Writes the order's text. */
+static unsigned long batch_write_text(const struct implementation *which, struct task *task, unsigned long calls)
+{
+    unsigned long sum = 0;
+    for (unsigned long i = 0; i < calls; i++)
+        sum += which->write_text(task->order.at, task->order.words, task->text, sizeof task->text).number;
+    return sum;
+}
+
+/* Asks for the subtrees of all lines by turns; every one has words. */
+static unsigned long batch_subtree(const struct implementation *which, struct task *task, unsigned long calls)
+{
+    unsigned long sum = 0;
+    size_t line = 1;
+    for (unsigned long i = 0; i < calls; i++) {
+        sum += which->subtree(task->order.at, task->order.words, line).words == 0;
+        line = 2 * line < task->order.words ? line + 1 : 1;
+    }
+    return sum;
+}
+
+/* Times a batch in nanoseconds. */
+static double time_batch(batch *run, const struct implementation *which, struct task *task, unsigned long calls)
+{
+    double start = now();
+    unsigned long sum = run(which, task, calls);
+    double end = now();
+    demand(sum == 0, "a measured call was refused");
+    return end - start;
+}
+
+/* Adds a row with no times yet. */
+static struct row *add_row(const char *function, unsigned size, const struct task *task, unsigned nodes)
+{
+    demand(rows_count < MOST_ROWS, "too many rows");
+    struct row *row = &rows[rows_count++];
+    row->function = function;
+    row->size = size;
+    row->used = size ? task->book[1] : 0;
+    row->nodes = nodes;
+    row->ns[0] = row->ns[1] = 0;
+    return row;
+}
+
+/* Keeps the lesser of a row's time and a new one. */
+static void keep_least(struct row *row, unsigned which, double ns)
+{
+    if (row->ns[which] == 0 || ns < row->ns[which])
+        row->ns[which] = ns;
+}
+
+/* Measures a function that leaves its inputs as they are. */
+static void measure_steady(struct row *row, batch *run, struct task *task)
+{
+    unsigned long calls[2] = {1, 1};
+    for (unsigned which = 0; which < 2; which++)
+        while (time_batch(run, both[which], task, calls[which]) < BATCH_NS)
+            calls[which] *= 2;
+    for (unsigned round = 0; round < ROUNDS; round++)
+        for (unsigned which = 0; which < 2; which++)
+            keep_least(row, which, time_batch(run, both[which], task, calls[which]) / (double)calls[which]);
+}
+
+/* Teaches the order to every copy, or withdraws it from every copy, and gives the nanoseconds. */
+static double time_copies(const struct implementation *which, const struct task *task, int teach)
+{
+    unsigned long sum = 0;
+    uint16_t *at = task->copies;
+    double start = now();
+    for (unsigned i = 0; i < task->copies_count; i++, at += task->slice) {
+        if (teach)
+            sum += which->teach(at, task->slice, task->order.at, task->order.words).number;
+        else
+            sum += which->withdraw(at, task->slice, task->order.at, task->order.words).number;
+    }
+    double end = now();
+    demand(sum == 0, "a measured teaching or withdrawal was refused");
+    return end - start;
+}
+
+/* Measures teaching and withdrawing by turns over the copies of a book that does not hold the order, and which end as they were. */
+static void measure_pair(struct row *teach, struct row *withdraw, const struct task *task)
+{
+    for (unsigned round = 0; round < ROUNDS; round++) {
+        for (unsigned which = 0; which < 2; which++) {
+            double taught = 0, withdrawn = 0, calls = 0;
+            while (taught + withdrawn < BATCH_NS) {
+                taught += time_copies(both[which], task, 1);
+                withdrawn += time_copies(both[which], task, 0);
+                calls += task->copies_count;
+            }
+            keep_least(teach, which, taught / calls);
+            keep_least(withdraw, which, withdrawn / calls);
+        }
+    }
+    for (unsigned i = 0; i < task->copies_count; i++)
+        demand(!memcmp(task->copies + i * task->slice, task->book, 2 * task->slice), "a book is not as it was before the teaching");
+}
+
+/* Fills the book by orders of 5 to 20 nodes to about so many words, with room left for the task's order, which it does not hold. */
+static void fill_book(struct task *task, struct dice *dice, unsigned size)
+{
+    plain.open(task->book, BOOK_WORDS, task->k);
+    for (unsigned tries = 0; tries < TRIES && task->book[1] + 20u < size; tries++) {
+        struct order order;
+        order_grow(&order, dice, 5 + dice_below(dice, 16), &practice);
+        if (order.words == task->order.words && !memcmp(order.at, task->order.at, 2 * order.words))
+            continue;
+        memcpy(task->spare, task->book, sizeof task->book);
+        if (plain.teach(task->book, BOOK_WORDS, order.at, order.words).number == 0 && task->book[1] <= size + 20u) {
+            memcpy(task->copies, task->book, sizeof task->book);
+            if (plain.teach(task->copies, BOOK_WORDS, task->order.at, task->order.words).number == 0) {
+                tries = 0;
+                continue;
+            }
+        }
+        memcpy(task->book, task->spare, sizeof task->book);
+    }
+}
+
+/* Sets the slice to be somewhat larger than the book with the task's order, which stands at the front of the copies. */
+static void fit_slice(struct task *task)
+{
+    memcpy(task->copies, task->book, sizeof task->book);
+    demand(plain.teach(task->copies, BOOK_WORDS, task->order.at, task->order.words).number == 0, "the measured order has no room");
+    task->slice = task->copies[1] + 100u;
+    if (task->slice > BOOK_WORDS)
+        task->slice = BOOK_WORDS;
+}
+
+/* Measures teaching and withdrawing the task's order, in rows of these names. */
+static void measure_changes(struct task *task, const char *teaching, const char *withdrawing, unsigned size, unsigned nodes)
+{
+    fit_slice(task);
+    task->copies_count = (unsigned)(COPIES_BYTES / (2 * task->slice));
+    if (task->copies_count > MOST_COPIES)
+        task->copies_count = MOST_COPIES;
+    for (unsigned i = 0; i < task->copies_count; i++)
+        memcpy(task->copies + i * task->slice, task->book, 2 * task->slice);
+    struct row *teach = add_row(teaching, size, task, nodes);
+    struct row *withdraw = add_row(withdrawing, size, task, nodes);
+    measure_pair(teach, withdraw, task);
+}
+
+/* Measures the functions that need a book and an order. */
+static void measure_order_in_book(struct task *task, unsigned size, unsigned nodes)
+{
+    measure_changes(task, "teach", "withdraw", size, nodes);
+    demand(plain.teach(task->book, task->slice, task->order.at, task->order.words).number == 0, "the measured order has no room");
+    measure_steady(add_row("judge", size, task, nodes), batch_judge, task);
+}
+
+/* Measures the functions that need a book and no order. */
+static void measure_book(struct task *task, unsigned size)
+{
+    measure_steady(add_row("open", size, task, 0), batch_open, task);
+    measure_steady(add_row("check", size, task, 0), batch_check, task);
+    measure_steady(add_row("write_file", size, task, 0), batch_write_file, task);
+    task->file_bytes = plain.write_file(task->book, task->slice, task->file, sizeof task->file).written;
+    measure_steady(add_row("read_file", size, task, 0), batch_read_file, task);
+}
+
+/* Measures the functions that need an order and no book. */
+static void measure_order(struct task *task, unsigned nodes)
+{
+    measure_steady(add_row("write_text", 0, task, nodes), batch_write_text, task);
+    task->text_bytes = plain.write_text(task->order.at, task->order.words, task->text, sizeof task->text).written;
+    measure_steady(add_row("read_text", 0, task, nodes), batch_read_text, task);
+    measure_steady(add_row("subtree", 0, task, nodes), batch_subtree, task);
+}
+
+/* Measures all functions at all sizes. */
+static void measure_all(struct task *task)
+{
+    struct dice dice = {20};
+    for (unsigned shape = 0; shape < SHAPES; shape++) {
+        order_grow(&task->order, &dice, shapes[shape], &practice);
+        measure_order(task, shapes[shape]);
+        for (unsigned size = 0; size < SIZES; size++) {
+            fill_book(task, &dice, sizes[size]);
+            measure_order_in_book(task, sizes[size], shapes[shape]);
+            if (shape == 0)
+                measure_book(task, sizes[size]);
+        }
+        order_grow(&task->order, &dice, shapes[shape], &unheard);
+        for (unsigned size = 0; size < SIZES; size++) {
+            fill_book(task, &dice, sizes[size]);
+            measure_changes(task, "teach new", "withdraw new", sizes[size], shapes[shape]);
+        }
+    }
+}
+
+/* Prints a number, or a dash for none, in a column. */
+static void print_count(unsigned count)
+{
+    if (count)
+        printf(" %6u", count);
+    else
+        printf(" %6s", "-");
+}
+
+/* Gives how long the library takes, measured by plain C. */
+static double ratio(const struct row *row)
+{
+    return row->ns[0] / row->ns[1];
+}
+
+/* Prints the rows of one function. */
+static void print_function(const char *function)
+{
+    for (unsigned i = 0; i < rows_count; i++) {
+        if (strcmp(rows[i].function, function))
+            continue;
+        printf("%-12s", function);
+        print_count(rows[i].used);
+        print_count(rows[i].nodes);
+        printf(" %12.1f %12.1f %7.2f\n", rows[i].ns[0], rows[i].ns[1], ratio(&rows[i]));
+    }
+}
+
+/* Prints how the library's time grows with the book for one function and one size of order. */
+static void print_growth(const char *function, unsigned nodes)
+{
+    const struct row *at[SIZES] = {0};
+    for (unsigned i = 0; i < rows_count; i++)
+        for (unsigned size = 0; size < SIZES; size++)
+            if (!strcmp(rows[i].function, function) && rows[i].nodes == nodes && rows[i].size == sizes[size])
+                at[size] = &rows[i];
+    printf("%-12s", function);
+    print_count(nodes);
+    for (unsigned size = 0; size < SIZES; size++)
+        printf(" %7.2f", at[size]->ns[0] / at[0]->ns[0]);
+    printf("  ");
+    for (unsigned size = 0; size < SIZES; size++)
+        printf(" %7.2f", at[size]->ns[0] / at[size]->used);
+    printf("\n");
+}
+
+/* Prints how many ratios there are, how many are small and large, and the greatest. */
+static void print_summary(void)
+{
+    unsigned near = 0, far = 0;
+    const struct row *greatest = &rows[0];
+    for (unsigned i = 0; i < rows_count; i++) {
+        near += ratio(&rows[i]) <= 1.1;
+        far += ratio(&rows[i]) > 1.5;
+        if (ratio(&rows[i]) > ratio(greatest))
+            greatest = &rows[i];
+    }
+    printf("%u ratios: %u at most 1.10, %u above 1.50; ", rows_count, near, far);
+    printf("the greatest is %.2f (%s", ratio(greatest), greatest->function);
+    if (greatest->used)
+        printf(", %u words used", greatest->used);
+    if (greatest->nodes)
+        printf(", %u nodes", greatest->nodes);
+    printf(")\n");
+}
+
+/* Prints both tables and the summary. */
+static void print_all(void)
+{
+    static const char *const by_order[] = {"teach", "withdraw", "teach new", "withdraw new", "judge"};
+    static const char *const by_book[] = {"open", "check", "write_file", "read_file"};
+    static const char *const without_book[] = {"read_text", "write_text", "subtree"};
+    printf("Least processor time of a call over %d rounds. An order that is new has codes that the book has hardly seen.\n\n", ROUNDS);
+    printf("%-12s %6s %6s %12s %12s %7s\n", "function", "words", "nodes", "library ns", "C ns", "ratio");
+    for (unsigned i = 0; i < 4; i++)
+        print_function(by_book[i]);
+    for (unsigned i = 0; i < 5; i++)
+        print_function(by_order[i]);
+    for (unsigned i = 0; i < 3; i++)
+        print_function(without_book[i]);
+    printf("\nHow the library's time grows with the book: against that at some %u words, and nanoseconds per word used.\n\n", sizes[0]);
+    printf("%-12s %6s", "function", "nodes");
+    for (unsigned i = 0; i < 2 * SIZES; i++)
+        printf("%s %7u", i == SIZES ? "  " : "", sizes[i % SIZES]);
+    printf("\n");
+    for (unsigned i = 0; i < 4; i++)
+        print_growth(by_book[i], 0);
+    for (unsigned i = 0; i < 5; i++)
+        for (unsigned shape = 0; shape < SHAPES; shape++)
+            print_growth(by_order[i], shapes[shape]);
+    printf("\n");
+    print_summary();
+}
+
+/* Reads the arguments, measures and prints. */
+int main(int argc, char **argv)
+{
+    struct task *task = calloc(1, sizeof *task);
+    demand(task != NULL && (task->copies = malloc(COPIES_BYTES)) != NULL, "no memory");
+    task->k = 3;
+    for (int i = 1; i < argc; i++) {
+        if (!strcmp(argv[i], "indicative"))
+            printf("run under an emulator: ratios are indicative\n");
+        else
+            task->k = (uint16_t)atoi(argv[i]);
+    }
+    demand(task->k >= 2 && task->k <= 6, "K is 2 to 6");
+    measure_all(task);
+    printf("Books look %u deep. ", task->k);
+    print_all();
+    free(task->copies);
+    free(task);
+    return 0;
+}
