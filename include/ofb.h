@@ -1,7 +1,8 @@
 /*
  * The book of built orders, for programs in C or in a language that calls C. The library behind it, libofb.a, is written in Rattle: each function
  * below is proved, for all that may be lent to it, to end, to read and write only what it is lent, and to answer as the rules say.
- * It keeps nothing between calls, asks for no memory, and needs no other library. It is for x86-64.
+ * It keeps nothing between calls, asks for no memory, and needs of the C library no more than memcpy and memset. It is for x86-64. Of the stack
+ * ofb_read_file takes some 65 KiB, ofb_check and ofb_write_file 33 KiB, ofb_teach and ofb_withdraw 18 KiB, and every other call at most 7 KiB.
  *
  * An order is a tree of options in preorder, two words for each: its code, 1 to 9999, and how many children it has, 0 to 8. It has at most 64 options, and
  * is at most 12 deep. A book is a slice of 7 to 16,384 words; ofb_open makes an empty one. Word 0 of a book is how deep it looks, k, word 1 how many of
@@ -74,10 +75,7 @@ ofb_answer ofb_check(const uint16_t *book, size_t words);
  */
 ofb_answer ofb_write_file(const uint16_t *book, size_t words, uint8_t *out, size_t bytes);
 
-/*
- * Makes the whole slice the book of a file. Refused by 4, 12, 13, 14, 9, 6, looked for in this order. It takes some 32 KiB of the stack; no other call
- * takes over 24 KiB.
- */
+/* Makes the whole slice the book of a file. Refused by 4, 12, 13, 14, 9, 6, looked for in this order. */
 ofb_answer ofb_read_file(const uint8_t *file, size_t bytes, uint16_t *book, size_t words);
 
 /*

@@ -53,7 +53,9 @@ fn tally_order(
     let start = at + 2;
     let end = past(book, at);
     let by = book[at + 1];
-    let size = own::list_section(&book[start..end], k, section, list);
+    let mut levels = [0u8; limits::MOST_NODES];
+    order::cause_into(&book[start..end], &mut levels);
+    let size = own::list_section(&book[start..end], &levels, k, section, list);
     let known = tally::tally(book, starts, counts, list, size.many, by);
     let used = size.used;
     words::clear(&mut list[0..used]);

@@ -96,7 +96,10 @@ fn change_entries(
     ensures { λ r. ⌜ Edited (now (part .entry)) many used (changed change (entries more (now (own .entry))) (entries many (now (part .entry)))) (now (part .exit)) r ⌝ }
 {
     match change {
-        Change::Teach => changes::add_all(part, many, used, own, more),
+        Change::Teach => {
+            let weighed = changes::weigh(part, many, own, more);
+            changes::add_all(part, many, used, own, more, weighed.lacking)
+        }
         Change::Withdraw => changes::lower_all(part, many, used, own, more),
     }
 }

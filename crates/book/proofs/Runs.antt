@@ -73,19 +73,9 @@ module _ (ws : List ℕ) (at : ℕ) where
 
 module _ (ws : List ℕ) (i : ℕ) where
   -- The words from a place on are zero if the first is, and the others.
-  zeros-at : i < length ws → zeros (drop i ws) ≡ (eqb (getD ws i 0) 0 and zeros (drop (i + 1) ws))
+  pub zeros-at : i < length ws → zeros (drop i ws) ≡ (eqb (getD ws i 0) 0 and zeros (drop (i + 1) ws))
   unfolding zeros
   zeros-at h = rw (add-one, drop-cons ws i 0)
-
-  -- They are not if the first is not.
-  pub zeros-not : i < length ws → (getD ws i 0 ≡ 0 → ⊥) → zeros (drop i ws) ≡ false
-  unfolding _and_
-  zeros-not h n = rw (zeros-at h, ne-eqb (getD ws i 0) 0 n)
-
-  -- If the first is, the others decide.
-  pub zeros-on : i < length ws → getD ws i 0 ≡ 0 → zeros (drop i ws) ≡ zeros (drop (i + 1) ws)
-  unfolding _and_
-  zeros-on h e = rw (zeros-at h, eq-eqb (getD ws i 0) 0 e)
 
   -- Past the last word all are.
   pub zeros-end : length ws ≤ i → zeros (drop i ws) ≡ true

@@ -1,12 +1,12 @@
 -- A section lowered by each key of another: what the first entries come to, and what stays so of order, counts and sizes; and the words
--- once their first entry has one less. Assumes nothing.
-use Prim.Native.Nat.{ℕ, _-_, _≤_, _<_}
+-- once an entry has one less. Assumes nothing.
+use Prim.Native.Nat.{ℕ, _+_, _*_, _-_, _≤_, _<_}
 use mathlib.Core.Path.{_≡_, refl, _∙_}
 use mathlib.Core.Bool.{Bool, true, false}
 use mathlib.Core.List.{List, [], _∷_, _++_}
 use native.Mathlib.Omega.{arith}
 use lib.Dec.{leb}
-use lib.ListN.{length, getD, set, take, drop, replicate}
+use lib.ListN.{length, getD, set}
 use borrow.Author.Tests.{leb-true, leb-false, le-leb, lt-leb}
 use Rattle.words.specs.Base.{if_then_else_, sameWords}
 use Rattle.words.specs.Compare.{compareOf}
@@ -15,8 +15,8 @@ use Rattle.words.specs.declared.Compared.the-variants.{Lower, Equal, Higher}
 use Rattle.words.proofs.Ordered.{compare-self, compare-flip}
 use Rattle.words.proofs.Tests.{and-left, and-right, and-both, words-same}
 use Rattle.figures.specs.Limits.{greatest-count}
-use Rattle.section.specs.Entries.{Entry, counted, sectionWords, width, has, countsFor, countOf, Below, Sorted, lessened, lower}
-use Rattle.changes.specs.Editing.{lowerAll, fitting, lessenedWords, lessenedBy}
+use Rattle.section.specs.Entries.{Entry, counted, sectionWords, has, countsFor, countOf, Below, Sorted, lessened, lower}
+use Rattle.changes.specs.Editing.{lowerAll, fitting, brought, lessenedWords, lessenedBy}
 use Rattle.changes.specs.declared.Lessened.{Lessened}
 use Rattle.section.proofs.Counts.{below-trans, below-lacks, counts-own, counts-other, lessened-out, lessened-left, count-lower}
 use Rattle.section.proofs.Sorting.{below-lower, sorted-lower}
@@ -123,34 +123,35 @@ lessened-apart e es = go (leb (e .count) 1) refl
     go true t = rw (lessened-out e es t, lessened-out e [] t)
     go false t = rw (lessened-left e es t, lessened-left e [] t)
 
--- ---- the words once their first entry has one less
+-- ---- the words once an entry has one less
 
--- The words, and how many of them the first entry takes.
-module _ (ws : List ℕ) (wide : ℕ) (is : wide ≡ width ws) where
+-- The gap, the place of the entry, and the words.
+module _ (to kept at : ℕ) (ws : List ℕ) where
   -- An entry that counts at most 1 is taken out.
-  pub lessened-words-out : (used : ℕ) → getD ws 1 0 ≤ 1 → lessenedWords used ws ≡ take (used - wide) (drop wide ws) ++ (replicate wide 0 ++ drop used ws)
+  pub lessened-words-out : getD ws (at + 1) 0 ≤ 1 → lessenedWords to kept at ws ≡ brought to kept at ws
   unfolding lessenedWords if_then_else_
-  lessened-words-out used h = rw (le-leb (getD ws 1 0) 1 h, is)
+  lessened-words-out h = rw (le-leb (getD ws (at + 1) 0) 1 h)
 
-  -- Its words are then freed.
-  pub lessened-by-out : getD ws 1 0 ≤ 1 → lessenedBy ws ≡ record { step = 0; freed = wide; out = 1 }
+  -- The gap then reaches past it.
+  pub lessened-by-out : getD ws (at + 1) 0 ≤ 1
+      → lessenedBy to kept at ws ≡ record { to = to + (at - kept); kept = at + 2 + 2 * getD ws at 0; next = at + 2 + 2 * getD ws at 0; out = 1 }
   unfolding lessenedBy if_then_else_
-  lessened-by-out h = rw (le-leb (getD ws 1 0) 1 h, is)
+  lessened-by-out h = rw (le-leb (getD ws (at + 1) 0) 1 h)
 
   -- An entry that counts more has one less.
-  pub lessened-words-left : (used : ℕ) → 1 < getD ws 1 0 → lessenedWords used ws ≡ set ws 1 (getD ws 1 0 - 1)
+  pub lessened-words-left : 1 < getD ws (at + 1) 0 → lessenedWords to kept at ws ≡ set ws (at + 1) (getD ws (at + 1) 0 - 1)
   unfolding lessenedWords if_then_else_
-  lessened-words-left used h = rw (lt-leb (getD ws 1 0) 1 h)
+  lessened-words-left h = rw (lt-leb (getD ws (at + 1) 0) 1 h)
 
-  -- Its words are then passed.
-  pub lessened-by-left : 1 < getD ws 1 0 → lessenedBy ws ≡ record { step = wide; freed = 0; out = 0 }
+  -- The gap is then as it was.
+  pub lessened-by-left : 1 < getD ws (at + 1) 0 → lessenedBy to kept at ws ≡ record { to = to; kept = kept; next = at + 2 + 2 * getD ws at 0; out = 0 }
   unfolding lessenedBy if_then_else_
-  lessened-by-left h = rw (lt-leb (getD ws 1 0) 1 h, is)
+  lessened-by-left h = rw (lt-leb (getD ws (at + 1) 0) 1 h)
 
--- No more than the first entry is passed, freed or taken out.
-pub lessened-most : (ws : List ℕ) (r : Lessened) → r ≡ lessenedBy ws → (r .step ≤ width ws) × (r .freed ≤ width ws) × (r .out ≤ 1)
-lessened-most ws r is = go (leb (getD ws 1 0) 1) refl
-  where
-    go : (b : Bool) → leb (getD ws 1 0) 1 ≡ b → (r .step ≤ width ws) × (r .freed ≤ width ws) × (r .out ≤ 1)
-    go true t = rw (is ∙ lessened-by-out ws (width ws) refl (leb-true (getD ws 1 0) 1 t)) (omega arith, omega arith, omega arith)
-    go false t = rw (is ∙ lessened-by-left ws (width ws) refl (leb-false (getD ws 1 0) 1 t)) (omega arith, omega arith, omega arith)
+  -- No more than the one entry is taken out.
+  pub lessened-most : (r : Lessened) → r ≡ lessenedBy to kept at ws → r .out ≤ 1
+  lessened-most r is = go (leb (getD ws (at + 1) 0) 1) refl
+    where
+      go : (b : Bool) → leb (getD ws (at + 1) 0) 1 ≡ b → r .out ≤ 1
+      go true t = rw (is ∙ lessened-by-out (leb-true (getD ws (at + 1) 0) 1 t)) (omega arith)
+      go false t = rw (is ∙ lessened-by-left (leb-false (getD ws (at + 1) 0) 1 t)) (omega arith)

@@ -3,19 +3,19 @@
 use Prim.Native.Nat.{ℕ, zero, suc, _+_, _*_, _-_, _/_, _<_, _≤_}
 use mathlib.Core.Path.{_≡_, refl, sym, ap, ap₂, _∙_}
 use mathlib.Core.List.{List, [], _∷_, _++_, append-assoc, append-nil}
-use native.Mathlib.Nat.{add-zero}
+use native.Mathlib.Nat.{add-zero, sub-zero}
 use native.Mathlib.Omega.{arith}
 use lib.ListN.{length, getD, set, take, drop, replicate, length-append, length-take, length-drop, length-replicate, take-append-drop, replicate-append-replicate}
 use lib.Seq.{length-take-le, drop-cons, getD-drop, drop-drop, take-at, drop-at, getD-at}
 use Rattle.section.specs.Entries.{Entry, counted, entryWords, sectionWords, firstEntry, width, entries, span, Even}
 use Rattle.changes.specs.Editing.{Laid, padded, relaid, Edited}
 use Rattle.section.proofs.Sizes.{size-first}
-use Rattle.section.proofs.Words.{length-entries, entries-words, entries-span, words-entries, words-span, entries-even}
+use Rattle.section.proofs.Words.{length-entries, entries-words, entries-span, words-entries, words-span, entries-even, span-step}
 
 -- ---- words of entries
 
 -- The words of two runs of entries stand one after the other.
-pub words-append : (es fs : List Entry) → sectionWords (es ++ fs) ≡ sectionWords es ++ sectionWords fs
+words-append : (es fs : List Entry) → sectionWords (es ++ fs) ≡ sectionWords es ++ sectionWords fs
 unfolding sectionWords
 words-append [] fs = refl
 words-append (e ∷ es) fs = rw (words-append es fs) (sym (append-assoc (entryWords e) (sectionWords es) (sectionWords fs)))
@@ -83,7 +83,7 @@ pub record Reached (done es : List Entry) (kept book : List ℕ) (at left used c
 
 module _ (done es : List Entry) (kept book : List ℕ) (at left used count : ℕ) (r : Reached done es kept book at left used count) where
   -- The words used and the zeros are the whole book.
-  pub reached-length : length book ≡ used + r .zeros
+  reached-length : length book ≡ used + r .zeros
   reached-length = omega (arith, r .uses, r .place, simp (length-append, length-replicate) at (ap length (r .words)))
 
   -- There are no more entries than words.
@@ -91,7 +91,7 @@ module _ (done es : List Entry) (kept book : List ℕ) (at left used count : ℕ
   reached-few = omega (arith, r .counts, r .many, r .place, r .uses, length-size done, length-size es, reached-length)
 
   -- Behind the place stand the entries left, the words kept and the zeros.
-  pub reached-rest : drop at book ≡ sectionWords es ++ (kept ++ replicate (r .zeros) 0)
+  reached-rest : drop at book ≡ sectionWords es ++ (kept ++ replicate (r .zeros) 0)
   reached-rest = ap (drop at) (r .words) ∙ drop-at (sectionWords done) _ at (sym (r .place))
 
   -- Before the place stand the entries done.
@@ -103,17 +103,17 @@ module _ (done es : List Entry) (kept book : List ℕ) (at left used count : ℕ
   reached-entries = ap₂ entries (r .many) reached-rest ∙ words-entries es (kept ++ replicate (r .zeros) 0) (r .even)
 
   -- They take their words.
-  pub reached-span : span left (drop at book) ≡ length (sectionWords es)
+  reached-span : span left (drop at book) ≡ length (sectionWords es)
   reached-span = ap₂ span (r .many) reached-rest ∙ words-span es (kept ++ replicate (r .zeros) 0) (r .even)
 
   -- What is used from the place on are the entries left and the words kept.
-  pub reached-used : take (used - at) (drop at book) ≡ sectionWords es ++ kept
+  reached-used : take (used - at) (drop at book) ≡ sectionWords es ++ kept
   reached-used =
       ap (take (used - at)) (reached-rest ∙ sym (append-assoc (sectionWords es) kept (replicate (r .zeros) 0)))
       ∙ take-at (sectionWords es ++ kept) (replicate (r .zeros) 0) (used - at) (simp length-append (omega (arith, r .uses)))
 
   -- Past it stand the zeros.
-  pub reached-zeros : drop (used - at) (drop at book) ≡ replicate (r .zeros) 0
+  reached-zeros : drop (used - at) (drop at book) ≡ replicate (r .zeros) 0
   reached-zeros =
       ap (drop (used - at)) (reached-rest ∙ sym (append-assoc (sectionWords es) kept (replicate (r .zeros) 0)))
       ∙ drop-at (sectionWords es ++ kept) (replicate (r .zeros) 0) (used - at) (simp length-append (omega (arith, r .uses)))
@@ -135,12 +135,48 @@ module _ (done es : List Entry) (kept book : List ℕ) (at left used count : ℕ
         even = r .even;
       }
 
+  -- An entry more at the place, in a book that is longer by its words.
+  pub reached-insert : (o : Entry) (entry book′ : List ℕ) (w : ℕ) → entry ≡ entryWords o → w ≡ length entry → book′ ≡ take at book ++ (entry ++ drop at book)
+      → Reached (done ++ (o ∷ [])) es kept book′ (at + w) left (used + w) (count + 1)
+  reached-insert o entry book′ w is wide now =
+      record {
+        zeros = r .zeros;
+        words = now ∙ rw (reached-front, reached-rest, is, words-last) (simp append-assoc);
+        place = rw (words-last, length-append) (omega (arith, r .place, wide, ap length is));
+        many = r .many;
+        uses = omega (arith, r .uses);
+        counts = rw length-append (omega (arith, r .counts));
+        even = r .even;
+      }
+
+  -- The entries left lie within the words used, and these within the book.
+  pub reached-within : (at + span left (drop at book) ≤ used) × (used ≤ length book)
+  reached-within = (omega (arith, reached-span, r .uses), omega (arith, reached-length))
+
+  -- So does the first of them, which is among those counted.
+  pub reached-first : 0 < left → (at + 2 + 2 * getD book at 0 ≤ used) × (0 < count)
+  reached-first h = (omega (arith, reached-within, rw (getD-drop, add-zero) at (span-step (drop at book) left h)), omega (arith, r .counts))
+
+  -- More zeros come behind the words that are used.
+  pub reached-padded : (n : ℕ) (book′ : List ℕ) → book′ ≡ take used book ++ (replicate n 0 ++ drop used book) → Reached done es kept book′ at left used count
+  reached-padded n book′ now =
+      let front : List ℕ = sectionWords done ++ (sectionWords es ++ kept) in
+      let long : length front ≡ used = simp length-append (omega (arith, r .place, r .uses)) in
+      let whole : book ≡ front ++ replicate (r .zeros) 0 = r .words ∙ simp append-assoc in
+      let first : take used book ≡ front = ap (take used) whole ∙ take-at front (replicate (r .zeros) 0) used long in
+      let last : drop used book ≡ replicate (r .zeros) 0 = ap (drop used) whole ∙ drop-at front (replicate (r .zeros) 0) used long in
+      record {
+        zeros = n + r .zeros;
+        words = now ∙ rw (first, last, replicate-append-replicate) (simp append-assoc);
+        place = r .place;
+        many = r .many;
+        uses = r .uses;
+        counts = r .counts;
+        even = r .even;
+      }
+
 -- The same where an entry stands at the place.
 module _ (done : List Entry) (e : Entry) (es : List Entry) (kept book : List ℕ) (at left used count : ℕ) (r : Reached done (e ∷ es) kept book at left used count) where
-  -- There is one left.
-  pub reached-some : 0 < left
-  reached-some = rw (r .many) (omega arith)
-
   -- Its first word says where it ends.
   pub reached-end : at + 2 + 2 * getD book at 0 ≡ at + length (entryWords e)
   unfolding sectionWords Even
@@ -181,19 +217,16 @@ module _ (done : List Entry) (e : Entry) (es : List Entry) (kept book : List ℕ
         even = r .even;
       }
 
-  -- It is taken out: the words behind it, up to `used`, have moved down.
-  pub reached-out : (w : ℕ) (book′ : List ℕ) → w ≡ length (entryWords e)
-      → book′ ≡ take at book ++ (take (used - at - w) (drop w (drop at book)) ++ (replicate w 0 ++ drop (used - at) (drop at book)))
+  -- It is taken out: the words behind it stand where it stood.
+  pub reached-out : (w : ℕ) (book′ : List ℕ) → w ≡ length (entryWords e) → book′ ≡ take at book ++ drop w (drop at book)
       → Reached done es kept book′ at (left - 1) (used - w) (count - 1)
   unfolding sectionWords Even
   reached-out w book′ wide now =
-      let rest : drop w (drop at book) ≡ (sectionWords es ++ kept) ++ replicate (r .zeros) 0 =
-      ap (drop w) (reached-rest _ _ _ _ _ _ _ _ r ∙ append-assoc (entryWords e) (sectionWords es) _) ∙ drop-at (entryWords e) _ w (sym wide) ∙ sym (append-assoc (sectionWords es) kept (replicate (r .zeros) 0)) in
-      let moved : take (used - at - w) (drop w (drop at book)) ≡ sectionWords es ++ kept =
-      ap (take (used - at - w)) rest ∙ take-at (sectionWords es ++ kept) _ (used - at - w) (rw length-append (omega (arith, r .uses, wide, size-first e es))) in
+      let rest : drop w (drop at book) ≡ sectionWords es ++ (kept ++ replicate (r .zeros) 0) =
+      ap (drop w) (reached-rest _ _ _ _ _ _ _ _ r ∙ append-assoc (entryWords e) (sectionWords es) _) ∙ drop-at (entryWords e) _ w (sym wide) in
       record {
-        zeros = w + r .zeros;
-        words = now ∙ rw (reached-front _ _ _ _ _ _ _ _ r, moved, reached-zeros _ _ _ _ _ _ _ _ r, replicate-append-replicate) (simp append-assoc);
+        zeros = r .zeros;
+        words = now ∙ rw (reached-front _ _ _ _ _ _ _ _ r, rest);
         place = r .place;
         many = omega (arith, r .many);
         uses = omega (arith, r .uses, wide, size-first e es);
@@ -219,7 +252,7 @@ reached-over done fs es kept book at left used count r =
 
 module _ (ws : List ℕ) (n used : ℕ) (laid : Laid ws n used) where
   -- Behind the entries stand the words that are used but for theirs.
-  pub behind-length : length (behind n used ws) ≡ used - span n ws
+  behind-length : length (behind n used ws) ≡ used - span n ws
   behind-length = simp (length-take, length-drop) (omega (arith, laid .within, laid .room))
 
   -- Before the first turn all entries are left.
@@ -238,6 +271,25 @@ module _ (ws : List ℕ) (n used : ℕ) (laid : Laid ws n used) where
         uses = omega (arith, behind-length, entries-span n ws (omega (arith, laid .within, laid .room)), laid .within);
         counts = omega arith;
         even = entries-even n ws (omega (arith, laid .within, laid .room));
+      }
+
+  -- So too in a book with g zeros fewer behind the words used.
+  pub reached-fewer : (g : ℕ) → g + used ≤ length ws → Reached [] (entries n ws) (behind n used ws) (take used ws ++ drop (g + used) ws) 0 n used n
+  unfolding sectionWords
+  reached-fewer g fits =
+      let r = reached-none in
+      let first : take used ws ≡ sectionWords (entries n ws) ++ behind n used ws = rw sub-zero at (reached-used _ _ _ _ _ _ _ _ r) in
+      let order : g + used ≡ used + g = omega arith in
+      let last : drop (g + used) ws ≡ replicate (length ws - used - g) 0 =
+      ap (λ (m : ℕ). drop m ws) order ∙ sym (drop-drop g used ws) ∙ ap (drop g) (laid .zeros) ∙ drop-zeros (length ws - used) g (omega arith) in
+      record {
+        zeros = length ws - used - g;
+        words = rw (first, last) (append-assoc (sectionWords (entries n ws)) (behind n used ws) (replicate (length ws - used - g) 0));
+        place = r .place;
+        many = r .many;
+        uses = r .uses;
+        counts = r .counts;
+        even = r .even;
       }
 
   -- The words are those with other entries for the first n, namely those done and those left, in a book of the same length.

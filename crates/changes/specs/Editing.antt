@@ -1,6 +1,6 @@
 -- A section changed by another one, whose keys ascend as well: what the other adds to it, what it takes from it, and what it would enter;
 -- and the words of a lent part whose first entries are changed. Assumes nothing: these are definitions.
-use Prim.Native.Nat.{ℕ, _+_, _-_, _≤_}
+use Prim.Native.Nat.{ℕ, _+_, _*_, _-_, _≤_}
 use mathlib.Core.Bool.{Bool, true, false}
 use mathlib.Core.List.{List, [], _∷_, _++_}
 use mathlib.Core.Path.{_≡_}
@@ -11,7 +11,7 @@ use Rattle.words.specs.Compare.{compareOf}
 use Rattle.words.specs.declared.Compared.{Compared}
 use Rattle.words.specs.declared.Compared.the-variants.{Higher}
 use Rattle.figures.specs.Limits.{greatest-count}
-use Rattle.section.specs.Entries.{Entry, sectionWords, width, span, has, countOf, add, lower}
+use Rattle.section.specs.Entries.{Entry, sectionWords, span, has, countOf, add, lower}
 use Rattle.changes.specs.declared.Size.{Size}
 use Rattle.changes.specs.declared.Weighed.{Weighed}
 use Rattle.changes.specs.declared.Lessened.{Lessened}
@@ -78,13 +78,22 @@ pub record Edited (ws : List ℕ) (n used : ℕ) (es : List Entry) (now : List �
   pub uses : size .used ≡ length (sectionWords es) + (used - span n ws)
   pub counts : size .many ≡ length es
 
--- The words once their first entry has one less: it is taken out if it comes to 0, and the words behind it, up to `used`, move down.
-unfoldable pub lessenedWords : ℕ → List ℕ → List ℕ
-lessenedWords used ws =
-    if leb (getD ws 1 0) 1 then take (used - width ws) (drop (width ws) ws) ++ (replicate (width ws) 0 ++ drop used ws)
-    else set ws 1 (getD ws 1 0 - 1)
+-- ---- a gap in the words
 
--- How far to go on then, how many words were freed, and how many entries were taken out.
-unfoldable pub lessenedBy : List ℕ → Lessened
-lessenedBy ws =
-    if leb (getD ws 1 0) 1 then record { step = 0; freed = width ws; out = 1 } else record { step = width ws; freed = 0; out = 0 }
+-- The words once those from `kept` up to `at` have moved down to `to`.
+abbrev pub brought : ℕ → ℕ → ℕ → List ℕ → List ℕ
+brought to kept at ws = take to ws ++ (take (at - kept) (drop kept ws) ++ drop (to + (at - kept)) ws)
+
+-- The words once an entry's words are written behind these.
+abbrev pub entered : ℕ → ℕ → ℕ → List ℕ → List ℕ → List ℕ
+entered to kept at entry ws = take to ws ++ (take (at - kept) (drop kept ws) ++ (entry ++ drop (to + (at - kept) + length entry) ws))
+
+-- The words once the entry at `at` has one less: if it comes to 0 those from `kept` up to it have moved down to `to`.
+unfoldable pub lessenedWords : ℕ → ℕ → ℕ → List ℕ → List ℕ
+lessenedWords to kept at ws = if leb (getD ws (at + 1) 0) 1 then brought to kept at ws else set ws (at + 1) (getD ws (at + 1) 0 - 1)
+
+-- The gap then, which holds the entry if it comes to 0, the word past the entry, and how many entries were taken out.
+unfoldable pub lessenedBy : ℕ → ℕ → ℕ → List ℕ → Lessened
+lessenedBy to kept at ws =
+    if leb (getD ws (at + 1) 0) 1 then record { to = to + (at - kept); kept = at + 2 + 2 * getD ws at 0; next = at + 2 + 2 * getD ws at 0; out = 1 }
+    else record { to = to; kept = kept; next = at + 2 + 2 * getD ws at 0; out = 0 }

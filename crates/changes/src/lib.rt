@@ -1,14 +1,14 @@
-// A section of a book changed by the entries of another, both with ascending keys: each pass reads both once, and shifts what stands behind an
-// entry that it enters or takes out. What the other would enter is weighed first; then it is added, or one less of each is taken. Assumes
-// nothing beyond each function's `requires`.
+// A section of a book changed by the entries of another, both with ascending keys: each pass reads both once, and sweeps a gap through the
+// book, over which each word moves at most once. What the other would enter is weighed first; then it is added, or one less of each is taken.
+// Assumes nothing beyond each function's `requires`.
 ghost use mathlib.Core.Path.{_≡_};
 ghost use mathlib.Core.Bool.{true};
 ghost use mathlib.Core.List.{_++_};
-ghost use Prim.Native.Nat.{_+_, _-_, _≤_};
+ghost use Prim.Native.Nat.{_+_, _*_, _-_, _≤_};
 ghost use lib.ListN.{length, getD, set, take, drop};
 ghost use Rattle.figures.specs.Limits.{greatest-count};
 ghost use Rattle.section.specs.Entries.{sectionWords, width, firstEntry, entries, span, Sorted};
-ghost use Rattle.changes.specs.Editing.{addAll, lowerAll, addOnce, fitting, weighed, firstAgainst, Laid, Edited, lessenedWords, lessenedBy};
+ghost use Rattle.changes.specs.Editing.{addAll, lowerAll, addOnce, fitting, lackingWords, weighed, firstAgainst, Laid, Edited, brought, entered, lessenedWords, lessenedBy};
 use figures::limits;
 use section::Found;
 use section::find;
@@ -27,10 +27,11 @@ pub struct Weighed {
     pub overfull: bool,
 }
 
-// What one less of a part's first entry came to: how many words to go on by, how many were freed, and how many entries were taken out.
+// What one less of an entry came to: where the gap starts and ends then, which word comes past the entry, and how many entries were taken out.
 pub struct Lessened {
-    pub step: usize,
-    pub freed: usize,
+    pub to: usize,
+    pub kept: usize,
+    pub next: usize,
     pub out: usize,
 }
 
@@ -125,19 +126,50 @@ pub fn enter_once(part: &mut [u16], many: usize, used: usize, entry: &[u16]) -> 
     }
 }
 
+// Moves the words from `kept` up to `at` down to word `to`. Answers where they end then.
+fn bring_down(book: &mut [u16], to: usize, kept: usize, at: usize) -> usize
+    requires { ⌜ (to ≤ kept) × (kept ≤ at) × (at ≤ length (now book)) ⌝ }
+    ensures { λ r. ⌜ (now (book .exit) ≡ brought to kept at (now (book .entry))) × (r ≡ to + (at - kept)) ⌝ }
+{
+    let passed = at - kept;
+    words::slide(&mut book[to..], kept - to, passed);
+    to + passed
+}
+
+// Moves the words from `kept` up to `at` down to word `to`, and writes an entry's words behind them. Answers where these end.
+fn enter_behind(book: &mut [u16], to: usize, kept: usize, at: usize, entry: &[u16]) -> usize
+    requires { ⌜ (to + length (now entry) ≤ kept) × (kept ≤ at) × (at ≤ length (now book)) ⌝ }
+    ensures { λ r. ⌜ (now (book .exit) ≡ entered to kept at (now (entry .entry)) (now (book .entry))) × (r ≡ to + (at - kept) + length (now (entry .entry))) ⌝ }
+{
+    let end = bring_down(book, to, kept, at);
+    words::copy(&mut book[end..], entry);
+    end + entry.len()
+}
+
 // Adds the first `more` entries of `other` to the first `many` of `book`, in one pass over both: counts are raised by the other's, and what is
-// lacking is entered. Answers the size then.
-pub fn add_all(book: &mut [u16], many: usize, used: usize, other: &[u16], more: usize) -> Size
+// lacking is entered from a gap of `lacking` words, which is opened first. Before `to` all stands where it belongs, and from `kept` up to `at`
+// what was passed and has not moved down yet. Answers the size then.
+pub fn add_all(
+    book: &mut [u16],
+    many: usize,
+    used: usize,
+    other: &[u16],
+    more: usize,
+    lacking: usize,
+) -> Size
     requires { ⌜ Laid (now book) many used × Sorted (entries many (now book)) ⌝ }
     requires { ⌜ (span more (now other) ≤ length (now other)) × Sorted (entries more (now other)) ⌝ }
     requires { ⌜ (length (sectionWords (addAll (entries more (now other)) (entries many (now book)))) + (used - span many (now book)) ≤ length (now book)) × (fitting (addAll (entries more (now other)) (entries many (now book))) ≡ true) ⌝ }
+    requires { ⌜ lacking ≡ lackingWords (entries more (now other)) (entries many (now book)) ⌝ }
     ensures { λ r. ⌜ Edited (now (book .entry)) many used (addAll (entries more (now (other .entry))) (entries many (now (book .entry)))) (now (book .exit)) r ⌝ }
 {
-    let mut at: usize = 0;
+    words::open_gap(book, used, lacking);
+    let mut to: usize = 0;
+    let mut kept = lacking;
+    let mut at = lacking;
     let mut left = many;
     let mut from: usize = 0;
     let mut rest = more;
-    let mut grown = used;
     let mut count = many;
     while 0 < rest {
         let start = from + 2;
@@ -155,56 +187,60 @@ pub fn add_all(book: &mut [u16], many: usize, used: usize, other: &[u16], more: 
                 rest -= 1;
             }
             Compared::Higher => {
-                enter(&mut book[at..], grown - at, &other[from..end]);
-                let width = end - from;
-                at += width;
-                grown += width;
+                to = enter_behind(book, to, kept, at, &other[from..end]);
+                kept = at;
                 count += 1;
                 from = end;
                 rest -= 1;
             }
         }
     }
+    let uses = used + lacking;
     Size {
-        used: grown,
+        used: uses,
         many: count,
     }
 }
 
-// One less of the part's first entry, which is taken out if it comes to 0: the words behind it, up to `used`, then move down.
-fn lessen(part: &mut [u16], used: usize) -> Lessened
-    requires { ⌜ (width (now part) ≤ used) × (used ≤ length (now part)) ⌝ }
-    ensures { λ r. ⌜ (now (part .exit) ≡ lessenedWords used (now (part .entry))) × (r ≡ lessenedBy (now (part .entry))) ⌝ }
+// One less of the entry at `at`. If it comes to 0 the gap from `to` up to `kept` moves behind the words between the two, and then holds the
+// entry as well.
+fn lessen(book: &mut [u16], to: usize, kept: usize, at: usize) -> Lessened
+    requires { ⌜ (to ≤ kept) × (kept ≤ at) × (at + 2 + 2 * getD (now book) at 0 ≤ length (now book)) ⌝ }
+    ensures { λ r. ⌜ (now (book .exit) ≡ lessenedWords to kept at (now (book .entry))) × (r ≡ lessenedBy to kept at (now (book .entry))) ⌝ }
 {
-    let width = past(part, 0);
-    let count = part[1];
+    let next = past(book, at);
+    let count = book[at + 1];
     if count <= 1 {
-        words::close_gap(part, used, width);
+        let end = bring_down(book, to, kept, at);
         return Lessened {
-            step: 0,
-            freed: width,
+            to: end,
+            kept: next,
+            next,
             out: 1,
         };
     }
-    part[1] = count - 1;
+    book[at + 1] = count - 1;
     Lessened {
-        step: width,
-        freed: 0,
+        to,
+        kept,
+        next,
         out: 0,
     }
 }
 
-// One less of each key of the first `more` entries of `other` among the first `many` of `book`, in one pass over both. Answers the size then.
+// One less of each key of the first `more` entries of `other` among the first `many` of `book`, in one pass over both.
+// Before `to` all stands where it belongs, and from `kept` up to `at` what was passed and has not moved down yet. Answers the size then.
 pub fn lower_all(book: &mut [u16], many: usize, used: usize, other: &[u16], more: usize) -> Size
     requires { ⌜ Laid (now book) many used × Sorted (entries many (now book)) ⌝ }
     requires { ⌜ (span more (now other) ≤ length (now other)) × Sorted (entries more (now other)) ⌝ }
     ensures { λ r. ⌜ Edited (now (book .entry)) many used (lowerAll (entries more (now (other .entry))) (entries many (now (book .entry)))) (now (book .exit)) r ⌝ }
 {
+    let mut to: usize = 0;
+    let mut kept: usize = 0;
     let mut at: usize = 0;
     let mut left = many;
     let mut from: usize = 0;
     let mut rest = more;
-    let mut kept = used;
     let mut count = many;
     while 0 < rest {
         let start = from + 2;
@@ -215,9 +251,10 @@ pub fn lower_all(book: &mut [u16], many: usize, used: usize, other: &[u16], more
                 left -= 1;
             }
             Compared::Equal => {
-                let less = lessen(&mut book[at..], kept - at);
-                at += less.step;
-                kept -= less.freed;
+                let less = lessen(book, to, kept, at);
+                to = less.to;
+                kept = less.kept;
+                at = less.next;
                 count -= less.out;
                 left -= 1;
                 from = end;
@@ -229,8 +266,11 @@ pub fn lower_all(book: &mut [u16], many: usize, used: usize, other: &[u16], more
             }
         }
     }
+    let freed = kept - to;
+    words::close_gap(&mut book[to..], used - to, freed);
+    let uses = used - freed;
     Size {
-        used: kept,
+        used: uses,
         many: count,
     }
 }

@@ -1,24 +1,33 @@
 // The subtree of a line of an order, as that part of its words, and its cut, written to a lent slice. Assumes nothing beyond the `requires` of an
 // inner function.
 ghost use mathlib.Core.Path.{_≡_};
+ghost use Prim.Native.Nat.{_*_, _/_, _<_};
 ghost use lib.ListN.{length};
-ghost use Rattle.words.specs.Base.{over};
-ghost use Rattle.order.specs.Walks.{walkOf, Room, cutOf, wordsAtOf, endOf, laidOf, placeOf};
+ghost use lib.Dec.{leb};
+ghost use Rattle.words.specs.Base.{over, if_then_else_};
+ghost use Rattle.figures.specs.Limits.{most-nodes};
+ghost use Rattle.figures.specs.Numbers.{done};
+ghost use Rattle.order.specs.Reading.{causeOf};
+ghost use Rattle.order.specs.Levels.{LinesLevelled};
+ghost use Rattle.order.specs.Walks.{walkOf, Room, cutOf, endOf, laidOf, placeOf};
 ghost use Rattle.order.specs.Answers.{subtreeOf, writing, write, cutIntoOf};
 use figures::Written;
+use figures::limits;
 use figures::numbers;
 use figures::wrote;
 use order::Laid;
 use order::Place;
 use order::Walked;
-use order::cause;
 use order::walk;
 
-// Where a line of an order stands.
-pub fn find_line(order: &[u16], line: usize) -> Place
-    ensures { λ r. ⌜ r ≡ placeOf (now (order .entry)) line ⌝ }
+// Where a line of an order stands; and the levels of the order's lines, at the front of `levels`.
+pub fn find_line(order: &[u16], line: usize, levels: &mut [u8; limits::MOST_NODES]) -> Place
+    requires { ⌜ length (now levels) ≡ most-nodes ⌝ }
+    ensures came { λ r. ⌜ r ≡ placeOf (now (order .entry)) line ⌝ }
+    ensures listed { λ _. ⌜ (causeOf (now (order .entry)) ≡ done → LinesLevelled (now (order .entry)) (now (levels .exit))) ⌝ }
+    ensures kept { λ _. ⌜ length (now (levels .exit)) ≡ most-nodes ⌝ }
 {
-    let number = cause(order);
+    let number = order::cause_into(order, levels);
     if number != numbers::DONE {
         return Place::Refused(number);
     }
@@ -47,15 +56,62 @@ fn past(order: &[u16], at: usize) -> usize
     end
 }
 
-// The tree at word `at`, as that part of the order; an empty part where there is none.
-fn tree_at(order: &[u16], at: usize) -> &[u16]
-    ensures { λ r. ⌜ now r ≡ wordsAtOf (now (order .entry)) at ⌝ }
+// What a walk of the subtree of a line finds, the lines counted from 0, by the levels of the order's lines: the lines that follow it at a greater
+// level are its own.
+pub fn walk_line(order: &[u16], levels: &[u8; limits::MOST_NODES], line: usize, d: usize) -> Walked
+    requires { ⌜ causeOf (now order) ≡ done ⌝ }
+    requires { ⌜ LinesLevelled (now order) (now levels) ⌝ }
+    requires { ⌜ line < length (now order) / 2 ⌝ }
+    requires { ⌜ length (now levels) ≡ most-nodes ⌝ }
+    ensures { λ r. ⌜ r ≡ walkOf (now (order .entry)) (line * 2) d ⌝ }
 {
-    let end = past(order, at);
-    if end <= at {
-        return &order[0..0];
+    let lines = order.len() / 2;
+    let own = levels[line];
+    let mut end = line + 1;
+    let mut depth: usize = 0;
+    let mut cut: usize = 2;
+    while end < lines {
+        let level = levels[end];
+        if level <= own {
+            return Walked::Whole {
+                end: end * 2,
+                depth,
+                cut,
+            };
+        }
+        let below = (level - own) as usize;
+        if depth < below {
+            depth = below;
+        }
+        if below <= d {
+            cut += 2;
+        }
+        end += 1;
     }
-    &order[at..end]
+    Walked::Whole {
+        end: end * 2,
+        depth,
+        cut,
+    }
+}
+
+// The word past the subtree of a line, the lines counted from 0, by the levels of the order's lines.
+fn line_end(order: &[u16], levels: &[u8; limits::MOST_NODES], line: usize) -> usize
+    requires { ⌜ causeOf (now order) ≡ done ⌝ }
+    requires { ⌜ LinesLevelled (now order) (now levels) ⌝ }
+    requires { ⌜ line < length (now order) / 2 ⌝ }
+    requires { ⌜ length (now levels) ≡ most-nodes ⌝ }
+    ensures { λ r. ⌜ r ≡ endOf (walkOf (now (order .entry)) (line * 2) 0) ⌝ }
+{
+    let Walked::Whole {
+        end,
+        depth: _,
+        cut: _,
+    } = walk_line(order, levels, line, 0)
+    else {
+        return 0;
+    };
+    end
 }
 
 // The subtree of a line, counted from 1, as that part of the order; an empty part for an order with a cause of 1 or 2 and for a line
@@ -63,10 +119,68 @@ fn tree_at(order: &[u16], at: usize) -> &[u16]
 pub fn subtree(order: &[u16], line: usize) -> &[u16]
     ensures { λ r. ⌜ now r ≡ subtreeOf (now (order .entry)) line ⌝ }
 {
-    match find_line(order, line) {
+    let mut levels = [0u8; limits::MOST_NODES];
+    match find_line(order, line, &mut levels) {
         Place::Refused(_) => &order[0..0],
         Place::Lacking => &order[0..0],
-        Place::At(at) => tree_at(order, at),
+        Place::At(at) => {
+            let end = line_end(order, &levels, line - 1);
+            &order[at..end]
+        }
+    }
+}
+
+// What a node at a depth keeps of its number of children in a cut at d: none at depth d.
+fn kept_children(below: usize, d: usize, children: u16) -> u16
+    ensures { λ r. ⌜ r ≡ (if leb d below then 0 else children) ⌝ }
+{
+    if d <= below { 0 } else { children }
+}
+
+// Writes the cut at d of the subtree of a line, the lines counted from 0, to the front of `out`, which has room for it, by the levels of the order's
+// lines.
+pub fn put_line(
+    order: &[u16],
+    levels: &[u8; limits::MOST_NODES],
+    line: usize,
+    d: usize,
+    out: &mut [u16],
+) -> Laid
+    requires { ⌜ causeOf (now order) ≡ done ⌝ }
+    requires { ⌜ LinesLevelled (now order) (now levels) ⌝ }
+    requires { ⌜ line < length (now order) / 2 ⌝ }
+    requires { ⌜ length (now levels) ≡ most-nodes ⌝ }
+    requires { ⌜ Room (walkOf (now order) (line * 2) d) (length (now out)) ⌝ }
+    ensures came { λ r. ⌜ r ≡ laidOf (walkOf (now (order .entry)) (line * 2) d) ⌝ }
+    ensures wrote { λ _. ⌜ now (out .exit) ≡ over (cutOf (now (order .entry)) (line * 2) d) (now (out .entry)) ⌝ }
+{
+    let lines = order.len() / 2;
+    let own = levels[line];
+    let at = line * 2;
+    out[0] = order[at];
+    out[1] = kept_children(0, d, order[at + 1]);
+    let mut end = line + 1;
+    let mut count: usize = 2;
+    while end < lines {
+        let level = levels[end];
+        if level <= own {
+            return Laid {
+                end: end * 2,
+                count,
+            };
+        }
+        let below = (level - own) as usize;
+        if below <= d {
+            let at = end * 2;
+            out[count] = order[at];
+            out[count + 1] = kept_children(below, d, order[at + 1]);
+            count += 2;
+        }
+        end += 1;
+    }
+    Laid {
+        end: end * 2,
+        count,
     }
 }
 
@@ -121,7 +235,8 @@ pub fn cut_at(order: &[u16], at: usize, d: usize, out: &mut [u16]) -> Written
 pub fn cut_into(order: &[u16], line: usize, d: usize, out: &mut [u16]) -> Written
     ensures { λ r. ⌜ writing r (now (out .exit)) ≡ cutIntoOf (now (order .entry)) line d (now (out .entry)) ⌝ }
 {
-    match find_line(order, line) {
+    let mut levels = [0u8; limits::MOST_NODES];
+    match find_line(order, line, &mut levels) {
         Place::Refused(number) => wrote(number, 0),
         Place::Lacking => wrote(numbers::DONE, 0),
         Place::At(at) => cut_at(order, at, d, out),

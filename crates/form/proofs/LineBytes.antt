@@ -8,8 +8,10 @@ use borrow.Author.Tests.{lt-ltb, le-ltb}
 use lib.ListN.{length, take, drop, set, length-append, length-drop}
 use lib.Seq.{length-take-le, take-at, drop-at, drop-drop, sets-eq}
 use Rattle.words.specs.Base.{if_then_else_, over}
+use Rattle.order.specs.Trees.{Tree, Forest, node, bare, cons}
+use Rattle.order.specs.Levels.{treeLevels, rowLevels}
 use Rattle.order.proofs.Cuts.{part-back}
-use Rattle.form.specs.Text.{space, line-feed, digit, code-size, levelText, codeText, Line, lineText, spell}
+use Rattle.form.specs.Text.{space, line-feed, digit, code-size, levelText, codeText, Line, lineText, spell, linesOf, linesF}
 use Rattle.form.specs.Turns.{levelsOf}
 
 -- ---- a level
@@ -100,6 +102,17 @@ pub levels-size : (xs : List Line) → length (levelsOf xs) ≡ length xs
 unfolding levelsOf
 levels-size [] = refl
 levels-size (x ∷ xs) = ap suc (levels-size xs)
+
+-- The levels of a tree's lines are those that its nodes have, and so are those of a row.
+mutual
+  unfolding linesOf treeLevels levelsOf
+
+  pub tree-levels : (t : Tree) (l : ℕ) → treeLevels t l ≡ levelsOf (linesOf t l)
+  tree-levels (node c f) l = ap (λ (r : List ℕ). l ∷ r) (row-levels f (suc l))
+
+  row-levels : (f : Forest) (l : ℕ) → rowLevels f l ≡ levelsOf (linesF f l)
+  row-levels bare l = refl
+  row-levels (cons t f) l = rw (tree-levels t l, row-levels f l) (sym (levels-append (linesOf t l) (linesF f l)))
 
 -- A level takes at most two bytes.
 pub level-most : (l : ℕ) → length (levelText l) ≤ 2

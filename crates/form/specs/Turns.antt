@@ -1,5 +1,5 @@
 -- What the inner functions of reading and writing give, in the terms that the code has at hand. Assumes nothing: these are definitions.
-use Prim.Native.Nat.{ℕ, zero, suc, _+_, _*_, _-_, _≤_, _<_}
+use Prim.Native.Nat.{ℕ, suc, _+_, _*_, _-_, _≤_, _<_}
 use mathlib.Core.Path.{_≡_}
 use mathlib.Core.Bool.{Bool, true, not}
 use mathlib.Core.List.{List, [], _∷_}
@@ -86,8 +86,3 @@ linesIn ws = byOrder (orderOf ws) (λ n. []) (λ t. linesOf t 0)
 unfoldable pub levelsOf : List Line → List ℕ
 levelsOf [] = []
 levelsOf (x ∷ xs) = x .level ∷ levelsOf xs
-
--- The deepest level, the given one or one above it, at which `left` has trees to come; 0 where there is none.
-unfoldable pub climbOf : List ℕ → ℕ → ℕ
-climbOf left zero = zero
-climbOf left (suc l) = if eqb (getD left (suc l) 0) 0 then climbOf left l else suc l

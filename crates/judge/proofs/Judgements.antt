@@ -14,7 +14,6 @@ use Rattle.order.specs.Reading.{order, byOrder, orderOf, causeOf}
 use Rattle.order.specs.Causes.{Cause}
 use Rattle.order.specs.Parts.{isLow}
 use Rattle.order.specs.Walks.{partAtOf}
-use Rattle.order.specs.Answers.{checkOf}
 use Rattle.order.specs.declared.PartAt.{PartAt}
 use Rattle.order.specs.declared.PartAt.the-variants.{NoPart, LowTo, MiddleTo}
 use Rattle.order.proofs.Causes.{Passed, has-tree, cause-is, cause-refuses}
@@ -102,8 +101,7 @@ module _ (ws os : List ℕ) (b : Book) (i : IsBook ws b) where
 
 module _ (ws os : List ℕ) (p : Places) (H : Holds ws p) where
   -- An order with a cause of 1 or 2 is answered by it.
-  pub judge-refused : (causeOf os ≡ done → ⊥) → judgeOf ws os ≡ checkOf os
-  unfolding checkOf
+  pub judge-refused : (causeOf os ≡ done → ⊥) → judgeOf ws os ≡ answered (causeOf os)
   judge-refused n = by-cause ws os (bookIn ws) (held-book ws p H) (causeOf os) (cause-is os) n
 
   module _ (e : causeOf os ≡ done) where

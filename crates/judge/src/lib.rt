@@ -4,9 +4,10 @@ ghost use mathlib.Core.Path.{_≡_};
 ghost use Prim.Native.Nat.{_*_, _/_, _≤_, _<_};
 ghost use lib.ListN.{length};
 ghost use Rattle.words.specs.Compare.{compareOf};
-ghost use Rattle.figures.specs.Limits.{most-words};
+ghost use Rattle.figures.specs.Limits.{most-nodes, most-words};
 ghost use Rattle.figures.specs.Numbers.{done};
 ghost use Rattle.order.specs.Reading.{causeOf};
+ghost use Rattle.order.specs.Levels.{LinesLevelled};
 ghost use Rattle.book.specs.Decoding.{bookIn};
 ghost use Rattle.book.specs.Holding.{Holds};
 ghost use Rattle.judge.specs.Judging.{judgeOf};
@@ -32,13 +33,14 @@ pub struct Sought {
 }
 
 // Whether the order's top is in the book.
-fn top_known(book: &[u16], places: Places, order: &[u16]) -> bool
+fn top_known(book: &[u16], places: Places, order: &[u16], levels: &[u8; limits::MOST_NODES]) -> bool
     requires { ⌜ Holds (now book) places ⌝ }
     requires { ⌜ causeOf (now order) ≡ done ⌝ }
+    requires { ⌜ LinesLevelled (now order) (now levels) × (length (now levels) ≡ most-nodes) ⌝ }
     ensures { λ r. ⌜ r ≡ topKnown (bookIn (now (book .entry))) (now (order .entry)) ⌝ }
 {
     let mut cut = [0u16; limits::MOST_WORDS];
-    let laid = cuts::put(order, 0, places.k.of_tops(), &mut cut);
+    let laid = cuts::put_line(order, levels, 0, places.k.of_tops(), &mut cut);
     let count = laid.count;
     let many = book[limits::TOPS_WORD] as usize;
     match section::find(book, places.tops, many, &cut[0..count]) {
@@ -48,15 +50,23 @@ fn top_known(book: &[u16], places: Places, order: &[u16]) -> bool
 }
 
 // The part that a line stands for, the lines counted from 0; the words of a middle part are written to `cut`.
-fn seek(book: &[u16], places: Places, order: &[u16], line: usize, cut: &mut [u16]) -> Sought
+fn seek(
+    book: &[u16],
+    places: Places,
+    order: &[u16],
+    levels: &[u8; limits::MOST_NODES],
+    line: usize,
+    cut: &mut [u16],
+) -> Sought
     requires { ⌜ Holds (now book) places ⌝ }
     requires { ⌜ causeOf (now order) ≡ done ⌝ }
     requires { ⌜ line < length (now order) / 2 ⌝ }
     requires { ⌜ most-words ≤ length (now cut) ⌝ }
+    requires { ⌜ LinesLevelled (now order) (now levels) × (length (now levels) ≡ most-nodes) ⌝ }
     ensures { λ r. ⌜ Seeks (bookIn (now (book .entry))) (now (book .entry)) (now (order .entry)) (line * 2) (now (cut .exit)) r ⌝ }
 {
     let from = line * 2;
-    match parts::part_at(order, from, places.k) {
+    match parts::part_line(order, levels, line, places.k) {
         // Never met: every line of an order has a part.
         PartAt::NoPart => Sought {
             low: true,
@@ -76,7 +86,7 @@ fn seek(book: &[u16], places: Places, order: &[u16], line: usize, cut: &mut [u16
             }
         }
         PartAt::MiddleTo { end: _, count } => {
-            cuts::put(order, from, places.k.of_middles(), cut);
+            cuts::put_line(order, levels, line, places.k.of_middles(), cut);
             let many = book[limits::MIDDLES_WORD] as usize;
             Sought {
                 low: false,
@@ -103,9 +113,15 @@ fn against(tree: &[u16], part: Sought, order: &[u16], cut: &[u16]) -> Compared
 }
 
 // The first line whose part is unknown, counted from 1; 0 where every part is known.
-fn first_unknown(book: &[u16], places: Places, order: &[u16]) -> usize
+fn first_unknown(
+    book: &[u16],
+    places: Places,
+    order: &[u16],
+    levels: &[u8; limits::MOST_NODES],
+) -> usize
     requires { ⌜ Holds (now book) places ⌝ }
     requires { ⌜ causeOf (now order) ≡ done ⌝ }
+    requires { ⌜ LinesLevelled (now order) (now levels) × (length (now levels) ≡ most-nodes) ⌝ }
     ensures { λ r. ⌜ r ≡ lineUnknown (bookIn (now (book .entry))) (now (order .entry)) ⌝ }
 {
     let mut cut = [0u16; limits::MOST_WORDS];
@@ -115,7 +131,7 @@ fn first_unknown(book: &[u16], places: Places, order: &[u16]) -> usize
         if lines <= line {
             break 'lines 0;
         }
-        let part = seek(book, places, order, line, &mut cut);
+        let part = seek(book, places, order, levels, line, &mut cut);
         line += 1;
         let mut at = part.at;
         let mut left = part.many;
@@ -136,14 +152,16 @@ fn first_unknown(book: &[u16], places: Places, order: &[u16]) -> usize
 }
 
 // The answer for the first unknown line: 21 or 22 by the depth of its uncut subtree; 0 for line 0.
-fn line_answer(order: &[u16], k: Depth, line: usize) -> Answer
+fn line_answer(order: &[u16], levels: &[u8; limits::MOST_NODES], k: Depth, line: usize) -> Answer
+    requires { ⌜ causeOf (now order) ≡ done ⌝ }
     requires { ⌜ line ≤ length (now order) / 2 ⌝ }
+    requires { ⌜ LinesLevelled (now order) (now levels) × (length (now levels) ≡ most-nodes) ⌝ }
     ensures { λ r. ⌜ r ≡ lineAnswer (k .k) (now (order .entry)) line ⌝ }
 {
     if line == 0 {
         return answered(numbers::DONE);
     }
-    let number = match parts::part_at(order, (line - 1) * 2, k) {
+    let number = match parts::part_line(order, levels, line - 1, k) {
         // Not met by a line of an order, which has a part.
         PartAt::NoPart => numbers::LOW_UNKNOWN,
         PartAt::LowTo { end: _ } => numbers::LOW_UNKNOWN,
@@ -157,18 +175,19 @@ fn judge_order(book: &[u16], places: Places, order: &[u16]) -> Answer
     requires { ⌜ Holds (now book) places ⌝ }
     ensures { λ r. ⌜ r ≡ judgeOf (now (book .entry)) (now (order .entry)) ⌝ }
 {
-    let checked = order::check(order);
-    if checked.number != numbers::DONE {
-        return checked;
+    let mut levels = [0u8; limits::MOST_NODES];
+    let cause = order::cause_into(order, &mut levels);
+    if cause != numbers::DONE {
+        return answered(cause);
     }
-    if !top_known(book, places, order) {
+    if !top_known(book, places, order, &levels) {
         return Answer {
             number: numbers::TOP_UNKNOWN,
             line: 1,
         };
     }
-    let line = first_unknown(book, places, order);
-    line_answer(order, places.k, line)
+    let line = first_unknown(book, places, order, &levels);
+    line_answer(order, &levels, places.k, line)
 }
 
 // Judges an order: 4, 5, 1, 2, or 0 if its top, its low parts and its middle parts are all in the book, and otherwise 20, 21 or 22 with a line.

@@ -3,7 +3,7 @@
 ghost use mathlib.Core.Path.{_≡_};
 ghost use Prim.Native.Nat.{_≤_};
 ghost use lib.ListN.{length, drop};
-ghost use Rattle.figures.specs.Limits.{head-words};
+ghost use Rattle.figures.specs.Limits.{greatest-depth, head-words};
 ghost use Rattle.book.specs.Decoding.{bookFormOf};
 ghost use Rattle.book.specs.Passes.{wholeAt, stretchOf, zeros, headOf};
 use book::BookForm;
@@ -39,6 +39,7 @@ fn whole_at(book: &[u16], at: usize) -> Whole
 // One pass over the n entries from `from`: each is whole, counts at least 1, is an order of a depth from `least` to `greatest`, and stands
 // above the one before it.
 fn pass(book: &[u16], from: usize, n: u16, least: usize, greatest: usize) -> Stretch
+    requires { ⌜ greatest ≤ greatest-depth ⌝ }
     ensures { λ r. ⌜ r ≡ stretchOf (now (book .entry)) from n least greatest ⌝ }
 {
     let mut at = from;
@@ -69,18 +70,20 @@ fn pass(book: &[u16], from: usize, n: u16, least: usize, greatest: usize) -> Str
     Stretch::InOrder(at, sum)
 }
 
-// Whether every word from `at` on is zero.
+// Whether every word from `at` on is zero, by the greatest of them: no word ends the loop early, so that a processor can look at several at once.
 fn zeros_from(book: &[u16], at: usize) -> bool
     ensures { λ r. ⌜ r ≡ zeros (drop at (now (book .entry))) ⌝ }
 {
+    let mut greatest: u16 = 0;
     let mut i = at;
     while i < book.len() {
-        if book[i] != 0 {
-            return false;
+        let word = book[i];
+        if greatest < word {
+            greatest = word;
         }
         i += 1;
     }
-    true
+    greatest == 0
 }
 
 // Whether the head says how many teachings are live and how many words are used, and the words past these are zero.

@@ -1,24 +1,26 @@
 -- What the public functions answer, by where the line stands. Assumes nothing.
-use mathlib.Core.Path.{_≡_, refl, sym}
+use mathlib.Core.Path.{_≡_, refl, ap, sym, _∙_}
 use mathlib.Core.Bool.{Bool, true, false}
 use mathlib.Core.List.{List, []}
-use Prim.Native.Nat.{ℕ, _-_}
+use Prim.Native.Nat.{ℕ, _-_, _≤_}
 use native.Mathlib.Omega.{arith}
 use borrow.Author.Tests.{leb-true}
 use lib.Dec.{leb}
+use lib.ListN.{length, take, drop}
 use Rattle.words.specs.Base.{if_then_else_}
 use Rattle.figures.specs.Numbers.{done}
 use Rattle.figures.specs.Answers.{wrote}
 use Rattle.order.specs.Trees.{Tree, depth, cut}
 use Rattle.order.specs.Reading.{byFound, refused, byOrder, orderOf}
 use Rattle.order.specs.Parts.{isLow, middle, partOf}
-use Rattle.order.specs.Walks.{cutOf, wordsAtOf, partWalked, partAtOf, kindOf}
+use Rattle.order.specs.Walks.{walkOf, endOf, cutOf, partWalked, partAtOf, kindOf}
 use Rattle.order.specs.Answers.{subtreeOf, refuse, write, cutIntoOf, partWriting, noPart, ofKind, partIntoOf}
 use Rattle.order.specs.declared.Walked.the-variants.{Whole}
 use Rattle.order.proofs.Cutting.{cut-shallow}
 use Rattle.order.proofs.Cuts.{no-words}
 use Rattle.order.proofs.PartsAt.{part-short}
-use Rattle.order.proofs.Lines.{walk-spot, cut-spot, tree-spot, HasLine, LacksLine}
+use Rattle.order.proofs.Lines.{walk-spot, cut-spot, HasLine, LacksLine}
+use Rattle.order.proofs.Spots.{spot-within, spot-words}
 
 -- ---- an order that is refused
 
@@ -77,10 +79,18 @@ part-kind k t e c = go (leb (depth t) (k - 2)) refl
     go false h = rw h refl
 
 module _ (s : List ℕ) (line at : ℕ) (has : HasLine s line at) where
-  -- The words of the tree there are handed out.
-  pub subtree-has : subtreeOf s line ≡ wordsAtOf s at
+  -- The tree there ends within the order.
+  pub subtree-within : (e : ℕ) → at ≤ length s → e ≡ endOf (walkOf s at 0) → (at ≤ e) × (e ≤ length s)
+  subtree-within e h z =
+      let w = ap endOf (walk-spot s at _ (has .spot) 0) in
+      (omega arith, omega (arith, spot-within s at _ (has .spot) h))
+
+  -- The words up to where it ends are handed out.
+  pub subtree-has : (e : ℕ) → e ≡ endOf (walkOf s at 0) → subtreeOf s line ≡ take (e - at) (drop at s)
   unfolding subtreeOf byOrder byFound
-  subtree-has = rw (has .is, has .spot .is, tree-spot s at _ (has .spot)) refl
+  subtree-has e z =
+      let w = spot-words s at _ (has .spot) e (z ∙ ap endOf (walk-spot s at _ (has .spot) 0)) in
+      rw (has .is, has .spot .is, w) refl
 
   -- The cut of the tree there is written.
   pub cut-has : (d : ℕ) (out : List ℕ) → cutIntoOf s line d out ≡ write (cutOf s at d) out

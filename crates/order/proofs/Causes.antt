@@ -11,10 +11,8 @@ use lib.Dec.{leb, ltb, eqb}
 use lib.ListN.{length}
 use Rattle.figures.specs.Limits.{most-nodes, most-words, greatest-depth}
 use Rattle.figures.specs.Numbers.{done, no-order, too-large}
-use Rattle.figures.specs.declared.Answer.{Answer}
 use Rattle.order.specs.Trees.{Tree, words, depth, Good, subtrees}
 use Rattle.order.specs.Reading.{Found, missing, found, treeOf, Order, refused, order, byOrder, orderOf, causeOf}
-use Rattle.order.specs.Answers.{checkOf}
 use Rattle.order.specs.Causes.{Cause, empty, odd, long, no-tree, deep, none}
 use Rattle.order.proofs.Reading.{not-found}
 use Rattle.order.proofs.Orders.{FoundDeep, size, words-read, read-words, cause-empty, cause-odd, cause-long, cause-missing, cause-deep, cause-none, tree-sized, tree-passes}
@@ -143,8 +141,3 @@ has-tree s e = go (seen s)
     go : Seen s → HasTree s
     go (stopped h r) = absurd (h e)
     go (passed t h p) = record { tree = t; passes = p }
-
--- The number of the answer to an order is its cause.
-pub cause-told : (os : List ℕ) (a : Answer) → a ≡ checkOf os → a .number ≡ causeOf os
-unfolding checkOf
-cause-told os a e = ap (λ (x : Answer). x .number) e

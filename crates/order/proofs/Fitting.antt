@@ -1,8 +1,8 @@
--- Which words fit (specs/Fits.antt): what the walk from word 0 says of it, that `fitsOf` is `Fits`, and that the parts of an order fit.
+-- Which words fit (specs/Fits.antt): what the lines of words say of it, that `fitsOf` is `Fits`, and that the parts of an order fit.
 -- Assumes nothing.
 use Prim.Native.Nat.{ℕ, _-_, _*_, _/_, _≤_, _<_}
 use mathlib.Core.Path.{_≡_, refl, ap, sym, subst, _∙_}
-use mathlib.Core.Bool.{true, false}
+use mathlib.Core.Bool.{Bool, true, false}
 use mathlib.Core.List.{List, [], Memᴰ·of-map}
 use native.Mathlib.Omega.{arith}
 use borrow.Author.Tests.{le-leb, lt-leb, leb-true}
@@ -11,24 +11,26 @@ use lib.ListN.{length}
 use Rattle.words.specs.Base.{_and_, within, keep, _∈_}
 use Rattle.words.specs.Compare.{compareOf}
 use Rattle.words.specs.declared.Compared.the-variants.{Lower}
-use Rattle.words.proofs.Tests.{no-test, and-left, and-right, and-both}
+use Rattle.words.proofs.Tests.{no-test, and-left, and-right, and-both, fails-right}
 use Rattle.figures.specs.Limits.{most-nodes, most-words, greatest-depth}
 use Rattle.order.specs.Trees.{Tree, node, words, depth, cut, subtrees}
-use Rattle.order.specs.Reading.{missing, found, treeOf, order, byOrder, orderOf}
+use Rattle.order.specs.Reading.{found, treeOf, order, byOrder, orderOf}
 use Rattle.order.specs.Parts.{top, isLow, lows, middle, isMiddle, middles, lowParts, middleParts}
+use Rattle.order.specs.Levels.{deepOf}
+use Rattle.order.specs.declared.Levelled.the-variants.{Broken, Deep}
 use Rattle.order.specs.Fits.{fitsOf, IsOrder, Fits}
-use Rattle.order.proofs.Reading.{not-found}
 use Rattle.order.proofs.Unique.{words-unique}
 use Rattle.order.proofs.Once.{kept-in, once-from}
 use Rattle.order.proofs.Cutting.{depth-cut, cut-depth, cut-deep, cut-good, cut-nodes, subtree-good, subtree-nodes}
 use Rattle.order.proofs.Paper.{subtree-from, subtree-depth}
-use Rattle.order.proofs.Orders.{FoundDeep, size, words-read, read-words, tree-passes}
+use Rattle.order.proofs.Orders.{size, words-read, read-words, tree-passes}
+use Rattle.order.proofs.Deep.{too-deep, deep-found}
 use Rattle.order.proofs.Causes.{Passed, Seen, stopped, passed, seen, order-passed}
 
--- ---- what the walk says
+-- ---- what the lines say
 
 -- The tree of an order that passes is the one that is read.
-passed-found : {s : List ℕ} {t : Tree} → Passed s t → treeOf s ≡ found t
+pub passed-found : {s : List ℕ} {t : Tree} → Passed s t → treeOf s ≡ found t
 passed-found {s} {t} p = ap treeOf (p .spelt) ∙ words-read t (p .good)
 
 -- A tree that is read of few enough words, and is not too deep, is an order.
@@ -38,53 +40,41 @@ found-passed s t l e d =
     let n : length (subtrees t) ≤ most-nodes = omega (arith, size t, ap length (r .0)) in
     order-passed s t (ap orderOf (r .0) ∙ tree-passes t (r .1) n d)
 
+-- A test that passes leaves the other to decide.
+both : (a b : Bool) → b ≡ true → (a and b) ≡ a
+unfolding _and_
+both true b e = e
+both false b e = refl
+
 module _ (least greatest : ℕ) (s : List ℕ) where
   -- Of an order the depth decides.
   fits-order : (t : Tree) → orderOf s ≡ order t → fitsOf least greatest s ≡ within least greatest (depth t)
   unfolding fitsOf byOrder
   fits-order t e = rw e
 
-  -- Words that are no order do not fit.
-  fits-none : ((t : Tree) → Passed s t → ⊥) → fitsOf least greatest s ≡ false
+  -- Words do not fit that are no order, or one of another depth.
+  fits-none : ((t : Tree) → Passed s t → within least greatest (depth t) ≡ false) → fitsOf least greatest s ≡ false
   unfolding fitsOf byOrder
   fits-none h = go (seen s)
     where
       go : Seen s → fitsOf least greatest s ≡ false
       go (stopped k e) = rw e
-      go (passed t k p) = absurd (h t p)
+      go (passed t k p) = rw (p .is) (h t p)
 
   -- More words than an order has do not fit.
   pub fits-long : most-words < length s → fitsOf least greatest s ≡ false
-  fits-long l = fits-none (λ t p. omega (arith, size t, ap length (p .spelt), p .nodes))
+  fits-long l = fits-none (λ t p. absurd (omega (arith, size t, ap length (p .spelt), p .nodes)))
 
-  -- Words that are not exactly one good tree do not fit.
-  pub fits-missing : treeOf s ≡ missing → fitsOf least greatest s ≡ false
-  fits-missing e = fits-none (λ t p. not-found (sym e ∙ passed-found p))
+  -- Words whose lines come to no tree, or to one that is deeper than the greatest depth, do not fit.
+  pub fits-broken : deepOf greatest (treeOf s) ≡ Broken → fitsOf least greatest s ≡ false
+  fits-broken e = fits-none (λ t p. fails-right _ _ (lt-leb (depth t) greatest (too-deep greatest (treeOf s) t e (passed-found p))))
 
--- A tree of depth h is read of few enough words.
-module _ (least greatest h : ℕ) (s : List ℕ) (short : length s ≤ most-words) (f : FoundDeep (treeOf s) h) where
-  -- A tree that is too deep does not fit.
-  pub fits-deep : greatest-depth < h → fitsOf least greatest s ≡ false
-  fits-deep l =
-      fits-none least greatest s (λ t p.
-      let e : t ≡ f .tree = cc (passed-found p, f .is) in
-      omega (arith, ap depth e, f .deep, p .deep))
-
-  -- Otherwise its depth decides.
-  fits-found : h ≤ greatest-depth → fitsOf least greatest s ≡ within least greatest h
-  fits-found d =
-      let p = found-passed s (f .tree) short (f .is) (omega (arith, f .deep)) in
-      fits-order least greatest s (f .tree) (p .is) ∙ ap (within least greatest) (f .deep)
-
-  -- A tree that is less deep than the least depth does not fit.
-  pub fits-low : h ≤ greatest-depth → h < least → fitsOf least greatest s ≡ false
-  unfolding _and_
-  fits-low d l = fits-found d ∙ rw (lt-leb least h l)
-
-  -- Any other fits if it is no deeper than the greatest depth.
-  pub fits-high : h ≤ greatest-depth → least ≤ h → fitsOf least greatest s ≡ leb h greatest
-  unfolding _and_
-  fits-high d l = fits-found d ∙ rw (le-leb least h l)
+  -- Of any other the least depth decides.
+  pub fits-deep : (d : ℕ) → length s ≤ most-words → greatest ≤ greatest-depth → deepOf greatest (treeOf s) ≡ Deep d → fitsOf least greatest s ≡ leb least d
+  fits-deep d short g e =
+      let f = deep-found greatest (treeOf s) d e in
+      let p = found-passed s (f .0 .tree) short (f .0 .is) (omega (arith, f .0 .deep, f .1)) in
+      fits-order (f .0 .tree) (p .is) ∙ ap (within least greatest) (f .0 .deep) ∙ both (leb least d) (leb d greatest) (le-leb d greatest (f .1))
 
 -- ---- what it means to be an order, and to fit
 

@@ -14,3 +14,7 @@ pub mod Lines
 pub mod Cuts
 pub mod Answers
 pub mod Spots
+pub mod Deep
+pub mod Rows
+pub mod Levelling
+pub mod SubtreeLevels

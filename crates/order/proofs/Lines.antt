@@ -13,7 +13,7 @@ use Rattle.figures.specs.Limits.{most-words}
 use Rattle.figures.specs.Numbers.{done}
 use Rattle.order.specs.Trees.{Tree, node, Forest, bare, cons, count, words, wordsF, depth, cut, Good, GoodF, subtrees, subtreesF}
 use Rattle.order.specs.Reading.{byFound, Found, missing, found, refused, order, byOrder, orderOf, causeOf}
-use Rattle.order.specs.Walks.{firstTree, treeFrom, walked, walkOf, cutOf, wordsAtOf, linePlace, placeOf}
+use Rattle.order.specs.Walks.{firstTree, treeFrom, walked, walkOf, cutOf, linePlace, placeOf}
 use Rattle.order.specs.Answers.{treeAt, lineOf}
 use Rattle.order.specs.declared.Walked.the-variants.{Whole}
 use Rattle.order.specs.declared.Place.{Place}
@@ -127,7 +127,7 @@ subtree-part s t u i p l = pick i (length (subtrees t))
     (q .after, rw e (q .here)))
     (λ h. not-found (sym (at-past (subtrees t) i h) ∙ l))
 
--- What stands at a spot: the tree, what the walk finds, the words of the cut, and the words of the tree.
+-- What stands at a spot: the tree, what the walk finds, and the words of the cut.
 module _ (s : List ℕ) (at : ℕ) (x : Found) (p : Spot s at x) where
   -- The words from there on begin with the tree.
   pub from-spot : treeFrom s at ≡ found (p .tree)
@@ -143,11 +143,6 @@ module _ (s : List ℕ) (at : ℕ) (x : Found) (p : Spot s at x) where
   pub cut-spot : (d : ℕ) → cutOf s at d ≡ words (cut (p .tree) d)
   unfolding cutOf byFound
   cut-spot d = rw from-spot refl
-
-  -- The words are those of the tree.
-  pub tree-spot : wordsAtOf s at ≡ words (p .tree)
-  unfolding wordsAtOf byFound
-  tree-spot = rw from-spot refl
 
 -- ---- where a line stands
 
@@ -242,3 +237,28 @@ module _ (s : List ℕ) (line : ℕ) (passes : causeOf s ≡ done) where
   -- Any other line stands at its word.
   pub place-at : (line ≡ 0 → ⊥) → line ≤ length s / 2 → placeOf s line ≡ At ((line - 1) * 2)
   place-at z h = by-length s line passes ∙ line-at (length s / 2) line z h
+
+-- The order passes, has the line, and the word is that of the line.
+pub record StandsAt (s : List ℕ) (line at : ℕ) : Type 0 where
+  pub passes : causeOf s ≡ done
+  pub some : 0 < line
+  pub has : line ≤ length s / 2
+  pub word : at ≡ (line - 1) * 2
+
+-- `StandsAt` holds where a line of an order is found at a word.
+pub stands-at : (s : List ℕ) (line at : ℕ) → placeOf s line ≡ At at → StandsAt s line at
+stands-at s line at e = go (seen s)
+  where
+    not-there : {A : Type 0} → Lacking ≡ At at → A
+    not-there h = let z : _≡_ {A = ℕ} 0 1 = cc in absurd (omega arith)
+
+    there : causeOf s ≡ done → 0 < line → line ≤ length s / 2 → StandsAt s line at
+    there k z h =
+        let w : At ((line - 1) * 2) ≡ At at = sym (place-at s line k (λ y. omega arith) h) ∙ e in
+        record { passes = k; some = z; has = h; word = cc }
+
+    go : Seen s → StandsAt s line at
+    go (stopped k f) = let w : Refused (causeOf s) ≡ At at = sym (place-refused s line k) ∙ e in let z : _≡_ {A = ℕ} 0 1 = cc in absurd (omega arith)
+    go (passed t k p) = pick 0 line
+        (λ z. pick (length s / 2) line (λ h. not-there (sym (place-past s line k h) ∙ e)) (there k z))
+        (λ z. not-there (sym (place-none s line k (omega arith)) ∙ e))

@@ -6,11 +6,11 @@ use Prim.Native.Nat.{ℕ, zero, suc, _+_, _-_, _≤_, _<_, max}
 use native.Mathlib.Nat.{add-zero}
 use native.Mathlib.Numerals.{add-one, add-two}
 use native.Mathlib.Omega.{arith}
-use lib.ListN.{length, take, drop, getD, length-append, length-drop}
-use lib.Seq.{drop-cons, drop-drop, drop-append-seam, take-append-seam}
+use lib.ListN.{length, drop, getD, length-append, length-drop}
+use lib.Seq.{drop-cons, drop-drop, drop-append-seam}
 use Rattle.order.specs.Trees.{Tree, node, Forest, bare, cons, count, words, wordsF, depth, depthF, cut, cutF}
-use Rattle.order.specs.Reading.{byFound, Reading, broken, read, firstTrees, soundNode, nodeOver, readTrees}
-use Rattle.order.specs.Walks.{firstTree, treeFrom, walked, walkOf, keptOf, wordsAtOf, endOf}
+use Rattle.order.specs.Reading.{Reading, broken, read, firstTrees, soundNode, nodeOver, readTrees}
+use Rattle.order.specs.Walks.{firstTree, treeFrom, walked, walkOf, keptOf}
 use Rattle.order.specs.declared.Walked.{Walked}
 use Rattle.order.specs.declared.Walked.the-variants.{Broken, Whole}
 use Rattle.order.proofs.Reading.{Sound, sound, first, reads-none, thenF, addT}
@@ -172,30 +172,3 @@ none-left s d pos deep len left h =
     bare-kept : (d len : ℕ) → len + keptF d bare ≡ len
     bare-kept zero len = omega arith
     bare-kept (suc d) len = omega arith
-
--- What the word e past the tree at a word says of the tree there: there is none, or it is the part of the slice up to e.
-pub record TreeHere (s : List ℕ) (at e : ℕ) : Type 0 where
-  pub no-tree : e ≤ at → [] ≡ wordsAtOf s at
-  pub within : at < e → e ≤ length s
-  pub part : at < e → take (e - at) (drop at s) ≡ wordsAtOf s at
-
--- `TreeHere` holds of what was read, by cases.
-tree-here-of : (s : List ℕ) (at : ℕ) (p : Reading) → readTrees (drop at s) 1 ≡ p → Sound 1 (drop at s) p → TreeHere s at (endOf (walked at 0 (firstTree p)))
-unfolding walked firstTree wordsAtOf treeFrom byFound wordsF
-tree-here-of s at broken e g = record { no-tree = λ h. rw e refl; within = λ h. absurd (omega arith); part = λ h. absurd (omega arith) }
-tree-here-of s at (read bare r) e g = record { no-tree = λ h. rw e refl; within = λ h. absurd (omega arith); part = λ h. absurd (omega arith) }
-tree-here-of s at (read (cons t f) r) e g =
-    let a : drop at s ≡ words t ++ (wordsF f ++ r) = g .0 ∙ append-assoc (words t) (wordsF f) r in
-    let l : length s - at ≡ length (words t) + length (wordsF f ++ r) = sym (length-drop at s) ∙ ap length a ∙ length-append (words t) (wordsF f ++ r) in
-    let w : 2 ≤ length (words t) = two-words t in
-    let z : at + length (words t) - at ≡ length (words t) = omega arith in
-    record {
-      no-tree = λ h. absurd (omega arith);
-      within = λ h. omega arith;
-      part = λ h. rw (e, z, a) (take-append-seam (words t) (wordsF f ++ r));
-    }
-
--- `TreeHere` holds of the word that a walk came to.
-pub tree-here : (s : List ℕ) (at e : ℕ) → e ≡ endOf (walkOf s at 0) → TreeHere s at e
-unfolding walkOf treeFrom
-tree-here s at e f = subst (TreeHere s at) (sym f) (tree-here-of s at (readTrees (drop at s) 1) refl (sound (drop at s) 1))

@@ -6,4 +6,5 @@ pub mod Parts
 pub mod Walks
 pub mod Answers
 pub mod Fits
+pub mod Levels
 pub mod Paper

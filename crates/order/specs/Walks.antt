@@ -36,10 +36,6 @@ walked at d (found t) = Whole (at + length (words t)) (depth t) (length (words (
 unfoldable pub walkOf : List ℕ → ℕ → ℕ → Walked
 walkOf ws at d = walked at d (treeFrom ws at)
 
--- The words of the tree at a word; none where there is no tree.
-unfoldable pub wordsAtOf : List ℕ → ℕ → List ℕ
-wordsAtOf ws at = byFound (treeFrom ws at) [] words
-
 -- The words of the cut at d of the tree at a word; none where there is no tree.
 unfoldable pub cutOf : List ℕ → ℕ → ℕ → List ℕ
 cutOf ws at d = byFound (treeFrom ws at) [] (λ t. words (cut t d))

@@ -339,7 +339,7 @@ module _ (low : Bool) (k : ℕ) (os out₀ out entry : List ℕ) (line used many
       sym (is ∙ low-told k (line * 2) (spot .tree) (partAtOf os (line * 2) k) (part-told os (line * 2) _ spot k (partAtOf os (line * 2) k) (partAtOf os (line * 2) k) short refl refl))
 
   -- 128 words are room for its cut.
-  pub cut-ready : (d : ℕ) → Room (walkOf os (line * 2) d) most-words
+  cut-ready : (d : ℕ) → Room (walkOf os (line * 2) d) most-words
   cut-ready d = cut-room os (line * 2) _ spot d most-words (short-order os (st .tree) (st .passes)) (omega arith)
 
   -- Its cut has at most 128 words.

@@ -1,5 +1,5 @@
 -- An order's own book: what it is, how many words it takes, and the slice that it is listed in, stage by stage. Assumes nothing.
-use Prim.Native.Nat.{ℕ, _+_, _*_, _-_, _≤_, _<_}
+use Prim.Native.Nat.{ℕ, _+_, _*_, _-_, _/_, _≤_, _<_}
 use mathlib.Core.Path.{_≡_, refl, sym, ap, subst, _∙_}
 use mathlib.Core.Bool.{Bool, true, false, Bool·beq}
 use mathlib.Core.List.{List, [], _∷_, _++_, append-assoc, append-nil, List·Memᴰ·head as here, List·Memᴰ·tail as there}
@@ -21,11 +21,11 @@ use Rattle.order.specs.Reading.{found, byOrder, causeOf}
 use Rattle.order.specs.Walks.{walkOf, cutOf, Room}
 use Rattle.order.specs.Parts.{isLow, top}
 use Rattle.order.specs.declared.Walked.{Walked}
-use Rattle.order.proofs.Orders.{size}
+use Rattle.order.proofs.Orders.{size, some-lines}
 use Rattle.order.proofs.Causes.{Passed, has-tree}
 use Rattle.order.proofs.Cutting.{cut-shallow, cut-nodes, subtree-nodes}
 use Rattle.order.proofs.Lines.{walk-spot, cut-spot}
-use Rattle.order.proofs.Spots.{top-spot, top-room}
+use Rattle.order.proofs.Spots.{two-words-a-line, top-spot, top-room}
 use Rattle.book.specs.Book.{Book, body, used, live, encode, lay}
 use Rattle.book.specs.Decoding.{placesOf}
 use Rattle.book.specs.declared.Places.{Places}
@@ -96,8 +96,12 @@ module _ (k : ℕ) (os : List ℕ) (t : Tree) (p : Passed os t) (least : least-k
 
 -- An order within the limits, and what it says of its own book.
 module _ (os : List ℕ) (is : causeOf os ≡ done) where
+  -- It has a first line.
+  pub first-line : 0 < length os / 2
+  first-line = let x = has-tree os is in omega (arith, two-words-a-line os (x .tree) (x .passes), some-lines (x .tree))
+
   -- 128 words are room for any cut of it.
-  pub whole-ready : (d : ℕ) → Room (walkOf os 0 d) most-words
+  whole-ready : (d : ℕ) → Room (walkOf os 0 d) most-words
   whole-ready d = let x = has-tree os is in top-room os (x .tree) (x .passes) d most-words (omega arith)
 
   -- A cut of it has at most 128 words.

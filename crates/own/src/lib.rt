@@ -2,15 +2,16 @@
 // ascend and a book can be weighed against them and changed by them in one pass. Assumes nothing beyond each function's `requires`.
 ghost use mathlib.Core.Path.{_≡_};
 ghost use mathlib.Core.List.{[], _∷_};
-ghost use Prim.Native.Nat.{_+_, _*_, _≤_};
+ghost use Prim.Native.Nat.{_+_, _*_, _/_, _≤_, _<_};
 ghost use lib.ListN.{length, replicate};
 ghost use Rattle.words.specs.Base.{over};
-ghost use Rattle.figures.specs.Limits.{least-k, most-words};
+ghost use Rattle.figures.specs.Limits.{least-k, most-nodes};
 ghost use Rattle.figures.specs.Numbers.{done};
 ghost use Rattle.section.specs.Entries.{counted, entryWords, sectionWords};
 ghost use Rattle.changes.specs.Editing.{padded};
 ghost use Rattle.order.specs.Reading.{causeOf};
-ghost use Rattle.order.specs.Walks.{walkOf, cutOf, partAtOf, Room};
+ghost use Rattle.order.specs.Levels.{LinesLevelled};
+ghost use Rattle.order.specs.Walks.{cutOf, partAtOf};
 ghost use Rattle.book.specs.Book.{sectionOf, lay};
 ghost use Rattle.book.specs.Decoding.{placesOf};
 ghost use Rattle.own.specs.Own.{entry-words, list-words, own-words, ownOf, partLines, listOf, sizeOf, lowAt};
@@ -30,14 +31,22 @@ pub const LIST_WORDS: usize = limits::MOST_NODES * ENTRY_WORDS;
 // No order's own book takes more words: its head, the order, its top, and a part for each line, each as long as the longest order.
 pub const OWN_WORDS: usize = limits::HEAD_WORDS + (2 + limits::MOST_NODES) * ENTRY_WORDS;
 
-// Writes an entry of count 1 for the cut at d of the tree at word `at` to the front of `out`. Answers its number of words.
-fn write_entry(order: &[u16], at: usize, d: usize, out: &mut [u16]) -> usize
-    requires { ⌜ Room (walkOf (now order) at d) most-words ⌝ }
+// Writes an entry of count 1 for the cut at d of the subtree of a line, the lines counted from 0, to the front of `out`. Answers its number of words.
+fn write_entry(
+    order: &[u16],
+    levels: &[u8; limits::MOST_NODES],
+    line: usize,
+    d: usize,
+    out: &mut [u16],
+) -> usize
+    requires { ⌜ causeOf (now order) ≡ done ⌝ }
+    requires { ⌜ LinesLevelled (now order) (now levels) × (length (now levels) ≡ most-nodes) ⌝ }
+    requires { ⌜ line < length (now order) / 2 ⌝ }
     requires { ⌜ entry-words ≤ length (now out) ⌝ }
-    ensures came { λ r. ⌜ r ≡ 2 + length (cutOf (now (order .entry)) at d) ⌝ }
-    ensures wrote { λ _. ⌜ now (out .exit) ≡ over (entryWords (counted (cutOf (now (order .entry)) at d) 1)) (now (out .entry)) ⌝ }
+    ensures came { λ r. ⌜ r ≡ 2 + length (cutOf (now (order .entry)) (line * 2) d) ⌝ }
+    ensures wrote { λ _. ⌜ now (out .exit) ≡ over (entryWords (counted (cutOf (now (order .entry)) (line * 2) d) 1)) (now (out .entry)) ⌝ }
 {
-    let laid = cuts::put(order, at, d, &mut out[2..]);
+    let laid = cuts::put_line(order, levels, line, d, &mut out[2..]);
     let count = laid.count;
     let nodes = count / 2;
     out[0] = nodes as u16;
@@ -45,11 +54,14 @@ fn write_entry(order: &[u16], at: usize, d: usize, out: &mut [u16]) -> usize
     2 + count
 }
 
-// Whether the tree at word `at` stands for a low part.
-fn is_low(order: &[u16], at: usize, k: Depth) -> bool
-    ensures { λ r. ⌜ r ≡ lowAt (partAtOf (now (order .entry)) at (k .k)) ⌝ }
+// Whether a line, counted from 0, stands for a low part.
+fn is_low(order: &[u16], levels: &[u8; limits::MOST_NODES], line: usize, k: Depth) -> bool
+    requires { ⌜ causeOf (now order) ≡ done ⌝ }
+    requires { ⌜ LinesLevelled (now order) (now levels) × (length (now levels) ≡ most-nodes) ⌝ }
+    requires { ⌜ line < length (now order) / 2 ⌝ }
+    ensures { λ r. ⌜ r ≡ lowAt (partAtOf (now (order .entry)) (line * 2) (k .k)) ⌝ }
 {
-    match parts::part_at(order, at, k) {
+    match parts::part_line(order, levels, line, k) {
         PartAt::NoPart => false,
         PartAt::LowTo { end: _ } => true,
         PartAt::MiddleTo { end: _, count: _ } => false,
@@ -58,9 +70,16 @@ fn is_low(order: &[u16], at: usize, k: Depth) -> bool
 
 // Lists the order's low parts, or its middle parts, at the front of `out`, whose words are zero: an entry of count 1 for each, once however
 // often it occurs, ascending. The words of either kind are the cut at k-1, since that of a low part is the subtree itself.
-fn list_parts(order: &[u16], k: Depth, low: bool, out: &mut [u16]) -> Size
+fn list_parts(
+    order: &[u16],
+    levels: &[u8; limits::MOST_NODES],
+    k: Depth,
+    low: bool,
+    out: &mut [u16],
+) -> Size
     requires { ⌜ least-k ≤ k .k ⌝ }
     requires { ⌜ causeOf (now order) ≡ done ⌝ }
+    requires { ⌜ LinesLevelled (now order) (now levels) × (length (now levels) ≡ most-nodes) ⌝ }
     requires { ⌜ now out ≡ replicate (length (now out)) 0 ⌝ }
     requires { ⌜ partLines low (k .k) (now order) * entry-words ≤ length (now out) ⌝ }
     ensures came { λ r. ⌜ r ≡ sizeOf (listOf low (k .k) (now (order .entry))) ⌝ }
@@ -72,9 +91,8 @@ fn list_parts(order: &[u16], k: Depth, low: bool, out: &mut [u16]) -> Size
     let mut used: usize = 0;
     let mut many: usize = 0;
     while line < lines {
-        let at = line * 2;
-        if is_low(order, at, k) == low {
-            let end = write_entry(order, at, k.of_middles(), &mut entry);
+        if is_low(order, levels, line, k) == low {
+            let end = write_entry(order, levels, line, k.of_middles(), &mut entry);
             let size = changes::enter_once(out, many, used, &entry[0..end]);
             used = size.used;
             many = size.many;
@@ -85,38 +103,52 @@ fn list_parts(order: &[u16], k: Depth, low: bool, out: &mut [u16]) -> Size
 }
 
 // Lists the order's cut at d alone, at the front of `out`, whose words are zero: an entry of count 1.
-fn list_cut(order: &[u16], d: usize, out: &mut [u16]) -> Size
+fn list_cut(order: &[u16], levels: &[u8; limits::MOST_NODES], d: usize, out: &mut [u16]) -> Size
     requires { ⌜ causeOf (now order) ≡ done ⌝ }
+    requires { ⌜ LinesLevelled (now order) (now levels) × (length (now levels) ≡ most-nodes) ⌝ }
     requires { ⌜ now out ≡ replicate (length (now out)) 0 ⌝ }
     requires { ⌜ entry-words ≤ length (now out) ⌝ }
     ensures came { λ r. ⌜ r ≡ sizeOf (counted (cutOf (now (order .entry)) 0 d) 1 ∷ []) ⌝ }
     ensures wrote { λ _. ⌜ now (out .exit) ≡ padded (length (now (out .entry))) (sectionWords (counted (cutOf (now (order .entry)) 0 d) 1 ∷ [])) ⌝ }
 {
-    let used = write_entry(order, 0, d, out);
+    let used = write_entry(order, levels, 0, d, out);
     Size { used, many: 1 }
 }
 
 // Lists what one teaching of the order counts in a section, T included, at the front of `out`, whose words are zero. Answers the size.
-pub fn list_section(order: &[u16], k: Depth, section: Section, out: &mut [u16]) -> Size
+pub fn list_section(
+    order: &[u16],
+    levels: &[u8; limits::MOST_NODES],
+    k: Depth,
+    section: Section,
+    out: &mut [u16],
+) -> Size
     requires { ⌜ least-k ≤ k .k ⌝ }
     requires { ⌜ causeOf (now order) ≡ done ⌝ }
+    requires { ⌜ LinesLevelled (now order) (now levels) × (length (now levels) ≡ most-nodes) ⌝ }
     requires { ⌜ now out ≡ replicate (length (now out)) 0 ⌝ }
     requires { ⌜ length (now out) ≡ list-words ⌝ }
     ensures came { λ r. ⌜ r ≡ sizeOf (sectionOf section (ownOf (k .k) (now (order .entry)))) ⌝ }
     ensures wrote { λ _. ⌜ now (out .exit) ≡ padded (length (now (out .entry))) (sectionWords (sectionOf section (ownOf (k .k) (now (order .entry))))) ⌝ }
 {
     match section {
-        Section::Taught => list_cut(order, limits::GREATEST_DEPTH, out),
-        Section::Tops => list_cut(order, k.of_tops(), out),
-        Section::Lows => list_parts(order, k, true, out),
-        Section::Middles => list_parts(order, k, false, out),
+        Section::Taught => list_cut(order, levels, limits::GREATEST_DEPTH, out),
+        Section::Tops => list_cut(order, levels, k.of_tops(), out),
+        Section::Lows => list_parts(order, levels, k, true, out),
+        Section::Middles => list_parts(order, levels, k, false, out),
     }
 }
 
 // Lists the order's own book in `own`, whose words are zero. Answers where its sections start.
-pub fn list_own(order: &[u16], k: Depth, own: &mut [u16]) -> Places
+pub fn list_own(
+    order: &[u16],
+    levels: &[u8; limits::MOST_NODES],
+    k: Depth,
+    own: &mut [u16],
+) -> Places
     requires { ⌜ least-k ≤ k .k ⌝ }
     requires { ⌜ causeOf (now order) ≡ done ⌝ }
+    requires { ⌜ LinesLevelled (now order) (now levels) × (length (now levels) ≡ most-nodes) ⌝ }
     requires { ⌜ now own ≡ replicate (length (now own)) 0 ⌝ }
     requires { ⌜ length (now own) ≡ own-words ⌝ }
     ensures came { λ r. ⌜ r ≡ placesOf (ownOf (k .k) (now (order .entry))) ⌝ }
@@ -124,16 +156,17 @@ pub fn list_own(order: &[u16], k: Depth, own: &mut [u16]) -> Places
 {
     let whole = write_entry(
         order,
+        levels,
         0,
         limits::GREATEST_DEPTH,
         &mut own[limits::HEAD_WORDS..],
     );
     let tops = limits::HEAD_WORDS + whole;
-    let top = write_entry(order, 0, k.of_tops(), &mut own[tops..]);
+    let top = write_entry(order, levels, 0, k.of_tops(), &mut own[tops..]);
     let lows = tops + top;
-    let low = list_parts(order, k, true, &mut own[lows..]);
+    let low = list_parts(order, levels, k, true, &mut own[lows..]);
     let middles = lows + low.used;
-    let middle = list_parts(order, k, false, &mut own[middles..]);
+    let middle = list_parts(order, levels, k, false, &mut own[middles..]);
     let used = middles + middle.used;
     own[limits::K_WORD] = k.value();
     own[limits::USED_WORD] = used as u16;

@@ -1,5 +1,11 @@
 // The part that a line of an order stands for at k, by the depth of its uncut subtree. Assumes nothing.
 ghost use mathlib.Core.Path.{_≡_};
+ghost use Prim.Native.Nat.{_*_, _/_, _<_};
+ghost use lib.ListN.{length};
+ghost use Rattle.figures.specs.Limits.{most-nodes};
+ghost use Rattle.figures.specs.Numbers.{done};
+ghost use Rattle.order.specs.Reading.{causeOf};
+ghost use Rattle.order.specs.Levels.{LinesLevelled};
 ghost use Rattle.order.specs.Walks.{partAtOf, kindOf};
 ghost use Rattle.order.specs.Answers.{noPart, partWriting, partIntoOf};
 use figures::Depth;
@@ -39,6 +45,29 @@ pub fn part_at(order: &[u16], at: usize, k: Depth) -> PartAt
     PartAt::MiddleTo { end, count: cut }
 }
 
+// The part that a line stands for at k, the lines counted from 0, by the levels of the order's lines.
+pub fn part_line(order: &[u16], levels: &[u8; limits::MOST_NODES], line: usize, k: Depth) -> PartAt
+    requires { ⌜ causeOf (now order) ≡ done ⌝ }
+    requires { ⌜ LinesLevelled (now order) (now levels) ⌝ }
+    requires { ⌜ line < length (now order) / 2 ⌝ }
+    requires { ⌜ length (now levels) ≡ most-nodes ⌝ }
+    ensures { λ r. ⌜ r ≡ partAtOf (now (order .entry)) (line * 2) (k .k) ⌝ }
+{
+    let Walked::Whole {
+        end,
+        depth,
+        cut: count,
+    } = cuts::walk_line(order, levels, line, k.of_middles())
+    else {
+        return PartAt::NoPart;
+    };
+    let deepest = k.of_tops();
+    if depth <= deepest {
+        return PartAt::LowTo { end };
+    }
+    PartAt::MiddleTo { end, count }
+}
+
 // The kind of part that the tree at word `at` stands for at k.
 fn kind_at(order: &[u16], at: usize, k: Depth) -> Kind
     ensures { λ r. ⌜ r ≡ kindOf (partAtOf (now (order .entry)) at (k .k)) ⌝ }
@@ -55,7 +84,8 @@ fn kind_at(order: &[u16], at: usize, k: Depth) -> Kind
 pub fn part_into(order: &[u16], line: usize, k: Depth, out: &mut [u16]) -> PartWritten
     ensures { λ r. ⌜ partWriting r (now (out .exit)) ≡ partIntoOf (now (order .entry)) line (k .k) (now (out .entry)) ⌝ }
 {
-    match cuts::find_line(order, line) {
+    let mut levels = [0u8; limits::MOST_NODES];
+    match cuts::find_line(order, line, &mut levels) {
         Place::Refused(number) => no_part(number),
         Place::Lacking => no_part(numbers::DONE),
         Place::At(at) => {

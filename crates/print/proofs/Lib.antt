@@ -1,3 +1,2 @@
 -- What the proofs of several functions use.
-mod Rows
 mod Written

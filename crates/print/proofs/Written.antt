@@ -6,22 +6,25 @@ use native.Mathlib.Omega.{arith}
 use lib.ListN.{length, take, drop, getD, length-append}
 use lib.Seq.{getD-at, getD-take, getD-drop}
 use Rattle.words.specs.Base.{over}
-use Rattle.figures.specs.Limits.{most-nodes}
+use Rattle.figures.specs.Limits.{most-nodes, greatest-depth}
 use Rattle.figures.specs.Numbers.{done}
 use Rattle.figures.specs.declared.Written.{Written}
 use Rattle.figures.specs.Answers.{wrote}
 use Rattle.order.specs.Trees.{Tree}
 use Rattle.order.specs.Reading.{byOrder, causeOf}
 use Rattle.order.specs.Answers.{writing, write}
+use Rattle.order.specs.Levels.{LinesLevelled, treeLevels}
 use Rattle.order.proofs.Orders.{size}
+use Rattle.order.proofs.Deep.{levels-of}
+use Rattle.order.proofs.SubtreeLevels.{level-within}
 use Rattle.order.proofs.Causes.{Passed, refused-by, has-tree}
-use Rattle.form.specs.Text.{Line, linesOf, lineText, spell, textOf}
+use Rattle.form.specs.Text.{code-size, Line, linesOf, levelText, lineText, spell, textOf}
 use Rattle.form.specs.Reading.{wordsOf}
 use Rattle.form.specs.Writing.{writeOf}
 use Rattle.form.specs.Turns.{linesIn, levelsOf}
 use Rattle.form.proofs.Counts.{length-words}
-use Rattle.form.proofs.TreeLines.{lines-words}
-use Rattle.form.proofs.LineBytes.{over-part, spell-append, spell-more, levels-append, levels-size}
+use Rattle.form.proofs.TreeLines.{lines-words, lines-count}
+use Rattle.form.proofs.LineBytes.{over-part, line-size, spell-append, spell-more, spell-most, levels-append, levels-size, tree-levels}
 
 -- ---- the lines of an order that passes
 
@@ -51,21 +54,53 @@ known s e =
     let z : length s ≡ 2 * length (linesIn s) = ap length w ∙ length-words (linesIn s) in
     record { spelt = w; twice = z; few = omega (arith, size t, ap length (p .spelt), p .nodes) }
 
+-- The levels listed for an order are those of its lines.
+pub levels-listed : (s levels : List ℕ) → causeOf s ≡ done → LinesLevelled s levels → take (length (linesIn s)) levels ≡ levelsOf (linesIn s)
+levels-listed s levels e h =
+    let p = has-tree s e .passes in
+    let t = has-tree s e .tree in
+    let n : length (linesIn s) ≡ length s / 2 = omega (arith, known s e .twice) in
+    ap (λ (m : ℕ). take m levels) n ∙ h ∙ levels-of s t (p .is) ∙ tree-levels t 0 ∙ ap levelsOf (sym (lines-in s t p))
+
 -- ---- one line after the other
 
--- What the loop knows that writes the lines xs: those before are written, `at` bytes in all.
-pub record Put (xs : List Line) (out₀ out : List ℕ) (line at : ℕ) : Type 0 where
+-- What a loop knows that goes over the lines xs: those before take so many bytes.
+pub record Measured (xs : List Line) (line bytes : ℕ) : Type 0 where
   pub before : List Line
   pub after : List Line
   pub split : xs ≡ before ++ after
   pub reached : length before ≡ line
-  pub bytes : at ≡ length (spell before)
-  pub is : out ≡ over (spell before) out₀
+  pub sized : bytes ≡ length (spell before)
+
+-- Before the first line there are no bytes.
+pub measured-none : (xs : List Line) → Measured xs 0 0
+unfolding spell
+measured-none xs = record { before = []; after = xs; split = refl; reached = refl; sized = refl }
+
+-- The lines before take at most eight bytes each.
+pub measured-most : (xs : List Line) (line bytes : ℕ) → Measured xs line bytes → bytes ≤ 8 * line
+measured-most xs line bytes m = omega (arith, spell-most (m .before), m .sized, m .reached)
+
+-- One line more is gone over.
+measured-more : (xs before after : List Line) (x : Line) (line bytes n : ℕ) → xs ≡ before ++ (x ∷ after) → length before ≡ line → bytes ≡ length (spell before) → n ≡ length (lineText x)
+    → Measured xs (line + 1) (bytes + n)
+measured-more xs before after x line bytes n e l b i = record {
+  before = before ++ (x ∷ []);
+  after = after;
+  split = e ∙ sym (append-assoc before (x ∷ []) after);
+  reached = length-append before (x ∷ []) ∙ ap (λ (m : ℕ). m + 1) l;
+  sized = omega (arith, ap length (spell-more before x), length-append (spell before) (lineText x));
+}
+
+-- What the loop knows that writes the lines xs: those before are written, `at` bytes in all.
+pub record Put (xs : List Line) (out₀ out : List ℕ) (line at : ℕ) : Type 0 where
+  pub measured : Measured xs line at
+  pub is : out ≡ over (spell (measured .before)) out₀
 
 -- Before the first line nothing is written.
 pub put-none : (xs : List Line) (out : List ℕ) → Put xs out out 0 0
-unfolding spell
-put-none xs out = record { before = []; after = xs; split = refl; reached = refl; bytes = refl; is = refl }
+unfolding spell measured-none
+put-none xs out = record { measured = measured-none xs; is = refl }
 
 -- What is known of the next line x: it has room, and once it is written the loop knows as much of the lines up to it.
 pub record PutNext (xs : List Line) (out₀ out : List ℕ) (line at : ℕ) (x : Line) : Type 0 where
@@ -76,18 +111,14 @@ pub record PutNext (xs : List Line) (out₀ out : List ℕ) (line at : ℕ) (x :
 -- `PutNext` holds of the line behind those before.
 next-of : (xs : List Line) (out₀ out : List ℕ) (line at : ℕ) (x : Line) (before after : List Line) → length (spell xs) ≤ length out₀ → length out ≡ length out₀
     → xs ≡ before ++ (x ∷ after) → length before ≡ line → at ≡ length (spell before) → out ≡ over (spell before) out₀ → PutNext xs out₀ out line at x
-unfolding spell
+unfolding spell measured-more
 next-of xs out₀ out line at x before after room same e l b o =
     let r : length (spell before) + length (lineText x) ≤ length out₀ =
     omega (arith, ap (λ (ys : List Line). length (spell ys)) e, ap length (spell-append before (x ∷ after)), length-append (spell before) (lineText x ++ spell after), length-append (lineText x) (spell after)) in
     record {
       room = omega arith;
       turn = λ last n i w. record {
-        before = before ++ (x ∷ []);
-        after = after;
-        split = e ∙ sym (append-assoc before (x ∷ []) after);
-        reached = length-append before (x ∷ []) ∙ ap (λ (m : ℕ). m + 1) l;
-        bytes = omega (arith, ap length (spell-more before x), length-append (spell before) (lineText x));
+        measured = measured-more xs before after x line at n e l b i;
         is = over-part (spell before) (lineText x) out₀ out last at r b o w ∙ ap (λ (w : List ℕ). over w out₀) (sym (spell-more before x));
       };
     }
@@ -106,22 +137,55 @@ module _ (s levels : List ℕ) (fine : causeOf s ≡ done) (listed : take (lengt
       let is : _≡_ {A = Line} (record { level = x .level; code = x .code }) (record { level = getD levels line 0; code = getD s (2 * line) 0 }) = cc in
       is
 
+  -- The level that is read is at most 12.
+  pub level-small : line < length s / 2 → getD levels line 0 ≤ greatest-depth
+  level-small h =
+      let p = has-tree s fine .passes in
+      let t = has-tree s fine .tree in
+      let n : line < length (linesIn s) = omega (arith, known s fine .twice) in
+      let e : treeLevels t 0 ≡ levelsOf (linesIn s) = tree-levels t 0 ∙ ap levelsOf (sym (lines-in s t p)) in
+      omega (
+        arith,
+        p .deep,
+        level-within t line (omega (arith, lines-count t 0, ap length (lines-in s t p))),
+        ap (λ (ls : List ℕ). getD ls line 0) (e ∙ sym listed),
+        getD-take (length (linesIn s)) levels line 0 n,
+      )
+
+  -- The bytes of a level and of a code measure the line that is read.
+  pub measured-next : (bytes n : ℕ) → line < length s / 2 → n ≡ length (levelText (getD levels line 0)) → Measured (linesIn s) line bytes → Measured (linesIn s) (line + 1) (bytes + (n + code-size))
+  measured-next bytes n h i p = go (p .after) (p .split)
+    where
+      go : (ys : List Line) → linesIn s ≡ p .before ++ ys → Measured (linesIn s) (line + 1) (bytes + (n + code-size))
+      go [] e = absurd (omega (arith, known s fine .twice, ap length e, length-append (p .before) [], p .reached))
+      go (x ∷ ys) e = measured-more (linesIn s) (p .before) ys x line bytes (n + code-size) e (p .reached) (p .sized) (omega (arith, i, line-size x, ap (λ (y : Line). length (levelText (y .level))) (this-line x (p .before) ys e (p .reached))))
+
   -- `PutNext` holds of the line that is read while lines are left.
   pub put-next : (out₀ out : List ℕ) (at : ℕ) → length (spell (linesIn s)) ≤ length out₀ → length out ≡ length out₀ → line < length s / 2 → Put (linesIn s) out₀ out line at
       → PutNext (linesIn s) out₀ out line at (record { level = getD levels line 0; code = getD s (2 * line) 0 })
-  put-next out₀ out at room same h p = go (p .after) (p .split)
+  put-next out₀ out at room same h p = go (p .measured .after) (p .measured .split)
     where
-      go : (ys : List Line) → linesIn s ≡ p .before ++ ys → PutNext (linesIn s) out₀ out line at (record { level = getD levels line 0; code = getD s (2 * line) 0 })
-      go [] e = absurd (omega (arith, known s fine .twice, ap length e, length-append (p .before) [], p .reached))
-      go (x ∷ ys) e = subst (PutNext (linesIn s) out₀ out line at) (this-line x (p .before) ys e (p .reached)) (next-of (linesIn s) out₀ out line at x (p .before) ys room same e (p .reached) (p .bytes) (p .is))
+      go : (ys : List Line) → linesIn s ≡ p .measured .before ++ ys → PutNext (linesIn s) out₀ out line at (record { level = getD levels line 0; code = getD s (2 * line) 0 })
+      go [] e = absurd (omega (arith, known s fine .twice, ap length e, length-append (p .measured .before) [], p .measured .reached))
+      go (x ∷ ys) e =
+          let m = p .measured in
+          subst (PutNext (linesIn s) out₀ out line at) (this-line x (m .before) ys e (m .reached)) (next-of (linesIn s) out₀ out line at x (m .before) ys room same e (m .reached) (m .sized) (p .is))
+
+-- After the last line all are gone over.
+measured-done : (s : List ℕ) (line bytes : ℕ) (m : Measured (linesIn s) line bytes) → causeOf s ≡ done → length s / 2 ≤ line → m .before ≡ linesIn s
+measured-done s line bytes m fine h = go (m .after) (m .split)
+  where
+    go : (ys : List Line) → linesIn s ≡ m .before ++ ys → m .before ≡ linesIn s
+    go [] e = sym (e ∙ append-nil (m .before))
+    go (x ∷ ys) e = absurd (omega (arith, known s fine .twice, ap length e, length-append (m .before) (x ∷ ys), m .reached))
+
+-- After the last line the bytes are those of all.
+pub measured-all : (s : List ℕ) (line bytes : ℕ) → causeOf s ≡ done → length s / 2 ≤ line → Measured (linesIn s) line bytes → bytes ≡ length (spell (linesIn s))
+measured-all s line bytes fine h m = m .sized ∙ ap (λ (xs : List Line). length (spell xs)) (measured-done s line bytes m fine h)
 
 -- After the last line all are written.
 pub put-all : (s out₀ out : List ℕ) (line at : ℕ) → causeOf s ≡ done → length s / 2 ≤ line → Put (linesIn s) out₀ out line at → out ≡ over (spell (linesIn s)) out₀
-put-all s out₀ out line at fine h p = go (p .after) (p .split)
-  where
-    go : (ys : List Line) → linesIn s ≡ p .before ++ ys → out ≡ over (spell (linesIn s)) out₀
-    go [] e = p .is ∙ ap (λ (xs : List Line). over (spell xs) out₀) (sym (e ∙ append-nil (p .before)))
-    go (x ∷ ys) e = absurd (omega (arith, known s fine .twice, ap length e, length-append (p .before) (x ∷ ys), p .reached))
+put-all s out₀ out line at fine h p = p .is ∙ ap (λ (xs : List Line). over (spell xs) out₀) (measured-done s line at (p .measured) fine h)
 
 -- ---- the call
 

@@ -1,24 +1,20 @@
-// Order form text, written: the levels of an order's lines, and then each line's bytes once. Assumes nothing beyond each function's `requires`.
+// Order form text, written: how many bytes it takes by the levels of the order's lines, and then each line's bytes once. Assumes nothing beyond each function's `requires`.
 ghost use mathlib.Core.Path.{_≡_};
-ghost use Prim.Native.Nat.{suc, _≤_};
+ghost use Prim.Native.Nat.{_≤_};
 ghost use lib.ListN.{length, take};
 ghost use Rattle.words.specs.Base.{over};
-ghost use Rattle.figures.specs.Limits.{most-nodes, greatest-depth};
+ghost use Rattle.figures.specs.Limits.{most-nodes};
 ghost use Rattle.figures.specs.Numbers.{done};
 ghost use Rattle.order.specs.Reading.{causeOf};
 ghost use Rattle.order.specs.Answers.{writing};
 ghost use Rattle.form.specs.Text.{digit, code-size, levelText, codeText, lineText, spell};
 ghost use Rattle.form.specs.Writing.{writeOf};
-ghost use Rattle.form.specs.Turns.{linesIn, levelsOf, climbOf};
+ghost use Rattle.form.specs.Turns.{linesIn, levelsOf};
 use figures::Written;
 use figures::limits;
 use figures::numbers;
 use figures::wrote;
 use form::CODE_SIZE;
-use order::check;
-
-// The rows of trees that stand one below the other: one for each level, and the empty one below the deepest line.
-const ROWS: usize = limits::GREATEST_DEPTH + 2;
 
 // The byte of a number's last decimal digit.
 pub fn digit_of(n: usize) -> u8
@@ -74,49 +70,25 @@ fn put_line(out: &mut [u8], level: usize, code: u16) -> usize
     w + CODE_SIZE
 }
 
-// The deepest level, `from` or one above it, that has trees to come; 0 where there is none.
-fn climb(left: &[u16; ROWS], from: usize) -> usize
-    requires { ⌜ (length (now left) ≡ suc (suc greatest-depth)) × (from ≤ suc greatest-depth) ⌝ }
-    ensures { λ r. ⌜ r ≡ climbOf (now (left .entry)) from ⌝ }
-{
-    let mut level = from;
-    while 0 < level {
-        if left[level] != 0 {
-            return level;
-        }
-        level -= 1;
-    }
-    0
-}
-
-// The levels of an order's lines, at the front of `levels`, and how many bytes the lines take. `left` has, for each level, how many trees
-// of its row are to come.
-fn levels_into(order: &[u16], levels: &mut [usize; limits::MOST_NODES]) -> usize
-    requires { ⌜ (causeOf (now order) ≡ done) × (length (now levels) ≡ most-nodes) ⌝ }
-    ensures took { λ r. ⌜ r ≡ length (spell (linesIn (now (order .entry)))) ⌝ }
-    ensures listed { λ _. ⌜ take (length (linesIn (now (order .entry)))) (now (levels .exit)) ≡ levelsOf (linesIn (now (order .entry))) ⌝ }
+// How many bytes the lines of an order take, whose levels are known.
+fn text_size(order: &[u16], levels: &[u8; limits::MOST_NODES]) -> usize
+    requires { ⌜ (causeOf (now order) ≡ done) × (take (length (linesIn (now order))) (now levels) ≡ levelsOf (linesIn (now order))) ⌝ }
+    requires { ⌜ length (now levels) ≡ most-nodes ⌝ }
+    ensures { λ r. ⌜ r ≡ length (spell (linesIn (now (order .entry)))) ⌝ }
 {
     let n = order.len() / 2;
-    let mut left = [0u16; ROWS];
-    left[0] = 1;
     let mut line = 0;
-    let mut level = 0;
     let mut bytes = 0;
     while line < n {
-        let trees = left[level];
-        left[level] = trees - 1;
-        levels[line] = level;
+        let level = levels[line] as usize;
         bytes += level_size(level) + CODE_SIZE;
-        let below = level + 1;
-        left[below] = order[2 * line + 1];
-        level = climb(&left, below);
         line += 1;
     }
     bytes
 }
 
 // Writes the lines of an order, whose levels are known, to the front of `out`, which has room for them.
-fn put_lines(order: &[u16], levels: &[usize; limits::MOST_NODES], out: &mut [u8])
+fn put_lines(order: &[u16], levels: &[u8; limits::MOST_NODES], out: &mut [u8])
     requires { ⌜ (causeOf (now order) ≡ done) × (take (length (linesIn (now order))) (now levels) ≡ levelsOf (linesIn (now order))) × (length (spell (linesIn (now order))) ≤ length (now out)) ⌝ }
     ensures { λ _. ⌜ now (out .exit) ≡ over (spell (linesIn (now (order .entry)))) (now (out .entry)) ⌝ }
 {
@@ -124,7 +96,7 @@ fn put_lines(order: &[u16], levels: &[usize; limits::MOST_NODES], out: &mut [u8]
     let mut line = 0;
     let mut at = 0;
     while line < n {
-        let level = levels[line];
+        let level = levels[line] as usize;
         let code = order[2 * line];
         at += put_line(&mut out[at..], level, code);
         line += 1;
@@ -135,12 +107,12 @@ fn put_lines(order: &[u16], levels: &[usize; limits::MOST_NODES], out: &mut [u8]
 pub fn write(order: &[u16], out: &mut [u8]) -> Written
     ensures { λ r. ⌜ writing r (now (out .exit)) ≡ writeOf (now (order .entry)) (now (out .entry)) ⌝ }
 {
-    let number = check(order).number;
+    let mut levels = [0u8; limits::MOST_NODES];
+    let number = order::cause_into(order, &mut levels);
     if number != numbers::DONE {
         return wrote(number, 0);
     }
-    let mut levels = [0usize; limits::MOST_NODES];
-    let count = levels_into(order, &mut levels);
+    let count = text_size(order, &levels);
     if out.len() < count {
         return wrote(numbers::SHORT_OUTPUT, 0);
     }

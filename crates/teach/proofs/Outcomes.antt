@@ -1,7 +1,7 @@
 -- What teaching and withdrawing answer, and the words then, by the tests that the code makes in turn; and the order's own book as it stands in
 -- its slice. Assumes nothing.
 use Prim.Native.Nat.{ℕ, _+_, _-_, _≤_, _<_}
-use mathlib.Core.Path.{_≡_, refl, sym, ap, _∙_}
+use mathlib.Core.Path.{_≡_, refl, sym, ap, subst, _∙_}
 use mathlib.Core.Bool.{true, false}
 use mathlib.Core.List.{List}
 use native.Mathlib.Decide.{decLt}
@@ -20,8 +20,7 @@ use Rattle.order.specs.Trees.{Tree, words}
 use Rattle.order.specs.Reading.{byOrder, orderOf, causeOf}
 use Rattle.order.specs.Causes.{Cause}
 use Rattle.order.specs.Fits.{Fits}
-use Rattle.order.specs.Answers.{checkOf}
-use Rattle.order.proofs.Causes.{cause-is, cause-told, cause-refuses, has-tree}
+use Rattle.order.proofs.Causes.{cause-is, cause-refuses, has-tree}
 use Rattle.book.specs.Book.{Book, sectionOf, used, live, lay, inForm}
 use Rattle.book.specs.Decoding.{bookIn, placesOf, bookFormOf}
 use Rattle.book.specs.Sound.{IsBook, book}
@@ -120,19 +119,16 @@ module _ (ws : List ℕ) (p : Places) (H : Holds ws p) where
 
 module _ (ws os : List ℕ) (p : Places) (H : Holds ws p) where
   -- An order with a cause of 1 or 2 is answered by it.
-  refused-order : (f : Book → Tree → Outcome) (a : Answer) → a ≡ checkOf os → (a .number ≡ done → ⊥) → outcome a ws ≡ onOrder ws os f
-  unfolding checkOf
-  refused-order f a e n =
-      let h : causeOf os ≡ done → ⊥ = λ z. n (cause-told os a e ∙ z) in
-      ap (λ (x : Answer). outcome x ws) e ∙ sym (by-cause ws os (bookIn ws) (held-book ws p H) (causeOf os) (cause-is os) h f)
+  refused-order : (f : Book → Tree → Outcome) (n : ℕ) → n ≡ causeOf os → (n ≡ done → ⊥) → leave ws n ≡ onOrder ws os f
+  refused-order f n e h = sym (by-cause ws os (bookIn ws) (held-book ws p H) n (subst (Cause os) (sym e) (cause-is os)) h f)
 
   -- So teaching answers.
-  pub teach-refused : (a : Answer) → a ≡ checkOf os → (a .number ≡ done → ⊥) → outcome a ws ≡ teachOf ws os
+  pub teach-refused : (n : ℕ) → n ≡ causeOf os → (n ≡ done → ⊥) → leave ws n ≡ teachOf ws os
   unfolding teachOf
   teach-refused = refused-order (teachTree ws)
 
   -- So withdrawing answers.
-  pub withdraw-refused : (a : Answer) → a ≡ checkOf os → (a .number ≡ done → ⊥) → outcome a ws ≡ withdrawOf ws os
+  pub withdraw-refused : (n : ℕ) → n ≡ causeOf os → (n ≡ done → ⊥) → leave ws n ≡ withdrawOf ws os
   unfolding withdrawOf
   withdraw-refused = refused-order (withdrawTree ws)
 

@@ -18,15 +18,16 @@ fn teach_order(book: &mut [u16], places: Places, order: &[u16]) -> Answer
     requires { ⌜ Holds (now book) places ⌝ }
     ensures { λ r. ⌜ outcome r (now (book .exit)) ≡ teachOf (now (book .entry)) (now (order .entry)) ⌝ }
 {
-    let checked = order::check(order);
-    if checked.number != numbers::DONE {
-        return checked;
+    let mut levels = [0u8; limits::MOST_NODES];
+    let number = order::cause_into(order, &mut levels);
+    if number != numbers::DONE {
+        return answered(number);
     }
     if book[limits::LIVE_WORD] == limits::GREATEST_COUNT {
         return answered(numbers::TOO_MANY);
     }
     let mut own = [0u16; own::OWN_WORDS];
-    let owns = own::list_own(order, places.k, &mut own);
+    let owns = own::list_own(order, &levels, places.k, &mut own);
     let weighed = amend::weigh_book(book, places, &own, owns);
     if weighed.overfull {
         return answered(numbers::TOO_MANY);
@@ -43,12 +44,13 @@ fn withdraw_order(book: &mut [u16], places: Places, order: &[u16]) -> Answer
     requires { ⌜ Holds (now book) places ⌝ }
     ensures { λ r. ⌜ outcome r (now (book .exit)) ≡ withdrawOf (now (book .entry)) (now (order .entry)) ⌝ }
 {
-    let cause = order::check(order);
-    if cause.number != numbers::DONE {
-        return cause;
+    let mut levels = [0u8; limits::MOST_NODES];
+    let cause = order::cause_into(order, &mut levels);
+    if cause != numbers::DONE {
+        return answered(cause);
     }
     let mut own = [0u16; own::OWN_WORDS];
-    let owns = own::list_own(order, places.k, &mut own);
+    let owns = own::list_own(order, &levels, places.k, &mut own);
     let taught = amend::weigh_section(book, Section::Taught, places, &own, owns);
     if 0 < taught.lacking {
         return answered(numbers::NOT_TAUGHT);

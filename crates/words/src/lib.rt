@@ -78,10 +78,28 @@ pub fn open_gap(part: &mut [u16], used: usize, by: usize)
     requires { ⌜ by + used ≤ length (now part) ⌝ }
     ensures { λ _. ⌜ now (part .exit) ≡ take by (now (part .entry)) ++ (take used (now (part .entry)) ++ drop (by + used) (now (part .entry))) ⌝ }
 {
+    if by == 0 {
+        return;
+    }
     let mut left = used;
     while 0 < left {
         left -= 1;
         part[by + left] = part[left];
+    }
+}
+
+// Moves the `n` words from word `by` on down to the front.
+pub fn slide(part: &mut [u16], by: usize, n: usize)
+    requires { ⌜ by + n ≤ length (now part) ⌝ }
+    ensures { λ _. ⌜ now (part .exit) ≡ take n (drop by (now (part .entry))) ++ drop n (now (part .entry)) ⌝ }
+{
+    if by == 0 {
+        return;
+    }
+    let mut i = 0;
+    while i < n {
+        part[i] = part[by + i];
+        i += 1;
     }
 }
 
@@ -91,10 +109,6 @@ pub fn close_gap(part: &mut [u16], used: usize, by: usize)
     ensures { λ _. ⌜ now (part .exit) ≡ take (used - by) (drop by (now (part .entry))) ++ (replicate by 0 ++ drop used (now (part .entry))) ⌝ }
 {
     let keep = used - by;
-    let mut i = 0;
-    while i < keep {
-        part[i] = part[by + i];
-        i += 1;
-    }
+    slide(part, by, keep);
     clear(&mut part[keep..used]);
 }

@@ -7,6 +7,7 @@ use native.Mathlib.Omega.{arith}
 use lib.ListN.{length, getD, take, drop, replicate, length-append, length-take, length-replicate, replicate-append-replicate}
 use lib.Seq.{drop-drop, getD-drop, drop-at}
 use borrow.Author.Needs.{needs}
+use Rattle.figures.specs.Limits.{most-nodes}
 use Rattle.figures.specs.Numbers.{done}
 use Rattle.section.specs.Entries.{Entry, Even, sectionWords, width, firstEntry, entries, span, Sorted}
 use Rattle.section.proofs.Words.{words-entries, words-span}
@@ -14,6 +15,7 @@ use Rattle.changes.specs.Editing.{padded}
 use Rattle.changes.specs.declared.Size.{Size}
 use Rattle.tally.specs.Tallying.{listed, Few, hasAll, tallied}
 use Rattle.order.specs.Reading.{causeOf}
+use Rattle.order.specs.Levels.{LinesLevelled}
 use Rattle.own.specs.Own.{sizeOf}
 use Rattle.agree.specs.Tallies.{partsIn}
 use Rattle.agree.proofs.Counting.{parts-sorted, parts-even}
@@ -87,18 +89,26 @@ ordered : (c : tie.After-past) → let b = c .before .before .before .before .be
     causeOf (take (c .past .result - (b .args .at + 2)) (drop (b .args .at + 2) (b .args .book .now))) ≡ done
 ordered c = let b = c .before .before .before .before .before in ap causeOf (key-at (b .args .book .now) (b .args .at) _ (c .past .ensures)) ∙ b .pre .0 .1
 
+-- The levels of its lines are listed then.
+levelled : (c : tie.After-cause-into) →
+    let p = c .before .before .before .before in
+    let b = p .before .before .before .before .before in
+    let levels = c .cause-into .last .1 .0 in
+    LinesLevelled (take (p .past .result - (b .args .at + 2)) (drop (b .args .at + 2) (b .args .book .now))) levels × (length levels ≡ most-nodes)
+levelled c = let a = c .cause-into in (a .ensures .1 .0 (ordered (c .before .before .before .before)), a .ensures .1 .1)
+
 -- What the function was called with, seen from where the parts are listed.
 abbrev called : tie.After-list-section → tie.Start
-called c = c .before .before .before .before .before .before .before .before .before
+called c = c .before .before .before .before .before .before .before .before .before .before .before .before .before
 
 -- The words lent are the order's.
 order-is : (c : tie.After-list-section) → let b = called c in
-    take (c .before .before .before .before .past .result - (b .args .at + 2)) (drop (b .args .at + 2) (b .args .book .now)) ≡ firstEntry (drop (b .args .at) (b .args .book .now)) .key
-order-is c = let b = called c in key-at (b .args .book .now) (b .args .at) _ (c .before .before .before .before .past .ensures)
+    take (c .before .before .before .before .before .before .before .before .past .result - (b .args .at + 2)) (drop (b .args .at + 2) (b .args .book .now)) ≡ firstEntry (drop (b .args .at) (b .args .book .now)) .key
+order-is c = let b = called c in key-at (b .args .book .now) (b .args .at) _ (c .before .before .before .before .before .before .before .before .past .ensures)
 
 -- The scratch once the parts are listed there.
 abbrev scratch : tie.After-list-section → List ℕ
-scratch c = c .list-section .last .1 .1 .1 .0
+scratch c = c .list-section .last .1 .1 .1 .1 .0
 
 -- The parts stand there, and then zeros.
 scratch-is : (c : tie.After-list-section) → scratch c ≡ padded (length (called c .args .list .now)) (sectionWords (parts (called c)))
@@ -108,7 +118,7 @@ scratch-is c =
 
 -- It has as many words as before.
 scratch-long : (c : tie.After-list-section) → length (scratch c) ≡ length (called c .args .list .now)
-scratch-long c = c .list-section .kept .1 .1 .1 .0
+scratch-long c = c .list-section .kept .1 .1 .1 .1 .0
 
 -- The size told is that of the parts.
 size-is : (c : tie.After-list-section) → c .list-section .result ≡ sizeOf (parts (called c))
@@ -168,6 +178,21 @@ mul-by c = search needs
 shared-slice-read-by : tie.Need-shared-slice-read-by
 shared-slice-read-by c = search needs
 
+mul-cause-into : tie.Need-mul-cause-into
+mul-cause-into c = search needs
+
+sub-cause-into : tie.Need-sub-cause-into
+sub-cause-into c = search needs
+
+part-cause-into-start : tie.Need-part-cause-into-start
+part-cause-into-start c = search needs
+
+part-cause-into-end : tie.Need-part-cause-into-end
+part-cause-into-end c = omega (arith, c .before .past .ensures, room (c .before .before .before .before .before .before))
+
+cause-into-requires : tie.Need-cause-into-requires
+cause-into-requires c κs = search needs
+
 mul-list-section : tie.Need-mul-list-section
 mul-list-section c = search needs
 
@@ -178,12 +203,14 @@ part-list-section-start : tie.Need-part-list-section-start
 part-list-section-start c = search needs
 
 part-list-section-end : tie.Need-part-list-section-end
-part-list-section-end c = omega (arith, c .before .past .ensures, room (c .before .before .before .before .before .before))
+part-list-section-end c = let p = c .before .before .before .before in omega (arith, p .past .ensures, room (p .before .before .before .before .before))
 
 list-section-requires : tie.Need-list-section-requires
 list-section-requires c κs =
-    let b = c .before .before .before .before .before .before .before .before in
-    (b .pre .1 .0, (ordered (c .before .before .before), b .pre .1 .1 .1 .1))
+    let a = c .before .before .before in
+    let p = a .before .before .before .before in
+    let b = p .before .before .before .before .before in
+    (b .pre .1 .0, (ordered p, (levelled a, b .pre .1 .1 .1 .1)))
 
 tally-requires : tie.Need-tally-requires
 tally-requires c κs =
@@ -231,6 +258,11 @@ tally-order-spec =
     add-by
     mul-by
     shared-slice-read-by
+    mul-cause-into
+    sub-cause-into
+    part-cause-into-start
+    part-cause-into-end
+    cause-into-requires
     mul-list-section
     sub-list-section
     part-list-section-start

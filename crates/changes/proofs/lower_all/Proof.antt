@@ -4,24 +4,26 @@ use Prim.Native.Nat.{ℕ, _+_, _*_, _-_, _≤_, _<_}
 use mathlib.Core.Path.{_≡_, refl, sym, _∙_}
 use mathlib.Core.List.{List}
 use native.Mathlib.Omega.{arith}
-use lib.ListN.{length, getD, take, drop}
+use lib.ListN.{length, getD, take, drop, length-take, length-drop}
 use Rattle.words.specs.declared.Compared.{Compared}
 use Rattle.words.specs.declared.Compared.the-variants.{Lower, Equal, Higher}
 use Rattle.section.specs.Entries.{entries, span}
 use Rattle.changes.specs.Editing.{firstAgainst}
 use Rattle.section.proofs.Words.{span-at}
-use Rattle.changes.proofs.Turns.{Turn, turn-start, turn-end, turn-within, turn-first, turn-lends, turn-most, turn-lower, turn-equal, turn-higher, against-some}
+use Rattle.changes.proofs.Adding.{against-some}
+use Rattle.changes.proofs.Lowering.{lessened-most}
+use Rattle.changes.proofs.Turns.{Lowers, lowers-start, lowers-end, lowers-within, lowers-first, lowers-lower, lowers-equal, lowers-higher}
 use borrow.Author.Needs.{needs}
 use Rattle.changes.proofs.lower_all.Statement.{statement}
 use Rattle.changes.proofs.lower_all.Tie as tie
 
 -- The pass has come to `at` in the book and to `from` in the other.
 abbrev Inv-loop : tie.InvT-loop
-Inv-loop book₀ many used other more at₀ left₀ from₀ rest₀ kept₀ count₀ book at left from rest kept count = Turn book₀ many used other more book at left from rest kept count
+Inv-loop book₀ many used other more to₀ kept₀ at₀ left₀ from₀ rest₀ count₀ book to kept at left from rest count = Lowers book₀ many used other more book to kept at left from rest count
 
 -- Each turn leaves an entry of one or of both fewer.
 abbrev μ-loop : tie.MeasureT-loop
-μ-loop book₀ many used other more at₀ left₀ from₀ rest₀ kept₀ count₀ book at left from rest kept count = left + rest
+μ-loop book₀ many used other more to₀ kept₀ at₀ left₀ from₀ rest₀ count₀ book to kept at left from rest count = left + rest
 
 -- The words of the other.
 abbrev other : tie.At-loop Inv-loop μ-loop → List ℕ
@@ -31,11 +33,11 @@ other k = k .before .before .before .args .other .now
 room : (c : tie.In-loop Inv-loop μ-loop) → let k = c .before in k .loop .from + 2 + 2 * getD (other k) (k .loop .from) 0 ≤ length (other k)
 room c =
     let k = c .before in
-    omega (arith, k .loop .inv .inside, span-at (other k) (k .loop .from) (k .loop .rest) (k .loop .from + 2 + 2 * getD (other k) (k .loop .from) 0) (c .loop-test .taken) refl)
+    omega (arith, k .loop .inv .turn .inside, span-at (other k) (k .loop .from) (k .loop .rest) (k .loop .from + 2 + 2 * getD (other k) (k .loop .from) 0) (c .loop-test .taken) refl)
 
--- The entries left lie within the book.
-within : (k : tie.At-loop Inv-loop μ-loop) → (k .loop .at + span (k .loop .left) (drop (k .loop .at) (k .loop .book)) ≤ k .loop .kept) × (k .loop .kept ≤ length (k .loop .book))
-within k = turn-within _ _ _ _ _ _ _ _ _ _ _ _ (k .loop .inv)
+-- The entries left lie within the words used, and these within the book.
+within : (k : tie.At-loop Inv-loop μ-loop) → let used = k .before .before .before .args .used in (k .loop .at + span (k .loop .left) (drop (k .loop .at) (k .loop .book)) ≤ used) × (used ≤ length (k .loop .book)) × (k .loop .count ≤ length (k .loop .book))
+within k = lowers-within _ _ _ _ _ _ _ _ _ _ _ _ _ (k .loop .inv)
 
 -- The first entry left stands so to the other's first key.
 abbrev Answered : tie.After-first-against Inv-loop μ-loop → Compared → Type 0
@@ -64,19 +66,12 @@ some-lower c = against-some _ _ _ Lower (is-lower c) (λ h. let z : _≡_ {A = �
 some-equal : (c : tie.After-enum-told2 Inv-loop μ-loop) → 0 < c .before .before .before .before .before .before .before .loop .left
 some-equal c = against-some _ _ _ Equal (is-equal c) (λ h. let z : _≡_ {A = ℕ} 0 1 = cc in omega arith)
 
--- The first entry left lies within what is kept, and is among those counted.
-first : (k : tie.At-loop Inv-loop μ-loop) → 0 < k .loop .left → (k .loop .at + 2 + 2 * getD (k .loop .book) (k .loop .at) 0 ≤ k .loop .kept) × (0 < k .loop .count)
-first k h = turn-first _ _ _ _ _ _ _ _ _ _ _ _ (k .loop .inv) h
-
--- One less of it passes, frees and takes out no more than it.
-most : (c : tie.After-lessen Inv-loop μ-loop) → let k = c .before .before .before .before .before .before .before .before .before in let r = c .lessen .result in
-    (k .loop .at + r .step ≤ k .loop .kept) × (r .freed ≤ k .loop .kept) × (r .out ≤ k .loop .count)
-most c =
-    let k = c .before .before .before .before .before .before .before .before .before in
-    turn-most _ _ _ _ _ _ _ _ _ _ _ _ (k .loop .inv) (some-equal (c .before .before)) (c .lessen .result) (c .lessen .ensures .1)
+-- The first entry left lies within the words used, and is among those counted.
+first : (k : tie.At-loop Inv-loop μ-loop) → 0 < k .loop .left → (k .loop .at + 2 + 2 * getD (k .loop .book) (k .loop .at) 0 ≤ k .before .before .before .args .used) × (0 < k .loop .count)
+first k h = lowers-first _ _ _ _ _ _ _ _ _ _ _ _ _ (k .loop .inv) h
 
 loop-holds : tie.Need-loop-holds Inv-loop μ-loop
-loop-holds c = let x = c .before .before in turn-start _ _ _ _ _ (x .pre .0 .0) (x .pre .0 .1) (x .pre .1 .0) (x .pre .1 .1)
+loop-holds c = let x = c .before .before in lowers-start _ _ _ _ _ (x .pre .0 .0) (x .pre .0 .1) (x .pre .1 .0) (x .pre .1 .1)
 
 add-start : tie.Need-add-start Inv-loop μ-loop
 add-start c = omega (arith, room c)
@@ -117,54 +112,39 @@ loop-again : tie.Need-loop-again Inv-loop μ-loop
 loop-again c =
     let p = c .before .before .before .before .before .before .before in
     let k = p .before .before in
-    turn-lower _ _ _ _ _ _ _ _ _ _ _ _ (k .loop .inv) (p .past .result) (p .before .loop-test .taken) (p .past .ensures) (is-lower (c .before .before)) (c .past2 .result) (c .past2 .ensures)
+    lowers-lower _ _ _ _ _ _ _ _ _ _ _ _ _ (k .loop .inv) (p .past .result) (p .before .loop-test .taken) (p .past .ensures) (is-lower (c .before .before)) (some-lower (c .before .before)) (c .past2 .result) (c .past2 .ensures)
 
 enum-told-2 : tie.Need-enum-told-2 Inv-loop μ-loop
 enum-told-2 c = search needs
 
-mul-lessen : tie.Need-mul-lessen Inv-loop μ-loop
-mul-lessen c = omega (arith, within (c .before .before .before .before .before .before .before))
-
-sub-lessen : tie.Need-sub-lessen Inv-loop μ-loop
-sub-lessen c = omega (arith, within (c .before .before .before .before .before .before .before))
-
-part-lessen-start : tie.Need-part-lessen-start Inv-loop μ-loop
-part-lessen-start c = omega (arith, within (c .before .before .before .before .before .before .before))
-
-part-lessen-end : tie.Need-part-lessen-end Inv-loop μ-loop
-part-lessen-end c = omega (arith, within (c .before .before .before .before .before .before .before))
-
-sub-lessen-2 : tie.Need-sub-lessen-2 Inv-loop μ-loop
-sub-lessen-2 c = omega (arith, within (c .before .before .before .before .before .before .before .before))
-
 lessen-requires : tie.Need-lessen-requires Inv-loop μ-loop
-lessen-requires c κs = turn-lends _ _ _ _ _ _ _ _ _ _ _ _ (c .before .before .before .before .before .before .before .before .loop .inv) (some-equal (c .before))
-
-add-at : tie.Need-add-at Inv-loop μ-loop
-add-at c = omega (arith, most (c .before .before .before), within (c .before .before .before .before .before .before .before .before .before .before .before .before))
-
-sub-kept : tie.Need-sub-kept Inv-loop μ-loop
-sub-kept c = omega (arith, most (c .before .before .before .before))
+lessen-requires c κs =
+    let k = c .before .before .before .before .before .before .before .before in
+    let g = k .loop .inv .gap in
+    (g .low, g .mid, omega (arith, within k, first k (some-equal (c .before))))
 
 sub-count : tie.Need-sub-count Inv-loop μ-loop
-sub-count c = omega (arith, most (c .before .before .before .before .before))
+sub-count c =
+    let l = c .before .before .before in
+    let k = l .before .before .before .before .before .before .before .before .before in
+    omega (arith, lessened-most _ _ _ _ (l .lessen .result) (l .lessen .ensures .1), first k (some-equal (l .before .before)))
 
 sub-left-2 : tie.Need-sub-left-2 Inv-loop μ-loop
-sub-left-2 c = some-equal (c .before .before .before .before .before .before .before)
+sub-left-2 c = some-equal (c .before .before .before .before .before)
 
 sub-rest : tie.Need-sub-rest Inv-loop μ-loop
-sub-rest c = c .before .before .before .before .before .before .before .before .before .before .before .before .before .loop-test .taken
+sub-rest c = c .before .before .before .before .before .before .before .before .before .before .before .loop-test .taken
 
 loop-less-2 : tie.Need-loop-less-2 Inv-loop μ-loop
-loop-less-2 c = omega (arith, some-equal (c .before .before .before .before .before .before .before), c .before .before .before .before .before .before .before .before .before .before .before .before .before .loop-test .taken)
+loop-less-2 c = omega (arith, some-equal (c .before .before .before .before .before), c .before .before .before .before .before .before .before .before .before .before .before .loop-test .taken)
 
 loop-again-2 : tie.Need-loop-again-2 Inv-loop μ-loop
 loop-again-2 c =
-    let g = c .before .before .before .before in
-    let l = g .before in
-    let p = l .before .before .before .before .before .before .before in
+    let l = c .before .before .before in
+    let e = l .before .before in
+    let p = e .before .before .before .before .before in
     let k = p .before .before in
-    turn-equal _ _ _ _ _ _ _ _ _ _ _ _ (k .loop .inv) (p .past .result) (p .before .loop-test .taken) (p .past .ensures) (is-equal (l .before .before)) (l .lessen .last .0) _ (l .lessen .result) refl (l .lessen .ensures .0) (l .lessen .ensures .1) (g .book .given .1)
+    lowers-equal _ _ _ _ _ _ _ _ _ _ _ _ _ (k .loop .inv) (p .past .result) (p .before .loop-test .taken) (p .past .ensures) (is-equal e) (some-equal e) (l .lessen .last .0) (l .lessen .result) (l .lessen .ensures .0) (l .lessen .ensures .1) (l .lessen .kept .0)
 
 enum-told-3 : tie.Need-enum-told-3 Inv-loop μ-loop
 enum-told-3 c = search needs
@@ -179,13 +159,46 @@ loop-again-3 : tie.Need-loop-again-3 Inv-loop μ-loop
 loop-again-3 c =
     let p = c .before .before .before .before .before in
     let k = p .before .before in
-    turn-higher _ _ _ _ _ _ _ _ _ _ _ _ (k .loop .inv) (p .past .result) (p .before .loop-test .taken) (p .past .ensures) (is-higher c)
+    lowers-higher _ _ _ _ _ _ _ _ _ _ _ _ _ (k .loop .inv) (p .past .result) (p .before .loop-test .taken) (p .past .ensures) (is-higher c)
+
+sub-freed : tie.Need-sub-freed Inv-loop μ-loop
+sub-freed c = c .before .loop .inv .gap .low
+
+-- The gap lies within the words used.
+gap-used : (k : tie.At-loop Inv-loop μ-loop) → (k .loop .to ≤ k .loop .kept) × (k .loop .kept ≤ k .before .before .before .args .used)
+gap-used k = let g = k .loop .inv .gap in (g .low, omega (arith, g .mid, within k))
+
+mul-close-gap : tie.Need-mul-close-gap Inv-loop μ-loop
+mul-close-gap c = omega (arith, gap-used (c .before), within (c .before))
+
+sub-close-gap : tie.Need-sub-close-gap Inv-loop μ-loop
+sub-close-gap c = omega (arith, gap-used (c .before), within (c .before))
+
+part-close-gap-start : tie.Need-part-close-gap-start Inv-loop μ-loop
+part-close-gap-start c = omega (arith, gap-used (c .before), within (c .before))
+
+part-close-gap-end : tie.Need-part-close-gap-end Inv-loop μ-loop
+part-close-gap-end c = search needs
+
+sub-close-gap-2 : tie.Need-sub-close-gap-2 Inv-loop μ-loop
+sub-close-gap-2 c = omega (arith, gap-used (c .before .before))
+
+close-gap-requires : tie.Need-close-gap-requires Inv-loop μ-loop
+close-gap-requires c κs =
+    let k = c .before .before in
+    (omega (arith, gap-used k), simp (length-take, length-drop) (omega (arith, gap-used k, within k)))
+
+sub-uses : tie.Need-sub-uses Inv-loop μ-loop
+sub-uses c = omega (arith, gap-used (c .before .before .before .before .before))
 
 same-length : tie.Need-same-length Inv-loop μ-loop
-same-length c = c .before .loop .inv .long
+same-length c = c .before .book2 .given .1 ∙ c .before .before .before .before .before .loop .inv .gap .long
 
 returns : tie.Need-returns Inv-loop μ-loop
-returns c = turn-end _ _ _ _ _ _ _ _ _ _ _ _ (c .before .loop .inv) (c .before .before .before .before .pre .0 .0) (c .loop-test .left)
+returns c =
+    let a = c .before .before in
+    let k = a .before .before .before in
+    lowers-end _ _ _ _ _ _ _ _ _ _ _ _ _ (k .loop .inv) (k .before .before .before .pre .0 .0) (a .before .before .loop-test .left) (a .close-gap .last .0) (a .close-gap .ensures) (c .before .book2 .given .1)
 
 pub lower-all-spec : {M : Type 1} → statement M
 lower-all-spec =
@@ -207,14 +220,7 @@ lower-all-spec =
     loop-less
     loop-again
     enum-told-2
-    mul-lessen
-    sub-lessen
-    part-lessen-start
-    part-lessen-end
-    sub-lessen-2
     lessen-requires
-    add-at
-    sub-kept
     sub-count
     sub-left-2
     sub-rest
@@ -224,5 +230,13 @@ lower-all-spec =
     sub-rest-2
     loop-less-3
     loop-again-3
+    sub-freed
+    mul-close-gap
+    sub-close-gap
+    part-close-gap-start
+    part-close-gap-end
+    sub-close-gap-2
+    close-gap-requires
+    sub-uses
     same-length
     returns)

@@ -30,16 +30,16 @@ cut-at-requires : tie.Need-cut-at-requires
 cut-at-requires c κs = search needs
 
 returns : tie.Need-returns
-returns c = ap (λ (r : Written). writing r (c .before .before .before .before .before .before .before .args .out .now)) (c .wrote .ensures) ∙ sym (cut-refused _ _ _ (placed _ _ _ _ (c .before .before .before .before .find-line .ensures) (c .before .before .number .given .1)) _ _)
+returns c = ap (λ (r : Written). writing r (c .before .before .before .before .before .before .before .before .args .out .now)) (c .wrote .ensures) ∙ sym (cut-refused _ _ _ (placed _ _ _ _ (c .before .before .before .before .find-line .ensures .0) (c .before .before .number .given .1)) _ _)
 
 returns-2 : tie.Need-returns-2
-returns-2 c = ap (λ (r : Written). writing r (c .before .before .before .before .before .before .args .out .now)) (c .wrote2 .ensures) ∙ sym (cut-lacks _ _ (placed _ _ _ _ (c .before .before .before .find-line .ensures) (c .before .enum-told .given .1)) _ _)
+returns-2 c = ap (λ (r : Written). writing r (c .before .before .before .before .before .before .before .args .out .now)) (c .wrote2 .ensures) ∙ sym (cut-lacks _ _ (placed _ _ _ _ (c .before .before .before .find-line .ensures .0) (c .before .enum-told .given .1)) _ _)
 
 same-length : tie.Need-same-length
 same-length c = search needs
 
 returns-3 : tie.Need-returns-3
-returns-3 c = c .before .before .cut-at .ensures ∙ sym (cut-has _ _ _ (placed _ _ _ _ (c .before .before .before .before .before .before .before .find-line .ensures) (c .before .before .before .before .before .at .given .1)) _ _)
+returns-3 c = c .before .before .cut-at .ensures ∙ sym (cut-has _ _ _ (placed _ _ _ _ (c .before .before .before .before .before .before .before .find-line .ensures .0) (c .before .before .before .before .before .at .given .1)) _ _)
 
 pub cut-into-spec : {M : Type 1} → statement M
 cut-into-spec =

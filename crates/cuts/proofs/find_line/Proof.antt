@@ -1,22 +1,28 @@
 -- `cuts::find_line` meets its contract: the cause refuses, or the order's length says which lines there are. Assumes nothing.
-use mathlib.Core.Path.{ap, sym, _∙_}
+use mathlib.Core.Path.{_≡_, ap, sym, _∙_}
 use borrow.Author.Needs.{needs}
+use Rattle.figures.specs.Numbers.{done}
+use Rattle.order.specs.Reading.{causeOf}
 use Rattle.order.specs.declared.Place.the-variants.{Refused}
 use Rattle.order.proofs.Lines.{place-refused, place-none, place-past, place-at}
 use Rattle.cuts.proofs.find_line.Statement.{statement}
 use Rattle.cuts.proofs.find_line.Tie as tie
 
-cause-requires : tie.Need-cause-requires
-cause-requires c κs = search needs
+-- The order passes.
+fine : (c : tie.Else1) → causeOf (c .before .before .before .before .args .order .now) ≡ done
+fine c = sym (c .before .cause-into .ensures .0) ∙ c .if1 .left
+
+cause-into-requires : tie.Need-cause-into-requires
+cause-into-requires c κs = search needs
 
 returns : tie.Need-returns
-returns c = let e = c .before .cause .ensures in ap Refused e ∙ sym (place-refused _ _ (λ h. c .if1 .taken (e ∙ h)))
+returns c = let e = c .before .cause-into .ensures in (ap Refused (e .0) ∙ sym (place-refused _ _ (λ h. c .if1 .taken (e .0 ∙ h))), e .1)
 
 returns-2 : tie.Need-returns-2
-returns-2 c = sym (place-none _ _ (sym (c .before .before .cause .ensures) ∙ c .before .if1 .left) (c .if2 .taken))
+returns-2 c = (sym (place-none _ _ (fine (c .before)) (c .if2 .taken)), c .before .before .cause-into .ensures .1)
 
 returns-3 : tie.Need-returns-3
-returns-3 c = sym (place-past _ _ (sym (c .before .before .before .cause .ensures) ∙ c .before .before .if1 .left) (c .if3 .taken))
+returns-3 c = (sym (place-past _ _ (fine (c .before .before)) (c .if3 .taken)), c .before .before .before .cause-into .ensures .1)
 
 sub-at : tie.Need-sub-at
 sub-at c = search needs
@@ -25,8 +31,8 @@ mul-at : tie.Need-mul-at
 mul-at c = search needs
 
 returns-4 : tie.Need-returns-4
-returns-4 c = sym (place-at _ _ (sym (c .before .before .before .cause .ensures) ∙ c .before .before .if1 .left) (c .before .if2 .left) (c .if3 .left))
+returns-4 c = (sym (place-at _ _ (fine (c .before .before)) (c .before .if2 .left) (c .if3 .left)), c .before .before .before .cause-into .ensures .1)
 
 pub find-line-spec : {M : Type 1} → statement M
 find-line-spec =
-    tie.close (tie.spec cause-requires returns returns-2 returns-3 sub-at mul-at returns-4)
+    tie.close (tie.spec cause-into-requires returns returns-2 returns-3 sub-at mul-at returns-4)

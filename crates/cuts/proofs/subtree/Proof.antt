@@ -1,10 +1,36 @@
 -- `cuts::subtree` meets its contract, by where the line stands. Assumes nothing.
-use mathlib.Core.Path.{sym, _∙_}
+use Prim.Native.Nat.{ℕ, _≤_}
+use mathlib.Core.Path.{_≡_, ap, sym, _∙_}
+use native.Mathlib.Omega.{arith}
+use lib.ListN.{length}
 use borrow.Author.Needs.{needs}
-use Rattle.order.proofs.Lines.{placed}
-use Rattle.order.proofs.Answers.{subtree-refused, subtree-lacks, subtree-has}
+use Rattle.order.specs.Walks.{walkOf, endOf}
+use Rattle.order.proofs.Lines.{HasLine, placed, StandsAt, stands-at}
+use Rattle.order.proofs.Answers.{subtree-refused, subtree-lacks, subtree-within, subtree-has}
 use Rattle.cuts.proofs.subtree.Statement.{statement}
 use Rattle.cuts.proofs.subtree.Tie as tie
+
+-- The line stands at the word.
+stands : (c : tie.After-at) → StandsAt (c .before .before .before .before .before .args .order .now) (c .before .before .before .before .before .args .line) (c .at .given .0 .0)
+stands c = stands-at _ _ _ (sym (c .before .before .find-line .ensures .0) ∙ c .at .given .1)
+
+-- The order has the line.
+has : (c : tie.After-at) → HasLine (c .before .before .before .before .before .args .order .now) (c .before .before .before .before .before .args .line) (c .at .given .0 .0)
+has c = placed _ _ _ _ (c .before .before .find-line .ensures .0) (c .at .given .1)
+
+-- Its end is the one that a walk finds.
+ends : (c : tie.After-line-end) →
+    let s = c .before .before .before .before .before .before .before .before .args .order .now in
+    c .line-end .result ≡ endOf (walkOf s (c .before .before .before .at .given .0 .0) 0)
+ends c =
+    let s = c .before .before .before .before .before .before .before .before .args .order .now in
+    c .line-end .ensures ∙ ap (λ (w : ℕ). endOf (walkOf s w 0)) (sym (stands (c .before .before .before) .word))
+
+-- It ends within the order.
+within : (c : tie.After-line-end) →
+    (c .before .before .before .at .given .0 .0 ≤ c .line-end .result)
+    × (c .line-end .result ≤ length (c .before .before .before .before .before .before .before .before .args .order .now))
+within c = let k = stands (c .before .before .before) in subtree-within _ _ _ (has (c .before .before .before)) _ (omega arith) (ends c)
 
 find-line-requires : tie.Need-find-line-requires
 find-line-requires c κs = search needs
@@ -36,17 +62,35 @@ part-result-end-2 c = search needs
 enum-known-at : tie.Need-enum-known-at
 enum-known-at c = search needs
 
-tree-at-requires : tie.Need-tree-at-requires
-tree-at-requires c κs = search needs
+sub-line-end : tie.Need-sub-line-end
+sub-line-end c = let k = stands (c .before .before) in omega arith
+
+line-end-requires : tie.Need-line-end-requires
+line-end-requires c κs =
+    let k = stands (c .before .before) in
+    let f = c .before .before .before .before .find-line .ensures .1 in
+    (k .passes, (f .0 (k .passes), (omega arith, f .1)))
+
+mul-result : tie.Need-mul-result
+mul-result c = let k = stands (c .before .before .before) in omega (arith, has (c .before .before .before) .short)
+
+sub-result-3 : tie.Need-sub-result-3
+sub-result-3 c = let w = within c in omega arith
+
+part-result-start-3 : tie.Need-part-result-start-3
+part-result-start-3 c = let w = within c in omega arith
+
+part-result-end-3 : tie.Need-part-result-end-3
+part-result-end-3 c = let w = within c in omega arith
 
 returns : tie.Need-returns
-returns c = sym (subtree-refused _ _ _ (placed _ _ _ _ (c .before .before .before .find-line .ensures) (c .before .enum-told .given .1)))
+returns c = sym (subtree-refused _ _ _ (placed _ _ _ _ (c .before .before .before .find-line .ensures .0) (c .before .enum-told .given .1)))
 
 returns-2 : tie.Need-returns-2
-returns-2 c = sym (subtree-lacks _ _ (placed _ _ _ _ (c .before .before .before .find-line .ensures) (c .before .enum-told2 .given .1)))
+returns-2 c = sym (subtree-lacks _ _ (placed _ _ _ _ (c .before .before .before .find-line .ensures .0) (c .before .enum-told2 .given .1)))
 
 returns-3 : tie.Need-returns-3
-returns-3 c = c .tree-at .ensures ∙ sym (subtree-has _ _ _ (placed _ _ _ _ (c .before .before .before .before .find-line .ensures) (c .before .before .at .given .1)))
+returns-3 c = sym (subtree-has _ _ _ (has (c .before .before .before .before)) _ (ends (c .before)))
 
 pub subtree-spec : {M : Type 1} → statement M
 subtree-spec =
@@ -62,7 +106,12 @@ subtree-spec =
     part-result-start-2
     part-result-end-2
     enum-known-at
-    tree-at-requires
+    sub-line-end
+    line-end-requires
+    mul-result
+    sub-result-3
+    part-result-start-3
+    part-result-end-3
     returns
     returns-2
     returns-3)

@@ -17,22 +17,22 @@ use Rattle.judge.proofs.first_unknown.Tie as tie
 
 -- The entries left lie within the book and are sorted, and the section has what is sought exactly if they have it.
 abbrev Inv-loop : tie.InvT-loop
-Inv-loop book places order cut lines line part at₀ left₀ at left =
+Inv-loop book places order levels cut lines line part at₀ left₀ at left =
     (at + span left (drop at book) ≤ length book) × Sorted (entries left (drop at book))
     × (has (keyOf part order cut) (entries (part .many) (drop (part .at) book)) ≡ has (keyOf part order cut) (entries left (drop at book)))
 
 -- Each turn leaves one entry fewer.
 abbrev μ-loop : tie.MeasureT-loop
-μ-loop book places order cut lines line part at₀ left₀ at left = left
+μ-loop book places order levels cut lines line part at₀ left₀ at left = left
 
 -- The first unknown line is that of the lines left.
 abbrev Inv-lines : tie.InvT-lines
-Inv-lines book places order cut₀ lines line₀ cut line =
+Inv-lines book places order levels cut₀ lines line₀ cut line =
     (line ≤ lines) × (length cut ≡ most-words) × (lineUnknown (bookIn book) order ≡ unknownFrom (bookIn book) order line)
 
 -- Each turn leaves one line fewer.
 abbrev μ-lines : tie.MeasureT-lines
-μ-lines book places order cut₀ lines line₀ cut line = lines - line
+μ-lines book places order levels cut₀ lines line₀ cut line = lines - line
 
 -- The words of the book, seen from the inner loop.
 abbrev book : tie.At-loop Inv-loop μ-loop Inv-lines μ-lines → List ℕ
@@ -53,7 +53,7 @@ slice-aggregate-seek c = sym (c .before .before .lines .inv .1)
 seek-requires : tie.Need-seek-requires Inv-loop μ-loop Inv-lines μ-lines
 seek-requires c κs =
     let s = c .before .before .before .before .before in
-    (s .pre .0, (s .pre .1, (omega (arith, c .before .if1 .left), omega arith)))
+    (s .pre .0, (s .pre .1 .0, (omega (arith, c .before .if1 .left), (omega arith, s .pre .1 .1))))
 
 add-line : tie.Need-add-line Inv-loop μ-loop Inv-lines μ-lines
 add-line c = omega (arith, c .before .before .before .if1 .left)
@@ -80,7 +80,7 @@ part-against-end : tie.Need-part-against-end Inv-loop μ-loop Inv-lines μ-lines
 part-against-end c = rw (c .past .ensures) (omega (arith, room (c .before)))
 
 slice-aggregate-against : tie.Need-slice-aggregate-against Inv-loop μ-loop Inv-lines μ-lines
-slice-aggregate-against c = let sk = c .before .before .before .before .before .before in sym (sk .seek .kept .1 .1 .1 .1 .0 ∙ sk .before .before .before .lines .inv .1)
+slice-aggregate-against c = let sk = c .before .before .before .before .before .before in sym (sk .seek .kept .1 .1 .1 .1 .1 .0 ∙ sk .before .before .before .lines .inv .1)
 
 against-requires : tie.Need-against-requires Inv-loop μ-loop Inv-lines μ-lines
 against-requires c κs = let S = c .before .before .before .before .before .before .seek .ensures in (S .forward, S .lies)
@@ -120,8 +120,8 @@ lines-again c =
     let sk = k .before .before in
     let l = sk .before .before .before in (
       omega (arith, sk .before .before .if1 .left),
-      sk .seek .kept .1 .1 .1 .1 .0 ∙ l .lines .inv .1,
-      l .lines .inv .2 ∙ from-known _ _ _ _ _ _ (l .before .before .before .pre .1) (omega (arith, sk .before .before .if1 .left)) (sk .seek .ensures) (k .loop .inv .2 ∙ has-here (book k) (k .loop .at) (k .loop .left) (p .result) (i .loop-test .taken) (p .ensures) _ (sym (a .against .ensures) ∙ c .enum-told2 .given .1)),
+      sk .seek .kept .1 .1 .1 .1 .1 .0 ∙ l .lines .inv .1,
+      l .lines .inv .2 ∙ from-known _ _ _ _ _ _ (l .before .before .before .pre .1 .0) (omega (arith, sk .before .before .if1 .left)) (sk .seek .ensures) (k .loop .inv .2 ∙ has-here (book k) (k .loop .at) (k .loop .left) (p .result) (i .loop-test .taken) (p .ensures) _ (sym (a .against .ensures) ∙ c .enum-told2 .given .1)),
     )
 
 enum-told-3 : tie.Need-enum-told-3 Inv-loop μ-loop Inv-lines μ-lines
@@ -130,7 +130,7 @@ enum-told-3 c = search needs
 returns : tie.Need-returns Inv-loop μ-loop Inv-lines μ-lines
 returns c =
     let k = c .before in
-    sym (k .lines .inv .2 ∙ from-last _ _ _ (k .before .before .before .pre .1) (c .if1 .taken))
+    sym (k .lines .inv .2 ∙ from-last _ _ _ (k .before .before .before .pre .1 .0) (c .if1 .taken))
 
 returns-2 : tie.Need-returns-2 Inv-loop μ-loop Inv-lines μ-lines
 returns-2 c =
@@ -140,14 +140,14 @@ returns-2 c =
     let p = a .before .before .before .past in
     let sk = k .before .before in
     let l = sk .before .before .before in
-    sym (l .lines .inv .2 ∙ from-unknown _ _ _ _ _ _ (l .before .before .before .pre .1) (omega (arith, sk .before .before .if1 .left)) (sk .seek .ensures) (k .loop .inv .2 ∙ has-not (book k) (k .loop .at) (k .loop .left) (p .result) (i .loop-test .taken) (p .ensures) _ (k .loop .inv .1) (sym (a .against .ensures) ∙ c .enum-told3 .given .1)))
+    sym (l .lines .inv .2 ∙ from-unknown _ _ _ _ _ _ (l .before .before .before .pre .1 .0) (omega (arith, sk .before .before .if1 .left)) (sk .seek .ensures) (k .loop .inv .2 ∙ has-not (book k) (k .loop .at) (k .loop .left) (p .result) (i .loop-test .taken) (p .ensures) _ (k .loop .inv .1) (sym (a .against .ensures) ∙ c .enum-told3 .given .1)))
 
 returns-3 : tie.Need-returns-3 Inv-loop μ-loop Inv-lines μ-lines
 returns-3 c =
     let k = c .before in
     let sk = k .before .before in
     let l = sk .before .before .before in
-    sym (l .lines .inv .2 ∙ from-unknown _ _ _ _ _ _ (l .before .before .before .pre .1) (omega (arith, sk .before .before .if1 .left)) (sk .seek .ensures) (k .loop .inv .2 ∙ has-none (book k) _ (k .loop .at) (k .loop .left) (c .loop-test .left)))
+    sym (l .lines .inv .2 ∙ from-unknown _ _ _ _ _ _ (l .before .before .before .pre .1 .0) (omega (arith, sk .before .before .if1 .left)) (sk .seek .ensures) (k .loop .inv .2 ∙ has-none (book k) _ (k .loop .at) (k .loop .left) (c .loop-test .left)))
 
 pub first-unknown-spec : {M : Type 1} → statement M
 first-unknown-spec =

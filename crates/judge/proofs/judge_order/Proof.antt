@@ -3,56 +3,67 @@ use mathlib.Core.Path.{_≡_, ap, sym, _∙_}
 use native.Mathlib.Omega.{arith}
 use borrow.Author.Needs.{needs}
 use borrow.Author.Tests.{not-true, not-false}
+use lib.ListN.{length}
+use Rattle.figures.specs.Limits.{most-nodes}
 use Rattle.figures.specs.Numbers.{done}
+use Rattle.figures.specs.Answers.{answered}
 use Rattle.order.specs.Reading.{causeOf}
+use Rattle.order.specs.Levels.{LinesLevelled}
 use Rattle.order.proofs.Causes.{has-tree}
 use Rattle.book.specs.Decoding.{bookIn}
 use Rattle.judge.specs.Seeking.{lineAnswer}
 use Rattle.judge.proofs.Judgements.{line-within, judge-refused, judge-top, judge-lines}
-use Rattle.order.proofs.Causes.{cause-told}
 use Rattle.judge.proofs.judge_order.Statement.{statement}
 use Rattle.judge.proofs.judge_order.Tie as tie
 
 -- Past the first test the words are an order.
 ordered : (c : tie.Else1) → causeOf (c .before .before .before .before .before .args .order .now) ≡ done
-ordered c = sym (cause-told _ _ (c .before .before .check .ensures)) ∙ c .if1 .left
+ordered c = sym (c .before .cause-into .ensures .0) ∙ c .if1 .left
 
-check-requires : tie.Need-check-requires
-check-requires c κs = search needs
+-- Past the first test the levels of its lines are listed in a scratch of the full length.
+listed : (c : tie.Else1) → let a = c .before .cause-into in LinesLevelled (c .before .before .before .before .before .args .order .now) (a .last .1 .0) × (length (a .last .1 .0) ≡ most-nodes)
+listed c = let a = c .before .cause-into in (a .ensures .1 .0 (ordered c), a .ensures .1 .1)
+
+cause-into-requires : tie.Need-cause-into-requires
+cause-into-requires c κs = search needs
+
+answered-requires : tie.Need-answered-requires
+answered-requires c κs = search needs
 
 returns : tie.Need-returns
 returns c =
-    let a = c .before .before .check in
-    a .ensures ∙ sym (judge-refused _ _ _ (c .before .before .before .before .before .pre) (λ e. c .if1 .taken (cause-told _ _ (a .ensures) ∙ e)))
+    let a = c .before .before .cause-into in
+    c .answered .ensures ∙ ap answered (a .ensures .0) ∙ sym (judge-refused _ _ _ (c .before .before .before .before .before .before .pre) (λ e. c .before .if1 .taken (a .ensures .0 ∙ e)))
 
 top-known-requires : tie.Need-top-known-requires
-top-known-requires c κs = (c .before .before .before .before .before .pre, ordered c)
+top-known-requires c κs = let o = c .before in (o .before .before .before .before .before .pre, (ordered o, listed o))
 
 returns-2 : tie.Need-returns-2
-returns-2 c = let o = c .before .before in sym (judge-top _ _ _ (o .before .before .before .before .before .pre) (ordered o) (sym (c .before .top-known .ensures) ∙ not-true _ (c .if2 .taken)))
+returns-2 c = let o = c .before .before .before in sym (judge-top _ _ _ (o .before .before .before .before .before .pre) (ordered o) (sym (c .before .top-known .ensures) ∙ not-true _ (c .if2 .taken)))
 
 first-unknown-requires : tie.Need-first-unknown-requires
-first-unknown-requires c κs = let o = c .before .before in (o .before .before .before .before .before .pre, ordered o)
+first-unknown-requires c κs = let o = c .before .before .before .before in (o .before .before .before .before .before .pre, (ordered o, listed o))
 
 line-answer-requires : tie.Need-line-answer-requires
 line-answer-requires c κs =
-    let o = c .before .before .before in
+    let o = c .before .before .before .before .before .before in
     let s = o .before .before .before .before .before .args in
     let t = has-tree (s .order .now) (ordered o) in
-    omega (arith, c .first-unknown .ensures, line-within (bookIn (s .book .now)) (s .order .now) (t .tree) (t .passes))
+    (ordered o, (omega (arith, c .before .first-unknown .ensures, line-within (bookIn (s .book .now)) (s .order .now) (t .tree) (t .passes)), listed o))
 
 returns-3 : tie.Need-returns-3
 returns-3 c =
-    let o = c .before .before .before .before in
+    let o = c .before .before .before .before .before .before .before in
     let s = o .before .before .before .before .before in
-    c .line-answer .ensures ∙ ap (lineAnswer (s .args .places .k .k) (s .args .order .now)) (c .before .first-unknown .ensures)
-    ∙ sym (judge-lines _ _ _ (s .pre) (ordered o) (sym (c .before .before .before .top-known .ensures) ∙ not-false _ (c .before .before .if2 .left)))
+    c .line-answer .ensures ∙ ap (lineAnswer (s .args .places .k .k) (s .args .order .now)) (c .before .before .first-unknown .ensures)
+    ∙ sym (judge-lines _ _ _ (s .pre) (ordered o) (sym (c .before .before .before .before .before .top-known .ensures) ∙ not-false _ (c .before .before .before .before .if2 .left)))
 
 pub judge-order-spec : {M : Type 1} → statement M
 judge-order-spec =
     tie.close
     (tie.spec
-    check-requires
+    cause-into-requires
+    answered-requires
     returns
     top-known-requires
     returns-2

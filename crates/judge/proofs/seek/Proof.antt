@@ -15,8 +15,8 @@ line-here s = line-at _ _ (s .pre .1 .0) (s .pre .1 .1 .0)
 mul-from : tie.Need-mul-from
 mul-from c = search needs
 
-part-at-requires : tie.Need-part-at-requires
-part-at-requires c κs = search needs
+part-line-requires : tie.Need-part-line-requires
+part-line-requires c κs = let s = c .before .before .before in (s .pre .1 .0, (s .pre .1 .1 .1 .1 .0, (s .pre .1 .1 .0, s .pre .1 .1 .1 .1 .1)))
 
 enum-told : tie.Need-enum-told
 enum-told c = search needs
@@ -36,11 +36,12 @@ enum-known-count c = search needs
 of-middles-requires : tie.Need-of-middles-requires
 of-middles-requires c κs = search needs
 
-put-requires : tie.Need-put-requires
-put-requires c κs =
+put-line-requires : tie.Need-put-line-requires
+put-line-requires c κs =
     let s = c .before .before .before .before .before .before .before .before .before in
     let l = line-here s in
-    cut-room _ _ _ (l .spot) (c .before .of-middles .result) (length (s .args .cut .now)) (short-order _ _ (l .passes)) (s .pre .1 .1 .1)
+    let room = cut-room _ _ _ (l .spot) (c .before .of-middles .result) (length (s .args .cut .now)) (short-order _ _ (l .passes)) (s .pre .1 .1 .1 .0) in
+    (s .pre .1 .0, (s .pre .1 .1 .1 .1 .0, (s .pre .1 .1 .0, (s .pre .1 .1 .1 .1 .1, room))))
 
 shared-slice-read-many-2 : tie.Need-shared-slice-read-many-2
 shared-slice-read-many-2 c = omega (arith, (c .before .before .before .before .before .before .before .before .before .before .before .before .before) .pre .0 .long)
@@ -51,12 +52,12 @@ cast-many-2 c = omega (arith, c .shared-slice-known4 .given 6)
 returns : tie.Need-returns
 returns c =
     let s = c .before .before .before .before .before .before in
-    some-part _ _ _ _ (s .pre .0) (line-here s) _ (c .before .before .part-at .ensures) (c .enum-told .given .1)
+    some-part _ _ _ _ (s .pre .0) (line-here s) _ (c .before .before .part-line .ensures) (c .enum-told .given .1)
 
 returns-2 : tie.Need-returns-2
 returns-2 c =
     let s = c .before .before .before .before .before .before .before .before in
-    seeks-low _ _ _ _ (s .pre .0) (line-here s) _ (c .before .before .before .before .part-at .ensures) _ _ _ (c .before .before .end .given .1) refl
+    seeks-low _ _ _ _ (s .pre .0) (line-here s) _ (c .before .before .before .before .part-line .ensures) _ _ _ (c .before .before .end .given .1) refl
 
 same-length : tie.Need-same-length
 same-length c = search needs
@@ -65,21 +66,21 @@ returns-3 : tie.Need-returns-3
 returns-3 c =
     let s = c .before .before .before .before .before .before .before .before .before .before .before .before .before in
     let m = c .before .before .before .before .before in
-    seeks-middle _ _ _ _ (s .pre .0) (line-here s) _ (c .before .before .before .before .before .before .before .before .before .part-at .ensures) _ _ _ (m .of-middles .result) (s .args .cut .now) _ (c .before .before .before .before .before .before .before .count .given .1) refl (m .of-middles .ensures) (c .before .before .before .put .ensures .1)
+    seeks-middle _ _ _ _ (s .pre .0) (line-here s) _ (c .before .before .before .before .before .before .before .before .before .part-line .ensures) _ _ _ (m .of-middles .result) (s .args .cut .now) _ (c .before .before .before .before .before .before .before .count .given .1) refl (m .of-middles .ensures) (c .before .before .before .put-line .ensures .1)
 
 pub seek-spec : {M : Type 1} → statement M
 seek-spec =
     tie.close
     (tie.spec
     mul-from
-    part-at-requires
+    part-line-requires
     enum-told
     enum-known-end
     shared-slice-read-many
     cast-many
     enum-known-count
     of-middles-requires
-    put-requires
+    put-line-requires
     shared-slice-read-many-2
     cast-many-2
     returns

@@ -10,28 +10,33 @@ use Rattle.order.specs.Parts.{top}
 use Rattle.order.proofs.Causes.{HasTree, has-tree}
 use Rattle.book.specs.declared.Section.the-variants.{Tops}
 use Rattle.judge.proofs.Tops.{top-count, top-key, top-there, top-lacking}
-use Rattle.order.proofs.Spots.{top-room}
+use Rattle.order.proofs.Orders.{some-lines}
+use Rattle.order.proofs.Spots.{two-words-a-line, top-room}
 use Rattle.judge.proofs.top_known.Statement.{statement}
 use Rattle.judge.proofs.top_known.Tie as tie
 
 -- The order's tree.
 tree : (s : tie.Start) → HasTree (s .args .order .now)
-tree s = has-tree _ (s .pre .1)
+tree s = has-tree _ (s .pre .1 .0)
 
 -- The words that were written are those of the top.
-key : (c : tie.After-cut2) → let s = c .before .before .before .before .before .before in take (c .before .put .result .count - 0) (drop 0 (c .before .put .last .1 .1 .1 .0)) ≡ words (top (s .args .places .k .k) (tree s .tree))
+key : (c : tie.After-cut2) → let s = c .before .before .before .before .before .before in take (c .before .put-line .result .count - 0) (drop 0 (c .before .put-line .last .1 .1 .1 .1 .0)) ≡ words (top (s .args .places .k .k) (tree s .tree))
 key c =
     let s = c .before .before .before .before .before .before in
-    top-key _ _ (tree s .passes) (c .before .before .before .of-tops .result) _ _ _ _ (c .before .before .before .of-tops .ensures) (c .before .put .ensures .0) (c .before .put .ensures .1)
+    top-key _ _ (tree s .passes) (c .before .before .before .of-tops .result) _ _ _ _ (c .before .before .before .of-tops .ensures) (c .before .put-line .ensures .0) (c .before .put-line .ensures .1)
 
 of-tops-requires : tie.Need-of-tops-requires
 of-tops-requires c κs = search needs
 
-slice-aggregate-put : tie.Need-slice-aggregate-put
-slice-aggregate-put c = search needs
+slice-aggregate-put-line : tie.Need-slice-aggregate-put-line
+slice-aggregate-put-line c = search needs
 
-put-requires : tie.Need-put-requires
-put-requires c κs = let t = tree (c .before .before .before .before) in top-room _ (t .tree) (t .passes) (c .before .of-tops .result) most-words (omega arith)
+put-line-requires : tie.Need-put-line-requires
+put-line-requires c κs =
+    let s = c .before .before .before .before in
+    let t = tree s in
+    let room = top-room _ (t .tree) (t .passes) (c .before .of-tops .result) most-words (omega arith) in
+    (s .pre .1 .0, (s .pre .1 .1 .0, (omega (arith, two-words-a-line _ _ (t .passes), some-lines (t .tree)), (s .pre .1 .1 .1, room))))
 
 shared-slice-read-many : tie.Need-shared-slice-read-many
 shared-slice-read-many c = omega (arith, (c .before .before .before .before .before .before .before) .pre .0 .long)
@@ -50,7 +55,7 @@ part-find-end c =
     let p = c .before .before .before in
     let d = p .before .before in
     let t = tree (d .before .before .before) in
-    omega (arith, p .put .kept .1 .1 .1 .0, top-count _ (t .tree) (t .passes) (d .of-tops .result) _ (p .put .ensures .0))
+    omega (arith, p .put-line .kept .1 .1 .1 .1 .0, top-count _ (t .tree) (t .passes) (d .of-tops .result) _ (p .put-line .ensures .0))
 
 find-requires : tie.Need-find-requires
 find-requires c κs = (c .before .before .before .before .before .before .before .before .before) .pre .0 .section Tops .within
@@ -76,8 +81,8 @@ top-known-spec =
     tie.close
     (tie.spec
     of-tops-requires
-    slice-aggregate-put
-    put-requires
+    slice-aggregate-put-line
+    put-line-requires
     shared-slice-read-many
     cast-many
     sub-find

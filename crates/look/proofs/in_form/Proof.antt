@@ -4,10 +4,11 @@ use Prim.Native.Nat.{ℕ, _≤_}
 use mathlib.Core.Path.{refl, sym, _∙_}
 use mathlib.Core.List.{List}
 use native.Mathlib.Omega.{arith}
-use borrow.Author.Tests.{not-true, not-false}
+use borrow.Author.Tests.{not-true, not-false, leb-true}
 use borrow.Author.Needs.{needs}
-use lib.ListN.{length}
-use Rattle.figures.specs.Limits.{head-words, most-book-words}
+use lib.ListN.{length, getD}
+use Rattle.words.proofs.Tests.{and-right}
+use Rattle.figures.specs.Limits.{head-words, most-book-words, greatest-k, greatest-depth}
 use Rattle.figures.specs.declared.depths.Depth.{Depth}
 use Rattle.book.specs.declared.Section.the-variants.{Taught, Tops, Lows, Middles}
 use Rattle.book.proofs.Depths.{allowed, outside}
@@ -39,6 +40,10 @@ head c =
       allows = a .1;
       few = omega (arith, c .before .before .before .before .before .before .before .shared-slice-known .given 2);
     }
+
+-- The parts are no deeper than an order may be.
+shallow : (c : tie.After-known-told) → depth c .k ≤ greatest-depth
+shallow c = omega (arith, head c .is, leb-true (getD (words c) 0 0) greatest-k (and-right _ _ (head c .allows)))
 
 -- Where k became known, from where section R starts.
 abbrev to-k : tie.After-known-told2 → tie.After-known-told
@@ -149,7 +154,7 @@ shared-slice-read-pass-2 : tie.Need-shared-slice-read-pass-2
 shared-slice-read-pass-2 c = omega (arith, head (to-k (c .before)) .long)
 
 pass-requires-2 : tie.Need-pass-requires-2
-pass-requires-2 c κs = search needs
+pass-requires-2 c κs = let k = to-k (c .before) in omega (arith, shallow k, c .before .before .before .before .before .before .before .of-tops .ensures)
 
 enum-known-lows : tie.Need-enum-known-lows
 enum-known-lows c = search needs
@@ -166,7 +171,9 @@ shared-slice-read-pass-3 : tie.Need-shared-slice-read-pass-3
 shared-slice-read-pass-3 c = omega (arith, head (to-k (to-tops (c .before))) .long)
 
 pass-requires-3 : tie.Need-pass-requires-3
-pass-requires-3 c κs = search needs
+pass-requires-3 c κs =
+    let t = to-tops (c .before) in
+    omega (arith, shallow (to-k t), t .before .before .before .before .before .before .of-tops .ensures)
 
 enum-known-middles : tie.Need-enum-known-middles
 enum-known-middles c = search needs
@@ -184,7 +191,9 @@ shared-slice-read-pass-4 : tie.Need-shared-slice-read-pass-4
 shared-slice-read-pass-4 c = omega (arith, head (to-k (to-tops (to-lows (c .before)))) .long)
 
 pass-requires-4 : tie.Need-pass-requires-4
-pass-requires-4 c κs = search needs
+pass-requires-4 c κs =
+    let t = to-tops (to-lows (c .before)) in
+    omega (arith, shallow (to-k t), t .before .before .before .before .before .of-middles .ensures)
 
 enum-known-used : tie.Need-enum-known-used
 enum-known-used c = search needs

@@ -1,9 +1,9 @@
 -- `look::pass` meets its contract: each turn leaves what is to be found to the entries left, past the entry that it passed. Assumes nothing.
-use Prim.Native.Nat.{ℕ, _+_, _*_, _-_, _≤_}
+use Prim.Native.Nat.{ℕ, _+_, _*_, _-_, _/_, _≤_}
 use mathlib.Core.Path.{_≡_, refl, sym, _∙_}
 use mathlib.Core.List.{List}
 use native.Mathlib.Omega.{arith}
-use lib.ListN.{length, take, drop}
+use lib.ListN.{length, take, drop, length-take, length-drop}
 use borrow.Author.Tests.{not-true, not-false}
 use borrow.Author.Needs.{needs}
 use Rattle.figures.specs.Limits.{greatest-count}
@@ -49,6 +49,12 @@ end c = c .before .end .given .0 .0
 -- Its count.
 abbrev count : tie.After-known-told Inv-loop μ-loop → ℕ
 count c = c .before .end .given .0 .1 .0
+
+-- The words of an entry's key are even in number.
+even : (ws : List ℕ) (at end count : ℕ) → Told ws at end count →
+    let key = take (end - (at + 2)) (drop (at + 2) ws) in
+    2 * (length key / 2) ≡ length key
+even ws at end count i = simp (length-take, length-drop) (omega (arith, i .ends, i .fits))
 
 -- The entry is there.
 there : (c : tie.After-known-told Inv-loop μ-loop) → Told (book (top c)) (top c .loop .at) (end c) (count c)
@@ -98,7 +104,9 @@ part-fits-end : tie.Need-part-fits-end Inv-loop μ-loop
 part-fits-end c = let i = there (c .before) in omega (arith, i .ends, i .fits)
 
 fits-requires : tie.Need-fits-requires Inv-loop μ-loop
-fits-requires c κs = search needs
+fits-requires c κs =
+    let e = c .before .before in
+    (even _ _ _ _ (there e), top e .before .before .pre)
 
 returns-3 : tie.Need-returns-3 Inv-loop μ-loop
 returns-3 c =

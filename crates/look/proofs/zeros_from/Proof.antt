@@ -1,33 +1,61 @@
--- `look::zeros_from` meets its contract: each turn leaves the question to the words from `i` on. Assumes nothing.
-use Prim.Native.Nat.{_-_}
-use mathlib.Core.Path.{_≡_, sym, _∙_}
+-- `look::zeros_from` meets its contract: all words are zero if the greatest of those up to `i` is, and those from `i` on are. Assumes nothing.
+use Prim.Native.Nat.{ℕ, zero, suc, _+_, _-_, _≤_, _<_}
+use mathlib.Core.Path.{_≡_, refl, sym, ap, _∙_}
+use mathlib.Core.Bool.{Bool, true, false}
+use mathlib.Core.Logic.{⊎-elim}
 use native.Mathlib.Omega.{arith}
+use lib.Dec.{eqb}
 use lib.ListN.{length, drop}
 use borrow.Author.Needs.{needs}
+use borrow.Author.Tests.{eq-eqb, ne-eqb}
+use Rattle.words.specs.Base.{_and_}
 use Rattle.book.specs.Passes.{zeros}
-use Rattle.book.proofs.Runs.{zeros-not, zeros-on, zeros-end}
+use Rattle.book.proofs.Runs.{zeros-at, zeros-end}
 use Rattle.look.proofs.zeros_from.Statement.{statement}
 use Rattle.look.proofs.zeros_from.Tie as tie
 
--- What is asked of all the words is still to be asked of those from `i` on.
+-- A greater word decides alone: it is not zero.
+greater : (a x : ℕ) (z : Bool) → a < x → (eqb a 0 and (eqb x 0 and z)) ≡ (eqb x 0 and z)
+unfolding _and_
+greater a x z h = rw (ne-eqb x 0 (omega arith)) (either (eqb a 0))
+  where
+    -- With a word that is not zero nothing else matters.
+    either : (b : Bool) → (b and false) ≡ false
+    either true = refl
+    either false = refl
+
+-- A word that is not greater need not be looked at.
+no-greater : (a x : ℕ) (z : Bool) → x ≤ a → (eqb a 0 and (eqb x 0 and z)) ≡ (eqb a 0 and z)
+unfolding _and_
+no-greater zero x z h = rw (eq-eqb x 0 (omega arith)) refl
+no-greater (suc a) x z h = rw (ne-eqb (suc a) 0 (omega arith)) refl
+
+-- Behind the last word the greatest decides.
+all-looked-at : (a : ℕ) (z : Bool) → z ≡ true → (eqb a 0 and z) ≡ eqb a 0
+unfolding _and_
+all-looked-at a z e = rw e (go (eqb a 0))
+  where
+    -- With zeros alone nothing changes.
+    go : (b : Bool) → (b and true) ≡ b
+    go true = refl
+    go false = refl
+
 abbrev Inv-loop : tie.InvT-loop
-Inv-loop book at i₀ i = zeros (drop at book) ≡ zeros (drop i book)
+Inv-loop book at greatest₀ i₀ greatest i = zeros (drop at book) ≡ (eqb greatest 0 and zeros (drop i book))
 
 -- The words left.
 abbrev μ-loop : tie.MeasureT-loop
-μ-loop book at i₀ i = length book - i
+μ-loop book at greatest₀ i₀ greatest i = length book - i
 
 loop-holds : tie.Need-loop-holds Inv-loop μ-loop
-loop-holds c = search needs
+unfolding _and_
+loop-holds c = refl
 
-mul-if1 : tie.Need-mul-if1 Inv-loop μ-loop
-mul-if1 c = search needs
+mul-word : tie.Need-mul-word Inv-loop μ-loop
+mul-word c = search needs
 
-shared-slice-read-if1 : tie.Need-shared-slice-read-if1 Inv-loop μ-loop
-shared-slice-read-if1 c = search needs
-
-returns : tie.Need-returns Inv-loop μ-loop
-returns c = let k = c .before .before .before in sym (k .loop .inv ∙ zeros-not (k .before .args .book .now) (k .loop .i) (omega arith) (c .if1 .taken))
+shared-slice-read-word : tie.Need-shared-slice-read-word Inv-loop μ-loop
+shared-slice-read-word c = search needs
 
 add-i : tie.Need-add-i Inv-loop μ-loop
 add-i c = search needs
@@ -36,22 +64,19 @@ loop-less : tie.Need-loop-less Inv-loop μ-loop
 loop-less c = search needs
 
 loop-again : tie.Need-loop-again Inv-loop μ-loop
-loop-again c = let k = c .before .before .before in k .loop .inv ∙ zeros-on (k .before .args .book .now) (k .loop .i) (omega arith) (omega arith)
+loop-again c =
+    let k = c .before .before .before in
+    let b = k .before .args .book .now in
+    let i = k .loop .i in
+    let z = zeros (drop (i + 1) b) in
+    let step : ℕ → Bool = λ n. eqb n 0 and z in
+    k .loop .inv
+    ∙ ap (λ (r : Bool). eqb (k .loop .greatest) 0 and r) (zeros-at b i (omega arith))
+    ∙ ⊎-elim (λ w. greater _ _ z (w .0 .taken) ∙ ap step (sym (w .1))) (λ w. no-greater _ _ z (w .0 .left) ∙ ap step (sym (w .1))) (c .if1 .came)
 
-returns-2 : tie.Need-returns-2 Inv-loop μ-loop
-returns-2 c = let k = c .before in sym (k .loop .inv ∙ zeros-end (k .before .args .book .now) (k .loop .i) (omega arith))
+returns : tie.Need-returns Inv-loop μ-loop
+unfolding _and_
+returns c = let k = c .before in sym (k .loop .inv ∙ all-looked-at (k .loop .greatest) _ (zeros-end (k .before .args .book .now) (k .loop .i) (omega arith)))
 
 pub zeros-from-spec : {M : Type 1} → statement M
-zeros-from-spec =
-    tie.close
-    (tie.spec
-    Inv-loop
-    μ-loop
-    loop-holds
-    mul-if1
-    shared-slice-read-if1
-    returns
-    add-i
-    loop-less
-    loop-again
-    returns-2)
+zeros-from-spec = tie.close (tie.spec Inv-loop μ-loop loop-holds mul-word shared-slice-read-word add-i loop-less loop-again returns)

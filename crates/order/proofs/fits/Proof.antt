@@ -1,59 +1,32 @@
--- `order::fits` meets its contract: each test that led to a return decides whether the words fit. Assumes nothing.
-use mathlib.Core.Path.{sym}
+-- `order::fits` meets its contract: the lines come to a tree within the greatest depth, of which the least depth decides. Assumes nothing.
+use mathlib.Core.Path.{refl, sym, _∙_}
 use borrow.Author.Needs.{needs}
-use Rattle.order.proofs.Orders.{from-top}
-use Rattle.order.proofs.Fitting.{fits-long, fits-missing, fits-deep, fits-low, fits-high}
+use Rattle.order.proofs.Fitting.{fits-long, fits-broken, fits-deep}
 use Rattle.order.proofs.fits.Statement.{statement}
 use Rattle.order.proofs.fits.Tie as tie
 
 returns : tie.Need-returns
 returns c = sym (fits-long _ _ _ (c .if1 .taken))
 
-walk-requires : tie.Need-walk-requires
-walk-requires c κs = search needs
-
-enum-known-end : tie.Need-enum-known-end
-enum-known-end c = search needs
+level-lines-requires : tie.Need-level-lines-requires
+level-lines-requires c κs = let p = c .before .before .before .pre in ((c .before .if1 .left, p .0), (p .1, refl))
 
 enum-told : tie.Need-enum-told
 enum-told c = search needs
 
+enum-known-depth : tie.Need-enum-known-depth
+enum-known-depth c = search needs
+
 returns-2 : tie.Need-returns-2
-returns-2 c = sym (fits-missing _ _ _ (from-top _ _ _ (c .before .before .walk .ensures) (c .enum-told .given .1)))
+returns-2 c = sym (fits-broken _ _ _ (sym (c .before .before .level-lines .ensures .0) ∙ c .enum-told .given .1))
 
 returns-3 : tie.Need-returns-3
 returns-3 c =
-    let k = c .before .before .before .before in
-    sym (fits-missing _ _ _ (from-top _ _ _ (k .walk .ensures) (c .before .before .end .given .1) .0 (c .if2 .taken)))
-
-returns-4 : tie.Need-returns-4
-returns-4 c =
-    let e = c .before .before .before in
-    let k = e .before .before in
-    sym (fits-deep _ _ _ _ (k .before .if1 .left) (from-top _ _ _ (k .walk .ensures) (e .end .given .1) .1 (c .before .if2 .left)) (c .if3 .taken))
-
-returns-5 : tie.Need-returns-5
-returns-5 c =
-    let e = c .before .before .before .before in
-    let k = e .before .before in
-    sym (fits-low _ _ _ _ (k .before .if1 .left) (from-top _ _ _ (k .walk .ensures) (e .end .given .1) .1 (c .before .before .if2 .left)) (c .before .if3 .left) (c .if4 .taken))
-
-returns-6 : tie.Need-returns-6
-returns-6 c =
-    let e = c .before .before .before .before in
-    let k = e .before .before in
-    sym (fits-high _ _ _ _ (k .before .if1 .left) (from-top _ _ _ (k .walk .ensures) (e .end .given .1) .1 (c .before .before .if2 .left)) (c .before .if3 .left) (c .if4 .left))
+    let l = c .before .before .before in
+    let e = sym (l .level-lines .ensures .0) ∙ c .before .depth .given .1 in
+    sym (fits-deep _ _ _ _ (l .before .before .if1 .left) (l .before .before .before .before .pre .1) e)
 
 pub fits-spec : {M : Type 1} → statement M
 fits-spec =
     tie.close
-    (tie.spec
-    returns
-    walk-requires
-    enum-known-end
-    enum-told
-    returns-2
-    returns-3
-    returns-4
-    returns-5
-    returns-6)
+    (tie.spec returns level-lines-requires enum-told enum-known-depth returns-2 returns-3)

@@ -15,7 +15,7 @@ use Rattle.order.specs.Walks.{cutOf}
 use Rattle.book.specs.Book.{lay}
 use Rattle.book.specs.Decoding.{placesOf}
 use Rattle.own.specs.Own.{entry-words, own-words, partLines, listOf}
-use Rattle.own.proofs.Owning.{whole-ready, whole-short, few-lines, list-short, own-is, Stage, stage-start, stage-long, stage-within, stage-head, stage-fits, stage-zeros, stage-over, stage-padded, head-written, book, book-body, book-live, book-places}
+use Rattle.own.proofs.Owning.{first-line, whole-short, few-lines, list-short, own-is, Stage, stage-start, stage-long, stage-within, stage-head, stage-fits, stage-zeros, stage-over, stage-padded, head-written, book, book-body, book-live, book-places}
 use Rattle.own.proofs.list_own.Statement.{statement}
 use Rattle.own.proofs.list_own.Tie as tie
 
@@ -23,13 +23,13 @@ use Rattle.own.proofs.list_own.Tie as tie
 
 -- Nothing is listed yet.
 stage₀ : (b : tie.Start) → Stage (length (b .args .own .now)) [] (b .args .own .now) head-words
-stage₀ b = stage-start (b .args .own .now) (omega (arith, b .pre .1 .1 .1)) (b .pre .1 .1 .0)
+stage₀ b = stage-start (b .args .own .now) (omega (arith, b .pre .1 .1 .1 .1)) (b .pre .1 .1 .1 .0)
 
 -- The slice once the order stands there.
 abbrev own₁ : tie.After-write-entry → List ℕ
 own₁ c =
     let own = c .before .before .before .before .args .own .now in
-    putMid head-words (length own - head-words) own (c .write-entry .last .1 .1 .1 .0)
+    putMid head-words (length own - head-words) own (c .write-entry .last .1 .1 .1 .1 .0)
 
 -- The order's entry stands behind the head.
 stage₁ : (c : tie.After-write-entry) → let x = c .before .before .before .before .args in
@@ -39,7 +39,7 @@ stage₁ c =
     let x = b .args in
     let w = entryWords (counted (cutOf (x .order .now) 0 greatest-depth) 1) in
     stage-over (length (x .own .now)) [] (x .own .now) head-words (stage₀ b) w _ _
-    (omega (arith, c .write-entry .ensures .0)) (omega (arith, b .pre .1 .1 .1, whole-short (x .order .now) (b .pre .1 .0) greatest-depth)) (c .write-entry .ensures .1)
+    (omega (arith, c .write-entry .ensures .0)) (omega (arith, b .pre .1 .1 .1 .1, whole-short (x .order .now) (b .pre .1 .0) greatest-depth)) (c .write-entry .ensures .1)
 
 -- Where the top starts, there is room for its entry.
 tops-room : (c : tie.After-write-entry) → head-words + c .write-entry .result + entry-words ≤ own-words
@@ -50,7 +50,7 @@ abbrev own₂ : tie.After-write-entry2 → List ℕ
 own₂ c =
     let a = c .before .before .before .before .before in
     let at = head-words + a .write-entry .result in
-    putMid at (length (own₁ a) - at) (own₁ a) (c .write-entry2 .last .1 .1 .1 .0)
+    putMid at (length (own₁ a) - at) (own₁ a) (c .write-entry2 .last .1 .1 .1 .1 .0)
 
 -- The top's entry stands behind the order's.
 stage₂ : (c : tie.After-write-entry2) →
@@ -67,7 +67,7 @@ stage₂ c =
     let w = entryWords (counted (cutOf os 0 (x .k .k - 2)) 1) in
     let came = rw deep at (c .write-entry2 .ensures .0) in
     stage-over _ _ _ _ (stage₁ a) w _ _ (omega (arith, came))
-    (omega (arith, a .write-entry .ensures .0, b .pre .1 .1 .1, whole-short os (b .pre .1 .0) greatest-depth, whole-short os (b .pre .1 .0) (x .k .k - 2)))
+    (omega (arith, a .write-entry .ensures .0, b .pre .1 .1 .1 .1, whole-short os (b .pre .1 .0) greatest-depth, whole-short os (b .pre .1 .0) (x .k .k - 2)))
     (rw deep at (c .write-entry2 .ensures .1))
 
 -- Where the low parts start, there is room for all parts.
@@ -87,7 +87,7 @@ abbrev own₃ : tie.After-list-parts → List ℕ
 own₃ c =
     let t = c .before .before .before .before in
     let at = head-words + t .before .before .before .before .before .write-entry .result + t .write-entry2 .result in
-    putMid at (length (own₂ t) - at) (own₂ t) (c .list-parts .last .1 .1 .1 .0)
+    putMid at (length (own₂ t) - at) (own₂ t) (c .list-parts .last .1 .1 .1 .1 .0)
 
 -- The low parts stand behind the top.
 stage₃ : (c : tie.After-list-parts) →
@@ -104,7 +104,7 @@ stage₃ c =
     let os = x .order .now in
     let ws = sectionWords (listOf true (x .k .k) os) in
     let uses : c .list-parts .result .used ≡ length ws = ap (λ (z : Size). z .used) (c .list-parts .ensures .0) in
-    stage-padded _ _ _ _ (stage₂ t) ws _ _ (omega (arith, uses)) (omega (arith, b .pre .1 .1 .1, lows-room t, list-short os (b .pre .1 .0) (x .k .k) (b .pre .0) true)) (c .list-parts .ensures .1)
+    stage-padded _ _ _ _ (stage₂ t) ws _ _ (omega (arith, uses)) (omega (arith, b .pre .1 .1 .1 .1, lows-room t, list-short os (b .pre .1 .0) (x .k .k) (b .pre .0) true)) (c .list-parts .ensures .1)
 
 -- Where the middle parts start, there is room for them.
 middles-room : (c : tie.After-list-parts) →
@@ -126,7 +126,7 @@ own₄ c =
     let l = c .before .before .before .before .before in
     let t = l .before .before .before .before in
     let at = head-words + t .before .before .before .before .before .write-entry .result + t .write-entry2 .result + l .list-parts .result .used in
-    putMid at (length (own₃ l) - at) (own₃ l) (c .list-parts2 .last .1 .1 .1 .0)
+    putMid at (length (own₃ l) - at) (own₃ l) (c .list-parts2 .last .1 .1 .1 .1 .0)
 
 -- The middle parts stand behind the low parts.
 stage₄ : (c : tie.After-list-parts2) →
@@ -144,14 +144,14 @@ stage₄ c =
     let os = x .order .now in
     let ws = sectionWords (listOf false (x .k .k) os) in
     let uses : c .list-parts2 .result .used ≡ length ws = ap (λ (z : Size). z .used) (c .list-parts2 .ensures .0) in
-    stage-padded _ _ _ _ (stage₃ l) ws _ _ (omega (arith, uses)) (omega (arith, b .pre .1 .1 .1, middles-room l, list-short os (b .pre .1 .0) (x .k .k) (b .pre .0) false)) (c .list-parts2 .ensures .1)
+    stage-padded _ _ _ _ (stage₃ l) ws _ _ (omega (arith, uses)) (omega (arith, b .pre .1 .1 .1 .1, middles-room l, list-short os (b .pre .1 .0) (x .k .k) (b .pre .0) false)) (c .list-parts2 .ensures .1)
 
 -- The whole has room.
 used-room : (c : tie.After-list-parts2) →
     let l = c .before .before .before .before .before in
     let t = l .before .before .before .before in
     head-words + t .before .before .before .before .before .write-entry .result + t .write-entry2 .result + l .list-parts .result .used + c .list-parts2 .result .used ≤ own-words
-used-room c = let b = c .before .before .before .before .before .before .before .before .before .before .before .before .before .before .before .before .before .before in omega (arith, b .pre .1 .1 .1, stage₄ c .room)
+used-room c = let b = c .before .before .before .before .before .before .before .before .before .before .before .before .before .before .before .before .before .before in omega (arith, b .pre .1 .1 .1 .1, stage₄ c .room)
 
 -- There are no more low parts than words.
 few-lows : (c : tie.After-list-parts) → c .list-parts .result .many ≤ own-words
@@ -178,7 +178,9 @@ part-write-entry-end : tie.Need-part-write-entry-end
 part-write-entry-end c = search needs
 
 write-entry-requires : tie.Need-write-entry-requires
-write-entry-requires c κs = let b = c .before .before .before in (whole-ready _ (b .pre .1 .0) greatest-depth, stage-fits _ _ _ _ (stage₀ b) entry-words (omega (arith, b .pre .1 .1 .1)))
+write-entry-requires c κs =
+    let b = c .before .before .before in
+    (b .pre .1 .0, (b .pre .1 .1 .0, (first-line _ (b .pre .1 .0), stage-fits _ _ _ _ (stage₀ b) entry-words (omega (arith, b .pre .1 .1 .1 .1)))))
 
 add-tops : tie.Need-add-tops
 add-tops c = omega (arith, tops-room (c .before .before))
@@ -201,7 +203,8 @@ part-write-entry-end-2 c = search needs
 write-entry-requires-2 : tie.Need-write-entry-requires-2
 write-entry-requires-2 c κs =
     let a = c .before .before .before .before in
-    (whole-ready _ (a .before .before .before .before .pre .1 .0) _, stage-fits _ _ _ _ (stage₁ a) entry-words (omega (arith, a .before .before .before .before .pre .1 .1 .1, tops-room a)))
+    let b = a .before .before .before .before in
+    (b .pre .1 .0, (b .pre .1 .1 .0, (first-line _ (b .pre .1 .0), stage-fits _ _ _ _ (stage₁ a) entry-words (omega (arith, b .pre .1 .1 .1 .1, tops-room a)))))
 
 add-lows : tie.Need-add-lows
 add-lows c = omega (arith, lows-room (c .before .before))
@@ -222,7 +225,7 @@ list-parts-requires : tie.Need-list-parts-requires
 list-parts-requires c κs =
     let t = c .before .before .before in
     let b = t .before .before .before .before .before .before .before .before .before in
-    (b .pre .0, (b .pre .1 .0, (stage-zeros _ _ _ _ (stage₂ t), stage-fits _ _ _ _ (stage₂ t) _ (omega (arith, b .pre .1 .1 .1, lows-room t)))))
+    (b .pre .0, (b .pre .1 .0, (b .pre .1 .1 .0, (stage-zeros _ _ _ _ (stage₂ t), stage-fits _ _ _ _ (stage₂ t) _ (omega (arith, b .pre .1 .1 .1 .1, lows-room t))))))
 
 add-middles : tie.Need-add-middles
 add-middles c = omega (arith, middles-room (c .before .before .before))
@@ -243,7 +246,7 @@ list-parts-requires-2 : tie.Need-list-parts-requires-2
 list-parts-requires-2 c κs =
     let l = c .before .before .before .before in
     let b = l .before .before .before .before .before .before .before .before .before .before .before .before .before in
-    (b .pre .0, (b .pre .1 .0, (stage-zeros _ _ _ _ (stage₃ l), stage-fits _ _ _ _ (stage₃ l) _ (omega (arith, b .pre .1 .1 .1, middles-room l)))))
+    (b .pre .0, (b .pre .1 .0, (b .pre .1 .1 .0, (stage-zeros _ _ _ _ (stage₃ l), stage-fits _ _ _ _ (stage₃ l) _ (omega (arith, b .pre .1 .1 .1 .1, middles-room l))))))
 
 add-used : tie.Need-add-used
 add-used c = omega (arith, used-room (c .before .before .before))
@@ -307,7 +310,7 @@ returns c =
           (ap (λ (z : Size). head-words + a .write-entry .result + t .write-entry2 .result + l .list-parts .result .used + z .used) middle)
           ∙ ap placesOf (sym own),
       head-written (length (x .own .now)) (book k whole top ls ms) _ (own₄ m) _ (book-body k whole top ls ms) (stage₄ m) _ _ _ (c .before .before .value .ensures) (book-live k whole top ls ms) refl refl (ap (λ (z : Size). z .many) low) (ap (λ (z : Size). z .many) middle)
-          ∙ ap₂ lay (b .pre .1 .1 .1) (sym own),
+          ∙ ap₂ lay (b .pre .1 .1 .1 .1) (sym own),
     )
 
 pub list-own-spec : {M : Type 1} → statement M

@@ -11,27 +11,24 @@ use Rattle.section.specs.Entries.{Entry, sectionWords}
 use Rattle.changes.specs.Editing.{padded}
 use Rattle.changes.specs.declared.Size.{Size}
 use Rattle.own.specs.Own.{sizeOf}
-use Rattle.own.proofs.Listing.{Listing, list-start, list-end, listing-named, cut-ready, cut-most, line-passed, enter-ready, line-entered}
+use Rattle.own.proofs.Listing.{Listing, list-start, list-end, listing-named, cut-most, line-passed, enter-ready, line-entered}
 use Rattle.own.proofs.list_parts.Statement.{statement}
 use Rattle.own.proofs.list_parts.Tie as tie
 
 -- The parts listed, and those of the lines left, come to all parts.
 abbrev Inv-loop : tie.InvT-loop
-Inv-loop order k low out₀ entry₀ lines line₀ used₀ many₀ out entry line used many =
+Inv-loop order levels k low out₀ entry₀ lines line₀ used₀ many₀ out entry line used many =
     Listing low (k .k) order out₀ out entry line used many
 
 -- The lines left.
 abbrev μ-loop : tie.MeasureT-loop
-μ-loop order k low out₀ entry₀ lines line₀ used₀ many₀ out entry line used many = lines - line
+μ-loop order levels k low out₀ entry₀ lines line₀ used₀ many₀ out entry line used many = lines - line
 
 loop-holds : tie.Need-loop-holds Inv-loop μ-loop
-loop-holds c = let b = c .before .before in list-start _ _ _ _ _ (b .pre .1 .0) (b .pre .1 .1 .0) (b .pre .1 .1 .1) refl
-
-mul-at : tie.Need-mul-at Inv-loop μ-loop
-mul-at c = search needs
+loop-holds c = let b = c .before .before in list-start _ _ _ _ _ (b .pre .1 .0) (b .pre .1 .1 .1 .0) (b .pre .1 .1 .1 .1) refl
 
 is-low-requires : tie.Need-is-low-requires Inv-loop μ-loop
-is-low-requires c κs = search needs
+is-low-requires c κs = let b = c .before .before .before .before in (b .pre .1 .0, (b .pre .1 .1 .0, c .loop-test .taken))
 
 of-middles-requires : tie.Need-of-middles-requires Inv-loop μ-loop
 of-middles-requires c κs = search needs
@@ -42,7 +39,8 @@ slice-aggregate-write-entry c = search needs
 write-entry-requires : tie.Need-write-entry-requires Inv-loop μ-loop
 write-entry-requires c κs =
     let l = c .before .before .before .before in
-    (cut-ready _ _ _ _ _ _ _ _ _ (l .before .loop .inv) (l .loop-test .taken) _, omega (arith, l .before .loop .inv .spare))
+    let b = l .before .before .before .before in
+    (b .pre .1 .0, (b .pre .1 .1 .0, (l .loop-test .taken, omega (arith, l .before .loop .inv .spare))))
 
 sub-enter-once : tie.Need-sub-enter-once Inv-loop μ-loop
 sub-enter-once c = search needs
@@ -102,7 +100,6 @@ list-parts-spec =
     Inv-loop
     μ-loop
     loop-holds
-    mul-at
     is-low-requires
     of-middles-requires
     slice-aggregate-write-entry

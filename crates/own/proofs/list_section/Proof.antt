@@ -45,12 +45,12 @@ section-is b s told = is s ∙ sym (ap₂ sectionOf told (own-is (b .args .order
 
 -- The slice has room for a cut's entry.
 cut-fits : (b : tie.Start) → entry-words ≤ length (b .args .out .now)
-cut-fits b = omega (arith, b .pre .1 .1 .1)
+cut-fits b = omega (arith, b .pre .1 .1 .1 .1)
 
 -- The slice has room for the parts of a kind.
 parts-fit : (b : tie.Start) (low : Bool) → partLines low (b .args .k .k) (b .args .order .now) * entry-words ≤ length (b .args .out .now)
-parts-fit b true = omega (arith, b .pre .1 .1 .1, few-lines (b .args .order .now) (b .pre .1 .0) (b .args .k .k) (b .pre .0))
-parts-fit b false = omega (arith, b .pre .1 .1 .1, few-lines (b .args .order .now) (b .pre .1 .0) (b .args .k .k) (b .pre .0))
+parts-fit b true = omega (arith, b .pre .1 .1 .1 .1, few-lines (b .args .order .now) (b .pre .1 .0) (b .args .k .k) (b .pre .0))
+parts-fit b false = omega (arith, b .pre .1 .1 .1 .1, few-lines (b .args .order .now) (b .pre .1 .0) (b .args .k .k) (b .pre .0))
 
 -- The words of a section with zeros behind them, in a slice of as many words as the one that was lent.
 abbrev laid : tie.Start → List Entry → List ℕ
@@ -60,7 +60,7 @@ enum-told : tie.Need-enum-told
 enum-told c = search needs
 
 list-cut-requires : tie.Need-list-cut-requires
-list-cut-requires c κs = let b = c .before .before .before .before .before in (b .pre .1 .0, (b .pre .1 .1 .0, cut-fits b))
+list-cut-requires c κs = let b = c .before .before .before .before .before in (b .pre .1 .0, (b .pre .1 .1 .0, (b .pre .1 .1 .1 .0, cut-fits b)))
 
 enum-told-2 : tie.Need-enum-told-2
 enum-told-2 c = search needs
@@ -69,19 +69,19 @@ of-tops-requires : tie.Need-of-tops-requires
 of-tops-requires c κs = search needs
 
 list-cut-requires-2 : tie.Need-list-cut-requires-2
-list-cut-requires-2 c κs = let b = c .before .before .before .before .before .before in (b .pre .1 .0, (b .pre .1 .1 .0, cut-fits b))
+list-cut-requires-2 c κs = let b = c .before .before .before .before .before .before in (b .pre .1 .0, (b .pre .1 .1 .0, (b .pre .1 .1 .1 .0, cut-fits b)))
 
 enum-told-3 : tie.Need-enum-told-3
 enum-told-3 c = search needs
 
 list-parts-requires : tie.Need-list-parts-requires
-list-parts-requires c κs = let b = c .before .before .before .before .before in (b .pre .0, (b .pre .1 .0, (b .pre .1 .1 .0, parts-fit b true)))
+list-parts-requires c κs = let b = c .before .before .before .before .before in (b .pre .0, (b .pre .1 .0, (b .pre .1 .1 .0, (b .pre .1 .1 .1 .0, parts-fit b true))))
 
 enum-told-4 : tie.Need-enum-told-4
 enum-told-4 c = search needs
 
 list-parts-requires-2 : tie.Need-list-parts-requires-2
-list-parts-requires-2 c κs = let b = c .before .before .before .before .before in (b .pre .0, (b .pre .1 .0, (b .pre .1 .1 .0, parts-fit b false)))
+list-parts-requires-2 c κs = let b = c .before .before .before .before .before in (b .pre .0, (b .pre .1 .0, (b .pre .1 .1 .0, (b .pre .1 .1 .1 .0, parts-fit b false))))
 
 same-length : tie.Need-same-length
 same-length c = search needs

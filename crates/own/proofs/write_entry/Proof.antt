@@ -1,5 +1,5 @@
 -- `own::write_entry` meets its contract: the cut is written behind two words, which are then its number of nodes and 1. Assumes nothing.
-use Prim.Native.Nat.{ℕ, _+_, _-_, _/_, _≤_}
+use Prim.Native.Nat.{ℕ, _+_, _-_, _*_, _/_, _≤_}
 use mathlib.Core.Path.{_≡_, refl, ap, _∙_}
 use mathlib.Core.List.{List, _++_, append-assoc}
 use native.Mathlib.Omega.{arith}
@@ -14,13 +14,9 @@ use Rattle.order.specs.declared.Laid.{Laid}
 use Rattle.order.specs.declared.Walked.{Walked}
 use Rattle.order.specs.declared.Walked.the-variants.{Broken, Whole}
 use Rattle.order.proofs.Cuts.{room-cut, set-two, part-back}
+use Rattle.order.proofs.Spots.{line-at, short-order, cut-room}
 use Rattle.own.proofs.write_entry.Statement.{statement}
 use Rattle.own.proofs.write_entry.Tie as tie
-
--- A cut that has room has room in more words.
-room-more : (w : Walked) (n m : ℕ) → Room w n → n ≤ m → Room w m
-room-more Broken n m r h = r
-room-more (Whole e d c) n m r h = omega arith
 
 -- A cut that has room is that short.
 room-short : (w : Walked) (n : ℕ) → Room w n → cutLength w ≤ n
@@ -39,29 +35,36 @@ entry-over w l last fits is =
     let past : 2 + length w ≡ length (entryWords (counted w 1)) = omega arith in
     rw (new, set-two ((take 2 l ++ w) ++ drop (2 + length w) l) (length w / 2) 1 long, rest, past) refl
 
+-- 128 words are room for the cut of the line's subtree.
+line-room : (b : tie.Start) (n : ℕ) → most-words ≤ n → Room (walkOf (b .args .order .now) (b .args .line * 2) (b .args .d)) n
+line-room b n h =
+    let os = b .args .order .now in
+    let l = line-at os (b .args .line) (b .pre .0) (b .pre .1 .1 .0) in
+    cut-room os (b .args .line * 2) _ (l .spot) (b .args .d) n (short-order os (l .order) (l .passes)) h
+
 -- The cut's length is what was written, and it is short.
-count-is : (c : tie.After-put) →
+count-is : (c : tie.After-put-line) →
     let b = c .before .before .before .before in
-    (c .put .result .count ≡ length (cutOf (b .args .order .now) (b .args .at) (b .args .d))) × (c .put .result .count ≤ most-words)
+    (c .put-line .result .count ≡ length (cutOf (b .args .order .now) (b .args .line * 2) (b .args .d))) × (c .put-line .result .count ≤ most-words)
 count-is c =
     let b = c .before .before .before .before in
-    let r = room-cut (b .args .order .now) (b .args .at) (b .args .d) most-words (b .pre .0) in
-    let e : c .put .result .count ≡ cutLength (walkOf (b .args .order .now) (b .args .at) (b .args .d)) = ap (λ (x : Laid). x .count) (c .put .ensures .0) in
-    (e ∙ r .1, omega (arith, e, room-short (walkOf (b .args .order .now) (b .args .at) (b .args .d)) most-words (b .pre .0)))
+    let r = room-cut (b .args .order .now) (b .args .line * 2) (b .args .d) most-words (line-room b most-words (omega arith)) in
+    let e : c .put-line .result .count ≡ cutLength (walkOf (b .args .order .now) (b .args .line * 2) (b .args .d)) = ap (λ (x : Laid). x .count) (c .put-line .ensures .0) in
+    (e ∙ r .1, omega (arith, e, room-short (walkOf (b .args .order .now) (b .args .line * 2) (b .args .d)) most-words (line-room b most-words (omega arith))))
 
-sub-put : tie.Need-sub-put
-sub-put c = search needs
+sub-put-line : tie.Need-sub-put-line
+sub-put-line c = search needs
 
-part-put-start : tie.Need-part-put-start
-part-put-start c = search needs
+part-put-line-start : tie.Need-part-put-line-start
+part-put-line-start c = search needs
 
-part-put-end : tie.Need-part-put-end
-part-put-end c = search needs
+part-put-line-end : tie.Need-part-put-line-end
+part-put-line-end c = search needs
 
-put-requires : tie.Need-put-requires
-put-requires c κs =
+put-line-requires : tie.Need-put-line-requires
+put-line-requires c κs =
     let b = c .before .before .before in
-    room-more (walkOf (b .args .order .now) (b .args .at) (b .args .d)) most-words _ (b .pre .0) (simp (length-take, length-drop) (omega (arith, b .pre .1)))
+    (b .pre .0, (b .pre .1 .0 .0, (b .pre .1 .1 .0, (b .pre .1 .0 .1, line-room b _ (simp (length-take, length-drop) (omega (arith, b .pre .1 .1 .1)))))))
 
 cast-out : tie.Need-cast-out
 cast-out c = omega (arith, count-is (c .before .before) .1)
@@ -73,7 +76,7 @@ same-length : tie.Need-same-length
 same-length c = search needs
 
 slice-write-out-2 : tie.Need-slice-write-out-2
-slice-write-out-2 c = simp length-set (omega (arith, simp length-set at (same-length c), c .before .before .before .before .before .before .pre .1))
+slice-write-out-2 c = simp length-set (omega (arith, simp length-set at (same-length c), c .before .before .before .before .before .before .pre .1 .1 .1))
 
 add-result : tie.Need-add-result
 add-result c = omega (arith, count-is (c .before .before) .1)
@@ -81,19 +84,19 @@ add-result c = omega (arith, count-is (c .before .before) .1)
 returns : tie.Need-returns
 returns c =
     let b = c .before .before .before .before .before .before in
-    let w = cutOf (b .args .order .now) (b .args .at) (b .args .d) in
+    let w = cutOf (b .args .order .now) (b .args .line * 2) (b .args .d) in
     let n = count-is (c .before .before) in
-    let is : c .before .before .put .result .count ≡ length w = n .0 in
-    (rw is refl, rw is (entry-over w (b .args .out .now) _ (omega (arith, n .0, n .1, b .pre .1)) (c .before .before .put .ensures .1)))
+    let is : c .before .before .put-line .result .count ≡ length w = n .0 in
+    (rw is refl, rw is (entry-over w (b .args .out .now) _ (omega (arith, n .0, n .1, b .pre .1 .1 .1)) (c .before .before .put-line .ensures .1)))
 
 pub write-entry-spec : {M : Type 1} → statement M
 write-entry-spec =
     tie.close
     (tie.spec
-    sub-put
-    part-put-start
-    part-put-end
-    put-requires
+    sub-put-line
+    part-put-line-start
+    part-put-line-end
+    put-line-requires
     cast-out
     slice-write-out
     slice-write-out-2

@@ -38,19 +38,19 @@ cut-at-requires : tie.Need-cut-at-requires
 cut-at-requires c κs = search needs
 
 returns : tie.Need-returns
-returns c = ap (λ (r : PartWritten). partWriting r (c .before .before .before .before .before .before .before .args .out .now)) (c .no-part .ensures) ∙ sym (part-refused _ _ _ (placed _ _ _ _ (c .before .before .before .before .find-line .ensures) (c .before .before .number .given .1)) _ _)
+returns c = ap (λ (r : PartWritten). partWriting r (c .before .before .before .before .before .before .before .before .args .out .now)) (c .no-part .ensures) ∙ sym (part-refused _ _ _ (placed _ _ _ _ (c .before .before .before .before .find-line .ensures .0) (c .before .before .number .given .1)) _ _)
 
 returns-2 : tie.Need-returns-2
-returns-2 c = ap (λ (r : PartWritten). partWriting r (c .before .before .before .before .before .before .args .out .now)) (c .no-part2 .ensures) ∙ sym (part-lacks _ _ (placed _ _ _ _ (c .before .before .before .find-line .ensures) (c .before .enum-told .given .1)) _ _)
+returns-2 c = ap (λ (r : PartWritten). partWriting r (c .before .before .before .before .before .before .before .args .out .now)) (c .no-part2 .ensures) ∙ sym (part-lacks _ _ (placed _ _ _ _ (c .before .before .before .find-line .ensures .0) (c .before .enum-told .given .1)) _ _)
 
 same-length : tie.Need-same-length
 same-length c = search needs
 
 returns-3 : tie.Need-returns-3
 returns-3 c =
-    let a = c .before .before .before .before .before .before .before .before .before .before .before .before .args in
+    let a = c .before .before .before .before .before .before .before .before .before .before .before .before .before .args in
     ap₂ ofKind (c .before .before .before .before .before .kind-at .ensures) (c .before .before .cut-at .ensures ∙ ap (λ (d : ℕ). write (cutOf (a .order .now) (c .before .before .before .before .before .before .before .at .given .0 .0) d) (a .out .now)) (c .before .before .before .before .of-middles .ensures))
-    ∙ sym (part-has _ _ _ (placed _ _ _ _ (c .before .before .before .before .before .before .before .before .before .find-line .ensures) (c .before .before .before .before .before .before .before .at .given .1)) _ _)
+    ∙ sym (part-has _ _ _ (placed _ _ _ _ (c .before .before .before .before .before .before .before .before .before .find-line .ensures .0) (c .before .before .before .before .before .before .before .at .given .1)) _ _)
 
 pub part-into-spec : {M : Type 1} → statement M
 part-into-spec =

@@ -5,7 +5,7 @@ use native.Mathlib.Omega.{arith}
 use lib.ListN.{length, getD}
 use borrow.Author.Needs.{needs}
 use Rattle.form.specs.Turns.{linesIn}
-use Rattle.print.proofs.Written.{Known, known, Put, put-none, PutNext, put-next, put-all}
+use Rattle.print.proofs.Written.{Known, known, level-small, Put, put-none, PutNext, put-next, put-all}
 use Rattle.form.proofs.LineBytes.{part-size}
 use Rattle.print.proofs.put_lines.Statement.{statement}
 use Rattle.print.proofs.put_lines.Tie as tie
@@ -30,11 +30,13 @@ lines c = known _ (c .before .before .before .before .pre .0)
 loop-holds : tie.Need-loop-holds Inv-loop μ-loop
 loop-holds c = (refl, put-none _ _)
 
-mul-level : tie.Need-mul-level Inv-loop μ-loop
-mul-level c = let k = lines c in omega arith
-
 element-copy-out-level : tie.Need-element-copy-out-level Inv-loop μ-loop
 element-copy-out-level c = let k = lines c in omega arith
+
+cast-level : tie.Need-cast-level Inv-loop μ-loop
+cast-level c =
+    let p = c .before .before .before .before .before .pre in
+    omega (arith, level-small _ _ (p .0) (p .1) _ (c .before .loop-test .taken))
 
 mul-code : tie.Need-mul-code Inv-loop μ-loop
 mul-code c = let k = lines (c .before) in omega arith
@@ -82,8 +84,8 @@ put-lines-spec =
     Inv-loop
     μ-loop
     loop-holds
-    mul-level
     element-copy-out-level
+    cast-level
     mul-code
     mul-code-2
     shared-slice-read-code

@@ -1,52 +1,63 @@
 -- `teach::teach_order` meets its contract, by the tests that it makes in turn. Assumes nothing.
 use mathlib.Core.Path.{_≡_, refl, sym, _∙_}
 use borrow.Author.Needs.{needs}
+use lib.ListN.{length}
+use Rattle.figures.specs.Limits.{most-nodes}
 use Rattle.figures.specs.Numbers.{done}
 use Rattle.order.specs.Reading.{causeOf}
+use Rattle.order.specs.Levels.{LinesLevelled}
 use Rattle.book.specs.Holding.{Holds}
 use Rattle.own.specs.Own.{own-words}
 use Rattle.teach.proofs.Outcomes.{all-zeros, told, teach-refused, used-room, least, teach-full, own-holds, teach-overfull, teach-crowded, teach-ready, teach-done}
-use Rattle.order.proofs.Causes.{cause-told}
 use Rattle.teach.proofs.teach_order.Statement.{statement}
 use Rattle.teach.proofs.teach_order.Tie as tie
 
 -- Past the first test the words are an order.
 ordered : (c : tie.Else1) → causeOf (c .before .before .before .before .before .args .order .now) ≡ done
-ordered c = sym (cause-told _ _ (c .before .before .check .ensures)) ∙ c .if1 .left
+ordered c = sym (c .before .cause-into .ensures .0) ∙ c .if1 .left
+
+-- The levels of its lines are listed then.
+levelled : (c : tie.Else1) →
+    let levels = c .before .cause-into .last .1 .0 in
+    LinesLevelled (c .before .before .before .before .before .args .order .now) levels × (length levels ≡ most-nodes)
+levelled c = let a = c .before .cause-into in (a .ensures .1 .0 (ordered c), a .ensures .1 .1)
 
 -- Past the listing its own book stands in its slice.
-listed : (c : tie.After-list-own) → Holds (c .list-own .last .1 .1 .0) (c .list-own .result)
+listed : (c : tie.After-list-own) → Holds (c .list-own .last .1 .1 .1 .0) (c .list-own .result)
 listed c =
-    let o = c .before .before .before .before in
+    let o = c .before .before .before .before .before in
     own-holds _ _ _ (o .before .before .before .before .before .pre) (ordered o) _ _ (c .list-own .ensures .0) (c .list-own .ensures .1)
 
-check-requires : tie.Need-check-requires
-check-requires c κs = search needs
-
-returns : tie.Need-returns
-returns c =
-    let s = c .before .before .before .before .before in
-    teach-refused _ _ _ (s .pre) _ (c .before .before .check .ensures) (c .if1 .taken)
-
-slice-read-if2 : tie.Need-slice-read-if2
-slice-read-if2 c = search needs
+cause-into-requires : tie.Need-cause-into-requires
+cause-into-requires c κs = search needs
 
 answered-requires : tie.Need-answered-requires
 answered-requires c κs = search needs
 
+returns : tie.Need-returns
+returns c =
+    let s = c .before .before .before .before .before .before in
+    told _ _ _ (c .answered .ensures) ∙ teach-refused _ _ _ (s .pre) _ (c .before .before .cause-into .ensures .0) (c .before .if1 .taken)
+
+slice-read-if2 : tie.Need-slice-read-if2
+slice-read-if2 c = search needs
+
+answered-requires-2 : tie.Need-answered-requires-2
+answered-requires-2 c κs = search needs
+
 returns-2 : tie.Need-returns-2
 returns-2 c =
     let o = c .before .before .before in
-    told _ _ _ (c .answered .ensures) ∙ teach-full _ _ _ (o .before .before .before .before .before .pre) (ordered o) (c .before .if2 .taken)
+    told _ _ _ (c .answered2 .ensures) ∙ teach-full _ _ _ (o .before .before .before .before .before .pre) (ordered o) (c .before .if2 .taken)
 
 slice-aggregate-list-own : tie.Need-slice-aggregate-list-own
 slice-aggregate-list-own c = search needs
 
 list-own-requires : tie.Need-list-own-requires
 list-own-requires c κs =
-    let o = c .before .before .before in
+    let o = c .before .before .before .before in
     let s = o .before .before .before .before .before in
-    (least _ _ (s .pre), (ordered o, (all-zeros own-words, refl)))
+    (least _ _ (s .pre), (ordered o, (levelled o, (all-zeros own-words, refl))))
 
 slice-aggregate-weigh-book : tie.Need-slice-aggregate-weigh-book
 slice-aggregate-weigh-book c = search needs
@@ -54,10 +65,10 @@ slice-aggregate-weigh-book c = search needs
 weigh-book-requires : tie.Need-weigh-book-requires
 weigh-book-requires c κs =
     let l = c .before .before .before in
-    (l .before .before .before .before .before .before .before .before .before .pre, listed l)
+    (l .before .before .before .before .before .before .before .before .before .before .pre, listed l)
 
-answered-requires-2 : tie.Need-answered-requires-2
-answered-requires-2 c κs = search needs
+answered-requires-3 : tie.Need-answered-requires-3
+answered-requires-3 c κs = search needs
 
 same-length : tie.Need-same-length
 same-length c = search needs
@@ -66,18 +77,18 @@ returns-3 : tie.Need-returns-3
 returns-3 c =
     let w = c .before .before in
     let l = w .before .before .before .before in
-    let o = l .before .before .before .before in
+    let o = l .before .before .before .before .before in
     let s = o .before .before .before .before .before in
-    told _ _ _ (c .answered2 .ensures)
+    told _ _ _ (c .answered3 .ensures)
     ∙ teach-overfull _ _ _ (s .pre) (ordered o) _ _ (l .list-own .ensures .0) (l .list-own .ensures .1) _ (w .weigh-book .ensures) (c .before .if3 .taken)
 
 sub-if4 : tie.Need-sub-if4
 sub-if4 c =
-    let s = c .before .before .before .before .before .before .before .before .before .before .before .before .before .before .before in
+    let s = c .before .before .before .before .before .before .before .before .before .before .before .before .before .before .before .before in
     used-room _ _ (s .pre)
 
-answered-requires-3 : tie.Need-answered-requires-3
-answered-requires-3 c κs = search needs
+answered-requires-4 : tie.Need-answered-requires-4
+answered-requires-4 c κs = search needs
 
 same-length-2 : tie.Need-same-length-2
 same-length-2 c = search needs
@@ -87,10 +98,10 @@ returns-4 c =
     let r = c .before .before .before .before in
     let w = r .before in
     let l = w .before .before .before .before in
-    let o = l .before .before .before .before in
+    let o = l .before .before .before .before .before in
     let s = o .before .before .before .before .before in
-    told _ _ _ (c .answered3 .ensures)
-    ∙ teach-crowded _ _ _ (s .pre) (ordered o) _ _ (l .list-own .ensures .0) (l .list-own .ensures .1) _ (w .weigh-book .ensures) (l .before .before .if2 .left) (r .if3 .left) (c .before .if4 .taken)
+    told _ _ _ (c .answered4 .ensures)
+    ∙ teach-crowded _ _ _ (s .pre) (ordered o) _ _ (l .list-own .ensures .0) (l .list-own .ensures .1) _ (w .weigh-book .ensures) (l .before .before .before .if2 .left) (r .if3 .left) (c .before .if4 .taken)
 
 slice-aggregate-change-book : tie.Need-slice-aggregate-change-book
 slice-aggregate-change-book c = search needs
@@ -100,13 +111,13 @@ change-book-requires c κs =
     let r = c .before .before .before .before .before in
     let w = r .before in
     let l = w .before .before .before .before in
-    let o = l .before .before .before .before in
+    let o = l .before .before .before .before .before in
     let s = o .before .before .before .before .before in
-    let ready = teach-ready _ _ _ (s .pre) (ordered o) _ _ (l .list-own .ensures .0) (l .list-own .ensures .1) _ (w .weigh-book .ensures) (l .before .before .if2 .left) (r .if3 .left) (c .before .before .if4 .left) in
+    let ready = teach-ready _ _ _ (s .pre) (ordered o) _ _ (l .list-own .ensures .0) (l .list-own .ensures .1) _ (w .weigh-book .ensures) (l .before .before .before .if2 .left) (r .if3 .left) (c .before .before .if4 .left) in
     (s .pre, (listed l, ready))
 
-answered-requires-4 : tie.Need-answered-requires-4
-answered-requires-4 c κs = search needs
+answered-requires-5 : tie.Need-answered-requires-5
+answered-requires-5 c κs = search needs
 
 same-length-3 : tie.Need-same-length-3
 same-length-3 c = search needs
@@ -118,33 +129,34 @@ returns-5 c =
     let r = f .before .before .before in
     let w = r .before in
     let l = w .before .before .before .before in
-    let o = l .before .before .before .before in
+    let o = l .before .before .before .before .before in
     let s = o .before .before .before .before .before in
-    told _ _ _ (c .answered4 .ensures)
-    ∙ teach-done _ _ _ (s .pre) (ordered o) _ _ (l .list-own .ensures .0) (l .list-own .ensures .1) _ (w .weigh-book .ensures) (l .before .before .if2 .left) (r .if3 .left) (f .if4 .left) _ (g .change-book .ensures)
+    told _ _ _ (c .answered5 .ensures)
+    ∙ teach-done _ _ _ (s .pre) (ordered o) _ _ (l .list-own .ensures .0) (l .list-own .ensures .1) _ (w .weigh-book .ensures) (l .before .before .before .if2 .left) (r .if3 .left) (f .if4 .left) _ (g .change-book .ensures)
 
 pub teach-order-spec : {M : Type 1} → statement M
 teach-order-spec =
     tie.close
     (tie.spec
-    check-requires
+    cause-into-requires
+    answered-requires
     returns
     slice-read-if2
-    answered-requires
+    answered-requires-2
     returns-2
     slice-aggregate-list-own
     list-own-requires
     slice-aggregate-weigh-book
     weigh-book-requires
-    answered-requires-2
+    answered-requires-3
     same-length
     returns-3
     sub-if4
-    answered-requires-3
+    answered-requires-4
     same-length-2
     returns-4
     slice-aggregate-change-book
     change-book-requires
-    answered-requires-4
+    answered-requires-5
     same-length-3
     returns-5)

@@ -1,41 +1,52 @@
 -- `teach::withdraw_order` meets its contract, by the tests that it makes in turn. Assumes nothing.
 use mathlib.Core.Path.{_≡_, refl, sym, _∙_}
 use borrow.Author.Needs.{needs}
+use lib.ListN.{length}
+use Rattle.figures.specs.Limits.{most-nodes}
 use Rattle.figures.specs.Numbers.{done}
 use Rattle.order.specs.Reading.{causeOf}
+use Rattle.order.specs.Levels.{LinesLevelled}
 use Rattle.book.specs.Holding.{Holds}
 use Rattle.own.specs.Own.{own-words}
 use Rattle.teach.proofs.Outcomes.{all-zeros, told, withdraw-refused, least, own-holds, withdraw-untaught, withdraw-ready, withdraw-disagrees, withdraw-done}
-use Rattle.order.proofs.Causes.{cause-told}
 use Rattle.teach.proofs.withdraw_order.Statement.{statement}
 use Rattle.teach.proofs.withdraw_order.Tie as tie
 
 -- Past the first test the words are an order.
 ordered : (c : tie.Else1) → causeOf (c .before .before .before .before .before .args .order .now) ≡ done
-ordered c = sym (cause-told _ _ (c .before .before .check .ensures)) ∙ c .if1 .left
+ordered c = sym (c .before .cause-into .ensures .0) ∙ c .if1 .left
+
+-- The levels of its lines are listed then.
+levelled : (c : tie.Else1) →
+    let levels = c .before .cause-into .last .1 .0 in
+    LinesLevelled (c .before .before .before .before .before .args .order .now) levels × (length levels ≡ most-nodes)
+levelled c = let a = c .before .cause-into in (a .ensures .1 .0 (ordered c), a .ensures .1 .1)
 
 -- Past the listing its own book stands in its slice.
-listed : (c : tie.After-list-own) → Holds (c .list-own .last .1 .1 .0) (c .list-own .result)
+listed : (c : tie.After-list-own) → Holds (c .list-own .last .1 .1 .1 .0) (c .list-own .result)
 listed c =
-    let o = c .before .before in
+    let o = c .before .before .before in
     own-holds _ _ _ (o .before .before .before .before .before .pre) (ordered o) _ _ (c .list-own .ensures .0) (c .list-own .ensures .1)
 
-check-requires : tie.Need-check-requires
-check-requires c κs = search needs
+cause-into-requires : tie.Need-cause-into-requires
+cause-into-requires c κs = search needs
+
+answered-requires : tie.Need-answered-requires
+answered-requires c κs = search needs
 
 returns : tie.Need-returns
 returns c =
-    let s = c .before .before .before .before .before in
-    withdraw-refused _ _ _ (s .pre) _ (c .before .before .check .ensures) (c .if1 .taken)
+    let s = c .before .before .before .before .before .before in
+    told _ _ _ (c .answered .ensures) ∙ withdraw-refused _ _ _ (s .pre) _ (c .before .before .cause-into .ensures .0) (c .before .if1 .taken)
 
 slice-aggregate-list-own : tie.Need-slice-aggregate-list-own
 slice-aggregate-list-own c = search needs
 
 list-own-requires : tie.Need-list-own-requires
 list-own-requires c κs =
-    let o = c .before in
+    let o = c .before .before in
     let s = o .before .before .before .before .before in
-    (least _ _ (s .pre), (ordered o, (all-zeros own-words, refl)))
+    (least _ _ (s .pre), (ordered o, (levelled o, (all-zeros own-words, refl))))
 
 slice-aggregate-weigh-section : tie.Need-slice-aggregate-weigh-section
 slice-aggregate-weigh-section c = search needs
@@ -43,10 +54,10 @@ slice-aggregate-weigh-section c = search needs
 weigh-section-requires : tie.Need-weigh-section-requires
 weigh-section-requires c κs =
     let l = c .before .before .before in
-    (l .before .before .before .before .before .before .before .pre, listed l)
+    (l .before .before .before .before .before .before .before .before .pre, listed l)
 
-answered-requires : tie.Need-answered-requires
-answered-requires c κs = search needs
+answered-requires-2 : tie.Need-answered-requires-2
+answered-requires-2 c κs = search needs
 
 same-length : tie.Need-same-length
 same-length c = search needs
@@ -55,9 +66,9 @@ returns-2 : tie.Need-returns-2
 returns-2 c =
     let w = c .before .before .before in
     let l = w .before .before .before .before in
-    let o = l .before .before in
+    let o = l .before .before .before in
     let s = o .before .before .before .before .before in
-    told _ _ _ (c .answered .ensures)
+    told _ _ _ (c .answered2 .ensures)
     ∙ withdraw-untaught _ _ _ (s .pre) (ordered o) _ _ (l .list-own .ensures .0) (l .list-own .ensures .1) _ (w .weigh-section .ensures) (c .before .if2 .taken)
 
 slice-aggregate-lacking-parts : tie.Need-slice-aggregate-lacking-parts
@@ -66,10 +77,10 @@ slice-aggregate-lacking-parts c = search needs
 lacking-parts-requires : tie.Need-lacking-parts-requires
 lacking-parts-requires c κs =
     let l = c .before .before .before .before .before .before .before .before in
-    (l .before .before .before .before .before .before .before .pre, listed l)
+    (l .before .before .before .before .before .before .before .before .pre, listed l)
 
-answered-requires-2 : tie.Need-answered-requires-2
-answered-requires-2 c κs = search needs
+answered-requires-3 : tie.Need-answered-requires-3
+answered-requires-3 c κs = search needs
 
 same-length-2 : tie.Need-same-length-2
 same-length-2 c = search needs
@@ -80,9 +91,9 @@ returns-3 c =
     let r = q .before .before .before in
     let w = r .before .before in
     let l = w .before .before .before .before in
-    let o = l .before .before in
+    let o = l .before .before .before in
     let s = o .before .before .before .before .before in
-    told _ _ _ (c .answered2 .ensures)
+    told _ _ _ (c .answered3 .ensures)
     ∙ withdraw-disagrees _ _ _ (s .pre) (ordered o) _ _ (l .list-own .ensures .0) (l .list-own .ensures .1) _ (w .weigh-section .ensures) (r .if2 .left) _ (q .lacking-parts .ensures) (c .before .if3 .taken)
 
 slice-aggregate-change-book : tie.Need-slice-aggregate-change-book
@@ -93,13 +104,13 @@ change-book-requires c κs =
     let r = c .before .before .before .before .before .before in
     let w = r .before .before in
     let l = w .before .before .before .before in
-    let o = l .before .before in
+    let o = l .before .before .before in
     let s = o .before .before .before .before .before in
     let ready = withdraw-ready _ _ _ (s .pre) (ordered o) _ _ (l .list-own .ensures .0) (l .list-own .ensures .1) _ (w .weigh-section .ensures) (r .if2 .left) in
     (s .pre, (listed l, ready))
 
-answered-requires-3 : tie.Need-answered-requires-3
-answered-requires-3 c κs = search needs
+answered-requires-4 : tie.Need-answered-requires-4
+answered-requires-4 c κs = search needs
 
 same-length-3 : tie.Need-same-length-3
 same-length-3 c = search needs
@@ -112,31 +123,32 @@ returns-4 c =
     let r = q .before .before .before in
     let w = r .before .before in
     let l = w .before .before .before .before in
-    let o = l .before .before in
+    let o = l .before .before .before in
     let s = o .before .before .before .before .before in
-    told _ _ _ (c .answered3 .ensures)
+    told _ _ _ (c .answered4 .ensures)
     ∙ withdraw-done _ _ _ (s .pre) (ordered o) _ _ (l .list-own .ensures .0) (l .list-own .ensures .1) _ (w .weigh-section .ensures) (r .if2 .left) _ (q .lacking-parts .ensures) (f .if3 .left) _ (g .change-book .ensures)
 
 pub withdraw-order-spec : {M : Type 1} → statement M
 withdraw-order-spec =
     tie.close
     (tie.spec
-    check-requires
+    cause-into-requires
+    answered-requires
     returns
     slice-aggregate-list-own
     list-own-requires
     slice-aggregate-weigh-section
     weigh-section-requires
-    answered-requires
+    answered-requires-2
     same-length
     returns-2
     slice-aggregate-lacking-parts
     lacking-parts-requires
-    answered-requires-2
+    answered-requires-3
     same-length-2
     returns-3
     slice-aggregate-change-book
     change-book-requires
-    answered-requires-3
+    answered-requires-4
     same-length-3
     returns-4)

@@ -1,0 +1,3 @@
+-- What the proofs of several functions use.
+pub mod ByLevels
+pub mod LinesPut
