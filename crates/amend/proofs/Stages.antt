@@ -5,15 +5,17 @@ use mathlib.Core.Bool.{true}
 use mathlib.Core.List.{List}
 use lib.ListN.{length}
 use Rattle.figures.specs.Limits.{head-words, most-book-words}
-use Rattle.book.specs.Book.{Book, used, lay, inForm}
+use Rattle.book.specs.Book.{Book, sectionOf, used, lay, inForm}
 use Rattle.book.specs.Decoding.{bookIn, placesOf, startOf}
 use Rattle.book.specs.Holding.{Holds}
 use Rattle.book.specs.declared.Section.{Section}
-use Rattle.book.specs.declared.Section.the-variants.{Tops, Lows, Middles}
+use Rattle.book.specs.declared.Section.the-variants.{Taught, Tops, Lows, Middles}
 use Rattle.book.specs.declared.Places.{Places}
 use Rattle.book.proofs.Meaning.{laid-read, lay-long, used-fits}
-use Rattle.amend.specs.Changing.{withSection, changedIn, Stands, Ready}
+use Rattle.amend.specs.Changing.{withSection, changedIn, Lacks, lackingEach, LacksEach, Stands, Ready}
 use Rattle.amend.specs.declared.Change.{Change}
+use Rattle.amend.specs.declared.Change.the-variants.{Teach, Withdraw}
+use Rattle.amend.specs.declared.Lacking.{Lacking}
 
 -- A book in form stands in words that are a slice of n.
 pub record Stage (n : ℕ) (b : Book) (ws : List ℕ) : Type 0 where
@@ -79,6 +81,11 @@ module _ (n : ℕ) (b : Book) (ws : List ℕ) (g : Stage n b ws) where
     pub next-used : (u : ℕ) → u ≡ used (changedIn c s own (bookIn ws)) → u ≡ used (changedIn c s own b)
     next-used u e = e ∙ rw (g .reads)
 
+  -- What a section of the book lacks, the same section lacks in the words.
+  pub stage-lacks : (c : Change) (s : Section) (own : Book) (l : ℕ) → Lacks c l (sectionOf s own) (sectionOf s b)
+      → Lacks c l (sectionOf s own) (sectionOf s (bookIn ws))
+  stage-lacks c s own l h = rw (g .reads) h
+
 -- ---- the sections before a changed one start where they did
 module _ (c : Change) (own b : Book) where
   -- Section L does once P is changed.
@@ -90,3 +97,32 @@ module _ (c : Change) (own b : Book) where
   pub tops-start : startOf Tops (placesOf (changedIn c Lows own (changedIn c Middles own b))) ≡ startOf Tops (placesOf b)
   unfolding placesOf changedIn withSection
   tops-start = refl
+
+-- ---- the sections before a changed one lack what they did
+
+-- Section P lacks what the book lacks of it.
+pub middles-lack : (c : Change) (l : Lacking) (own b : Book) → LacksEach c l own b → Lacks c (l .middles) (sectionOf Middles own) (sectionOf Middles b)
+unfolding lackingEach sectionOf
+middles-lack Teach l own b h = ap (λ (x : Lacking). x .middles) h
+middles-lack Withdraw l own b h = h
+
+-- Section L does once P is changed.
+pub lows-lack : (c : Change) (l : Lacking) (own b : Book) → LacksEach c l own b
+    → Lacks c (l .lows) (sectionOf Lows own) (sectionOf Lows (changedIn c Middles own b))
+unfolding lackingEach sectionOf changedIn withSection
+lows-lack Teach l own b h = ap (λ (x : Lacking). x .lows) h
+lows-lack Withdraw l own b h = h
+
+-- Section R does once L is changed too.
+pub tops-lack : (c : Change) (l : Lacking) (own b : Book) → LacksEach c l own b
+    → Lacks c (l .tops) (sectionOf Tops own) (sectionOf Tops (changedIn c Lows own (changedIn c Middles own b)))
+unfolding lackingEach sectionOf changedIn withSection
+tops-lack Teach l own b h = ap (λ (x : Lacking). x .tops) h
+tops-lack Withdraw l own b h = h
+
+-- Section T does once R is changed too.
+pub taught-lacks : (c : Change) (l : Lacking) (own b : Book) → LacksEach c l own b
+    → Lacks c (l .taught) (sectionOf Taught own) (sectionOf Taught (changedIn c Tops own (changedIn c Lows own (changedIn c Middles own b))))
+unfolding lackingEach sectionOf changedIn withSection
+taught-lacks Teach l own b h = ap (λ (x : Lacking). x .taught) h
+taught-lacks Withdraw l own b h = h

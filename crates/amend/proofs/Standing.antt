@@ -16,7 +16,7 @@ use Rattle.book.specs.Decoding.{bookIn, slotOf}
 use Rattle.book.specs.declared.Section.{Section}
 use Rattle.book.specs.declared.Section.the-variants.{Taught, Tops, Lows, Middles}
 use Rattle.book.proofs.Meaning.{form-proper, section-even, used-fits}
-use Rattle.amend.specs.Changing.{changed, withSection, changedIn, livesThen, LivesReady, Stands, Ready}
+use Rattle.amend.specs.Changing.{changed, withSection, changedIn, livesThen, LivesReady, Lacks, Stands, Ready}
 use Rattle.amend.specs.declared.Change.{Change}
 use Rattle.amend.proofs.Sections.{form-sorted, form-fitting, start-is, used-with, used-split, slot-read, live-laid, start-used, part-entries, part-span, part-laid, used-then, then-laid}
 
@@ -113,6 +113,11 @@ module _ (ws own : List ℕ) (c : Change) (s : Section) (at uses from ends : ℕ
       ap fitting (sym (section-with s entries-then (bookIn ws))) ∙ form-fitting (changedIn c s (bookIn own) (bookIn ws)) (r .form) s,
     ),
   )
+
+  -- What is lacking of the section is lacking of the entries that are read.
+  pub lacks-ready : (part other : List ℕ) → part ≡ drop at ws → other ≡ drop from own → (n : ℕ) → Lacks c n (sectionOf s (bookIn own)) (sectionOf s (bookIn ws))
+      → Lacks c n (entries (getD own word 0) other) (entries (getD ws word 0) part)
+  lacks-ready part other e f n l = rw (e, f, stand-entries ws s at uses h word slot, stand-entries own s from ends o word slot) l
 
   -- The words once the entries are changed.
   module _ (part other last : List ℕ) (size : Size) (e : part ≡ drop at ws) (f : other ≡ drop from own) (edit : Edited part (getD ws word 0) (uses - at) (changed c (entries (getD own word 0) other) (entries (getD ws word 0) part)) last size) where

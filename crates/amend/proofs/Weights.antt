@@ -19,7 +19,9 @@ use Rattle.book.specs.Holding.{Holds}
 use Rattle.book.specs.declared.Section.{Section}
 use Rattle.book.specs.declared.Section.the-variants.{Taught, Tops, Lows, Middles}
 use Rattle.book.specs.declared.Places.{Places}
-use Rattle.amend.specs.Changing.{weighedIn, lackingParts, lackingAll, overfullAny, weighedBook}
+use Rattle.amend.specs.Changing.{weighedIn, lackingParts, lackingAll, lackingEach, overfullAny, weighedBook}
+use Rattle.amend.specs.declared.Lacking.{Lacking}
+use Rattle.amend.specs.declared.BookWeighed.{BookWeighed}
 use Rattle.amend.proofs.Sections.{form-fitting, slot-small}
 
 -- The words are lent from `from` on.
@@ -85,6 +87,7 @@ parts-weighed own b r l p d e f = rw (d, e, f)
 -- What four sections lack, and whether a count of one of them would pass 65,535, is what the other book would do.
 pub book-weighed : (own b : Book) (t r l p : Weighed) → t ≡ weighedIn Taught own b → r ≡ weighedIn Tops own b → l ≡ weighedIn Lows own b → p ≡ weighedIn Middles own b
     → (x y z : Bool) → x ≡ (if l .overfull then true else p .overfull) → y ≡ (if r .overfull then true else x) → z ≡ (if t .overfull then true else y)
-    → _≡_ {A = Weighed} (record { lacking = t .lacking + (r .lacking + l .lacking + p .lacking); overfull = z }) (weighedBook own b)
-unfolding lackingAll lackingParts overfullAny sectionOf
+    → let each : Lacking = record { taught = t .lacking; tops = r .lacking; lows = l .lacking; middles = p .lacking } in
+    _≡_ {A = BookWeighed} (record { each = each; lacking = t .lacking + (r .lacking + l .lacking + p .lacking); overfull = z }) (weighedBook own b)
+unfolding lackingEach lackingAll lackingParts overfullAny sectionOf
 book-weighed own b t r l p c d e f x y z h i j = rw (j, i, h, c, d, e, f)

@@ -16,6 +16,8 @@ use Rattle.book.specs.declared.Section.{Section}
 use Rattle.book.specs.declared.Section.the-variants.{Taught, Tops, Lows, Middles}
 use Rattle.amend.specs.declared.Change.{Change}
 use Rattle.amend.specs.declared.Change.the-variants.{Teach, Withdraw}
+use Rattle.amend.specs.declared.Lacking.{Lacking}
+use Rattle.amend.specs.declared.BookWeighed.{BookWeighed}
 
 -- A section's entries, changed by those of another: teaching adds the other's counts, and withdrawing takes one for each of its keys.
 abbrev pub changed : Change → List Entry → List Entry → List Entry
@@ -52,6 +54,25 @@ LivesReady Withdraw Taught live more = more ≤ live
 LivesReady c Tops live more = Unit {0}
 LivesReady c Lows live more = Unit {0}
 LivesReady c Middles live more = Unit {0}
+
+-- A section that another's entries are added to lacks so many words of them; for taking them away any number will do.
+abbrev pub Lacks : Change → ℕ → List Entry → List Entry → Type 0
+Lacks Teach n os es = n ≡ lackingWords os es
+Lacks Withdraw n os es = Unit {0}
+
+-- How many words of each of another book's sections the book lacks.
+unfoldable pub lackingEach : Book → Book → Lacking
+lackingEach own b = record {
+  taught = lackingWords (own .T) (b .T);
+  tops = lackingWords (own .R) (b .R);
+  lows = lackingWords (own .L) (b .L);
+  middles = lackingWords (own .P) (b .P);
+}
+
+-- A book that another is added to lacks so many words of each section; for taking it away any numbers will do.
+abbrev pub LacksEach : Change → Lacking → Book → Book → Type 0
+LacksEach Teach l own b = l ≡ lackingEach own b
+LacksEach Withdraw l own b = Unit {0}
 
 -- The words are a book in form, one section of which starts at a word, and so many words are used.
 pub record Stands (ws : List ℕ) (s : Section) (at uses : ℕ) : Type 0 where
@@ -96,5 +117,5 @@ overfullAny own b =
     (if overfull (own .L) (b .L) then true else overfull (own .P) (b .P)))
 
 -- What another book would do to the book.
-abbrev pub weighedBook : Book → Book → Weighed
-weighedBook own b = record { lacking = lackingAll own b; overfull = overfullAny own b }
+abbrev pub weighedBook : Book → Book → BookWeighed
+weighedBook own b = record { each = lackingEach own b; lacking = lackingAll own b; overfull = overfullAny own b }

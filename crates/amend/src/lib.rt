@@ -7,10 +7,10 @@ ghost use lib.ListN.{length};
 ghost use Rattle.words.specs.Base.{if_then_else_};
 ghost use Rattle.section.specs.Entries.{sectionWords, entries, span, Sorted};
 ghost use Rattle.changes.specs.Editing.{fitting, Laid, Edited};
-ghost use Rattle.book.specs.Book.{used, lay};
+ghost use Rattle.book.specs.Book.{sectionOf, used, lay};
 ghost use Rattle.book.specs.Decoding.{bookIn};
 ghost use Rattle.book.specs.Holding.{Holds};
-ghost use Rattle.amend.specs.Changing.{changed, changedIn, changedBook, livesThen, LivesReady, Stands, Ready, ReadyAll, weighedIn, weighedBook, lackingParts};
+ghost use Rattle.amend.specs.Changing.{changed, changedIn, changedBook, livesThen, LivesReady, Lacks, LacksEach, Stands, Ready, ReadyAll, weighedIn, weighedBook, lackingParts};
 use book::Places;
 use book::Section;
 use changes::Size;
@@ -21,6 +21,22 @@ use figures::limits;
 pub enum Change {
     Teach,
     Withdraw,
+}
+
+// How many words the book lacks of each of the own book's sections.
+pub struct Lacking {
+    pub taught: usize,
+    pub tops: usize,
+    pub lows: usize,
+    pub middles: usize,
+}
+
+// What the own book would do to the book: how many words of its sections are lacking, of each and of all, and whether a count would pass
+// 65,535.
+pub struct BookWeighed {
+    pub each: Lacking,
+    pub lacking: usize,
+    pub overfull: bool,
 }
 
 // What a section of the own book would do to the same section of the book.
@@ -65,8 +81,8 @@ fn either(one: bool, other: bool) -> bool
     other
 }
 
-// What the own book would do to the book: how many words it lacks, and whether a count would pass 65,535.
-pub fn weigh_book(book: &[u16], places: Places, own: &[u16], owns: Places) -> Weighed
+// What the own book would do to the book.
+pub fn weigh_book(book: &[u16], places: Places, own: &[u16], owns: Places) -> BookWeighed
     requires { ⌜ Holds (now book) places ⌝ }
     requires { ⌜ Holds (now own) owns ⌝ }
     ensures { λ r. ⌜ r ≡ weighedBook (bookIn (now (own .entry))) (bookIn (now (book .entry))) ⌝ }
@@ -78,28 +94,38 @@ pub fn weigh_book(book: &[u16], places: Places, own: &[u16], owns: Places) -> We
     let lacking = taught.lacking + (tops.lacking + lows.lacking + middles.lacking);
     let parts = either(tops.overfull, either(lows.overfull, middles.overfull));
     let overfull = either(taught.overfull, parts);
-    Weighed { lacking, overfull }
+    let each = Lacking {
+        taught: taught.lacking,
+        tops: tops.lacking,
+        lows: lows.lacking,
+        middles: middles.lacking,
+    };
+    BookWeighed {
+        each,
+        lacking,
+        overfull,
+    }
 }
 
-// Changes the first `many` entries of a part of the book by the first `more` of the own book's part.
+// Changes the first `many` entries of a part of the book by the first `more` of the own book's part. If these are added, `lacking` says how
+// many of their words the part lacks.
 fn change_entries(
     part: &mut [u16],
     many: usize,
     used: usize,
     own: &[u16],
     more: usize,
+    lacking: usize,
     change: Change,
 ) -> Size
     requires { ⌜ Laid (now part) many used × Sorted (entries many (now part)) ⌝ }
     requires { ⌜ (span more (now own) ≤ length (now own)) × Sorted (entries more (now own)) ⌝ }
     requires { ⌜ (length (sectionWords (changed change (entries more (now own)) (entries many (now part)))) + (used - span many (now part)) ≤ length (now part)) × (fitting (changed change (entries more (now own)) (entries many (now part))) ≡ true) ⌝ }
+    requires { ⌜ Lacks change lacking (entries more (now own)) (entries many (now part)) ⌝ }
     ensures { λ r. ⌜ Edited (now (part .entry)) many used (changed change (entries more (now (own .entry))) (entries many (now (part .entry)))) (now (part .exit)) r ⌝ }
 {
     match change {
-        Change::Teach => {
-            let weighed = changes::weigh(part, many, own, more);
-            changes::add_all(part, many, used, own, more, weighed.lacking)
-        }
+        Change::Teach => changes::add_all(part, many, used, own, more, lacking),
         Change::Withdraw => changes::lower_all(part, many, used, own, more),
     }
 }
@@ -121,7 +147,7 @@ fn lives(change: Change, section: Section, live: u16, more: u16) -> u16
 }
 
 // Changes a section of the book, which starts at word `at`, by the same section of the own book, which starts there at word `from`, and
-// keeps the head right. Answers how many words are used then.
+// keeps the head right. If it is added, `lacking` says how many of its words the book lacks. Answers how many words are used then.
 fn change_section(
     book: &mut [u16],
     section: Section,
@@ -129,11 +155,13 @@ fn change_section(
     uses: usize,
     own: &[u16],
     from: usize,
+    lacking: usize,
     change: Change,
 ) -> usize
     requires { ⌜ Stands (now book) section at uses ⌝ }
     requires { ⌜ Stands (now own) section from (used (bookIn (now own))) ⌝ }
     requires { ⌜ Ready (length (now book)) change section (bookIn (now own)) (bookIn (now book)) ⌝ }
+    requires { ⌜ Lacks change lacking (sectionOf section (bookIn (now own))) (sectionOf section (bookIn (now book))) ⌝ }
     ensures came { λ r. ⌜ r ≡ used (changedIn change section (bookIn (now (own .entry))) (bookIn (now (book .entry)))) ⌝ }
     ensures wrote { λ _. ⌜ now (book .exit) ≡ lay (length (now (book .entry))) (changedIn change section (bookIn (now (own .entry))) (bookIn (now (book .entry)))) ⌝ }
 {
@@ -146,7 +174,15 @@ fn change_section(
         book[limits::LIVE_WORD],
         own[limits::LIVE_WORD],
     );
-    let size = change_entries(&mut book[at..], many, uses - at, &own[from..], more, change);
+    let size = change_entries(
+        &mut book[at..],
+        many,
+        uses - at,
+        &own[from..],
+        more,
+        lacking,
+        change,
+    );
     let end = at + size.used;
     book[limits::USED_WORD] = end as u16;
     book[limits::LIVE_WORD] = live;
@@ -154,11 +190,20 @@ fn change_section(
     end
 }
 
-// Changes the book by the own book, its last section first, so that the sections before it still start where they did.
-pub fn change_book(book: &mut [u16], places: Places, own: &[u16], owns: Places, change: Change)
+// Changes the book by the own book, its last section first, so that the sections before it still start where they did. If it is
+// added, `lacks` says how many words of each of its sections the book lacks.
+pub fn change_book(
+    book: &mut [u16],
+    places: Places,
+    own: &[u16],
+    owns: Places,
+    lacks: Lacking,
+    change: Change,
+)
     requires { ⌜ Holds (now book) places ⌝ }
     requires { ⌜ Holds (now own) owns ⌝ }
     requires { ⌜ ReadyAll (length (now book)) change (bookIn (now own)) (bookIn (now book)) ⌝ }
+    requires { ⌜ LacksEach change lacks (bookIn (now own)) (bookIn (now book)) ⌝ }
     ensures { λ _. ⌜ now (book .exit) ≡ lay (length (now (book .entry))) (changedBook change (bookIn (now (own .entry))) (bookIn (now (book .entry)))) ⌝ }
 {
     let p = change_section(
@@ -168,10 +213,29 @@ pub fn change_book(book: &mut [u16], places: Places, own: &[u16], owns: Places, 
         places.used,
         own,
         owns.middles,
+        lacks.middles,
         change,
     );
-    let l = change_section(book, Section::Lows, places.lows, p, own, owns.lows, change);
-    let r = change_section(book, Section::Tops, places.tops, l, own, owns.tops, change);
+    let l = change_section(
+        book,
+        Section::Lows,
+        places.lows,
+        p,
+        own,
+        owns.lows,
+        lacks.lows,
+        change,
+    );
+    let r = change_section(
+        book,
+        Section::Tops,
+        places.tops,
+        l,
+        own,
+        owns.tops,
+        lacks.tops,
+        change,
+    );
     let at = limits::HEAD_WORDS;
-    change_section(book, Section::Taught, at, r, own, at, change);
+    change_section(book, Section::Taught, at, r, own, at, lacks.taught, change);
 }

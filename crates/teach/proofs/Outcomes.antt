@@ -37,6 +37,7 @@ use Rattle.teach.specs.Calls.{onOrder, withinCounts, teachTree, teachOf,
 use Rattle.own.specs.Own.{own-words, ownBook, ownOf}
 use Rattle.amend.specs.Changing.{changedBook, ReadyAll, weighedIn, weighedBook, lackingParts, lackingAll, overfullAny}
 use Rattle.amend.specs.declared.Change.the-variants.{Teach, Withdraw}
+use Rattle.amend.specs.declared.BookWeighed.{BookWeighed}
 use Rattle.own.proofs.Owning.{own-short}
 use Rattle.teach.proofs.Adds.{taught-changed, withdrawn-changed, used-taught, within-taught, lives-pass, count-passes, has-own, has-no-own, has-own-parts, has-no-own-parts}
 use Rattle.amend.proofs.Sections.{form-sorted}
@@ -179,18 +180,18 @@ module _ (ws os : List ℕ) (p : Places) (H : Holds ws p) (e : causeOf os ≡ do
     own-read = ap bookIn wrote ∙ laid-read own-words (ownOf (p .k .k) os) own-formed ∙ own-listed
 
     -- ---- teaching
-    module _ (w : Weighed) (weighs : w ≡ weighedBook (bookIn own) (bookIn ws)) where
+    module _ (w : BookWeighed) (weighs : w ≡ weighedBook (bookIn own) (bookIn ws)) where
       -- It was weighed against the book.
       weighed : w ≡ weighedBook own-book (bookIn ws)
       weighed = weighs ∙ ap (λ (o : Book). weighedBook o (bookIn ws)) own-read
 
       -- Whether a count would pass.
       passing : w .overfull ≡ overfullAny own-book (bookIn ws)
-      passing = ap (λ (x : Weighed). x .overfull) weighed
+      passing = ap (λ (x : BookWeighed). x .overfull) weighed
 
       -- How many words are lacking.
       lacks : w .lacking ≡ lackingAll own-book (bookIn ws)
-      lacks = ap (λ (x : Weighed). x .lacking) weighed
+      lacks = ap (λ (x : BookWeighed). x .lacking) weighed
 
       -- The words used once the order is taught.
       used-then : used (taught 1 tree (bookIn ws)) ≡ p .used + w .lacking

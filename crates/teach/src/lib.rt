@@ -5,6 +5,7 @@ ghost use Rattle.book.specs.Holding.{Holds};
 ghost use Rattle.book.specs.Opening.{outcome};
 ghost use Rattle.teach.specs.Calls.{teachOf, withdrawOf};
 use amend::Change;
+use amend::Lacking;
 use book::BookForm;
 use book::Places;
 use book::Section;
@@ -35,7 +36,7 @@ fn teach_order(book: &mut [u16], places: Places, order: &[u16]) -> Answer
     if book.len() - places.used < weighed.lacking {
         return answered(numbers::NO_ROOM);
     }
-    amend::change_book(book, places, &own, owns, Change::Teach);
+    amend::change_book(book, places, &own, owns, weighed.each, Change::Teach);
     answered(numbers::DONE)
 }
 
@@ -58,7 +59,13 @@ fn withdraw_order(book: &mut [u16], places: Places, order: &[u16]) -> Answer
     if 0 < amend::lacking_parts(book, places, &own, owns) {
         return answered(numbers::NOT_AGREEING);
     }
-    amend::change_book(book, places, &own, owns, Change::Withdraw);
+    let unasked = Lacking {
+        taught: 0,
+        tops: 0,
+        lows: 0,
+        middles: 0,
+    };
+    amend::change_book(book, places, &own, owns, unasked, Change::Withdraw);
     answered(numbers::DONE)
 }
 

@@ -1,16 +1,13 @@
 -- `amend::change_entries` meets its contract. Assumes nothing.
 use Prim.Native.Nat.{ℕ, _+_, _≤_}
-use mathlib.Core.Path.{_≡_, sym, ap, subst}
+use mathlib.Core.Path.{_≡_, sym, subst}
 use mathlib.Core.Bool.{true}
 use mathlib.Core.List.{List}
-use native.Mathlib.Omega.{arith}
 use lib.ListN.{length}
 use borrow.Author.Needs.{needs}
 use Rattle.section.specs.Entries.{Entry, sectionWords, entries}
-use Rattle.changes.specs.Editing.{fitting, addAll, Edited}
-use Rattle.changes.specs.declared.Weighed.{Weighed}
-use Rattle.changes.proofs.Weighing.{fitting-other}
-use Rattle.amend.specs.Changing.{changed}
+use Rattle.changes.specs.Editing.{fitting, addAll, lackingWords, Edited}
+use Rattle.amend.specs.Changing.{changed, Lacks}
 use Rattle.amend.specs.declared.Change.{Change}
 use Rattle.amend.specs.declared.Change.the-variants.{Teach}
 use Rattle.amend.proofs.change_entries.Statement.{statement}
@@ -24,20 +21,15 @@ as-added : (c : Change) (os es : List Entry) (n m : ℕ) → c ≡ Teach → (le
     → (length (sectionWords (addAll os es)) + n ≤ m) × (fitting (addAll os es) ≡ true)
 as-added c os es n m e h = rw e at h
 
-weigh-requires : tie.Need-weigh-requires
-weigh-requires c κs =
-    let s = c .before .before .before .before .before in
-    let asked = as-added (s .args .change) _ _ _ _ (c .before .enum-told .given .1) (s .pre .1 .1) in
-    let part = s .pre .0 in
-    let own = s .pre .1 .0 in
-    ((omega (arith, part .0 .within, part .0 .room), part .1), (own .0, (own .1, fitting-other _ _ (own .1) (part .1) (asked .1))))
+-- What it lacks is what adding asks.
+as-lacking : (c : Change) (os es : List Entry) (n : ℕ) → c ≡ Teach → Lacks c n os es → n ≡ lackingWords os es
+as-lacking c os es n e h = rw e at h
 
 add-all-requires : tie.Need-add-all-requires
 add-all-requires c κs =
-    let w = c .before in
-    let s = w .before .before .before .before .before .before in
-    let asked = as-added (s .args .change) _ _ _ _ (w .before .before .enum-told .given .1) (s .pre .1 .1) in
-    (s .pre .0, (s .pre .1 .0, (asked, ap (λ (r : Weighed). r .lacking) (w .weigh .ensures))))
+    let s = c .before .before .before .before .before in
+    let e = c .before .enum-told .given .1 in
+    (s .pre .0, (s .pre .1 .0, (as-added (s .args .change) _ _ _ _ e (s .pre .1 .1 .0), as-lacking (s .args .change) _ _ _ e (s .pre .1 .1 .1))))
 
 enum-told-2 : tie.Need-enum-told-2
 enum-told-2 c = search needs
@@ -50,9 +42,9 @@ same-length c = search needs
 
 returns : tie.Need-returns
 returns c =
-    let s = c .before .before .before .before .before .before .before .before .before .before in
+    let s = c .before .before .before .before .before .before .before .before in
     let x = s .args in
-    subst (λ (d : Change). Edited (x .part .now) (x .many) (x .used) (changed d (entries (x .more) (x .own .now)) (entries (x .many) (x .part .now))) (c .before .before .add-all .last .0) (c .before .before .add-all .result)) (sym (c .before .before .before .before .before .before .enum-told .given .1)) (c .before .before .add-all .ensures)
+    subst (λ (d : Change). Edited (x .part .now) (x .many) (x .used) (changed d (entries (x .more) (x .own .now)) (entries (x .many) (x .part .now))) (c .before .before .add-all .last .0) (c .before .before .add-all .result)) (sym (c .before .before .before .before .enum-told .given .1)) (c .before .before .add-all .ensures)
 
 same-length-2 : tie.Need-same-length-2
 same-length-2 c = search needs
@@ -68,7 +60,6 @@ change-entries-spec =
     tie.close
     (tie.spec
     enum-told
-    weigh-requires
     add-all-requires
     enum-told-2
     lower-all-requires

@@ -9,7 +9,7 @@ use Rattle.book.specs.Book.{used}
 use Rattle.book.specs.Decoding.{bookIn}
 use Rattle.amend.specs.Changing.{changedIn}
 use Rattle.amend.proofs.Sections.{slot-small}
-use Rattle.amend.proofs.Standing.{stand-fits, stand-start, lives-ready, entries-ready, end-then, many-then, words-then}
+use Rattle.amend.proofs.Standing.{stand-fits, stand-start, lives-ready, entries-ready, lacks-ready, end-then, many-then, words-then}
 use Rattle.amend.proofs.change_section.Statement.{statement}
 use Rattle.amend.proofs.change_section.Tie as tie
 
@@ -64,7 +64,7 @@ ends z =
     let v = slotted (lived z) in
     let s = start v in
     let x = s .args in
-    end-then (x .book .now) (x .own .now) (x .change) (x .section) (x .at) (x .uses) (x .from) _ (s .pre .0) (s .pre .1 .0) (s .pre .1 .1) (v .slot .result) (v .slot .ensures) _ _ _ (z .change-entries .result) (lent s) (lent-own s) (z .change-entries .ensures)
+    end-then (x .book .now) (x .own .now) (x .change) (x .section) (x .at) (x .uses) (x .from) _ (s .pre .0) (s .pre .1 .0) (s .pre .1 .1 .0) (v .slot .result) (v .slot .ensures) _ _ _ (z .change-entries .result) (lent s) (lent-own s) (z .change-entries .ensures)
 
 -- They and the entries are few.
 few : (z : tie.After-change-entries) → let s = start (slotted (lived z)) in
@@ -74,8 +74,8 @@ few z =
     let s = start v in
     let x = s .args in
     let m =
-    many-then (x .book .now) (x .own .now) (x .change) (x .section) (x .at) (x .uses) (x .from) _ (s .pre .0) (s .pre .1 .0) (s .pre .1 .1) (v .slot .result) (v .slot .ensures) _ _ _ (z .change-entries .result) (lent s) (lent-own s) (z .change-entries .ensures) in
-    (omega (arith, ends z, s .pre .1 .1 .room), omega (arith, ends z, s .pre .1 .1 .room))
+    many-then (x .book .now) (x .own .now) (x .change) (x .section) (x .at) (x .uses) (x .from) _ (s .pre .0) (s .pre .1 .0) (s .pre .1 .1 .0) (v .slot .result) (v .slot .ensures) _ _ _ (z .change-entries .result) (lent s) (lent-own s) (z .change-entries .ensures) in
+    (omega (arith, ends z, s .pre .1 .1 .0 .room), omega (arith, ends z, s .pre .1 .1 .0 .room))
 
 slot-requires : tie.Need-slot-requires
 slot-requires c κs = search needs
@@ -109,7 +109,7 @@ lives-requires c κs =
     let v = c .before .before .before .before in
     let s = start v in
     let x = s .args in
-    lives-ready (x .book .now) (x .own .now) (x .change) (x .section) (x .at) (x .uses) (x .from) _ (s .pre .0) (s .pre .1 .0) (s .pre .1 .1) (v .slot .result) (v .slot .ensures)
+    lives-ready (x .book .now) (x .own .now) (x .change) (x .section) (x .at) (x .uses) (x .from) _ (s .pre .0) (s .pre .1 .0) (s .pre .1 .1 .0) (v .slot .result) (v .slot .ensures)
 
 mul-change-entries : tie.Need-mul-change-entries
 mul-change-entries c = let s = start (slotted c) in omega (arith, at-in s, s .pre .0 .short)
@@ -143,8 +143,11 @@ change-entries-requires c κs =
     let v = slotted (c .before .before) in
     let s = start v in
     let x = s .args in
-    let a = entries-ready (x .book .now) (x .own .now) (x .change) (x .section) (x .at) (x .uses) (x .from) _ (s .pre .0) (s .pre .1 .0) (s .pre .1 .1) (v .slot .result) (v .slot .ensures) (take (length (x .book .now) - x .at) (drop (x .at) (x .book .now))) (take (length (x .own .now) - x .from) (drop (x .from) (x .own .now))) (lent s) (lent-own s) in
-    (a .0, (a .1, a .2))
+    let part = take (length (x .book .now) - x .at) (drop (x .at) (x .book .now)) in
+    let own = take (length (x .own .now) - x .from) (drop (x .from) (x .own .now)) in
+    let a = entries-ready (x .book .now) (x .own .now) (x .change) (x .section) (x .at) (x .uses) (x .from) _ (s .pre .0) (s .pre .1 .0) (s .pre .1 .1 .0) (v .slot .result) (v .slot .ensures) part own (lent s) (lent-own s) in
+    let l = lacks-ready (x .book .now) (x .own .now) (x .change) (x .section) (x .at) (x .uses) (x .from) _ (s .pre .0) (s .pre .1 .0) (s .pre .1 .1 .0) (v .slot .result) (v .slot .ensures) part own (lent s) (lent-own s) (x .lacking) (s .pre .1 .1 .1) in
+    (a .0, (a .1, (a .2, l)))
 
 add-end : tie.Need-add-end
 add-end c =
@@ -191,7 +194,7 @@ returns c =
     let own = take (length (x .own .now) - x .from) (drop (x .from) (x .own .now)) in
     let part = take (length (x .book .now) - x .at) (drop (x .at) (x .book .now)) in (
       ends z,
-      words-then (x .book .now) (x .own .now) (x .change) (x .section) (x .at) (x .uses) (x .from) _ (s .pre .0) (s .pre .1 .0) (s .pre .1 .1) (v .slot .result) (v .slot .ensures) part own (z .change-entries .last .0) (z .change-entries .result) (lent s) (lent-own s) (z .change-entries .ensures) (lived z .lives .result) (lived z .lives .ensures),
+      words-then (x .book .now) (x .own .now) (x .change) (x .section) (x .at) (x .uses) (x .from) _ (s .pre .0) (s .pre .1 .0) (s .pre .1 .1 .0) (v .slot .result) (v .slot .ensures) part own (z .change-entries .last .0) (z .change-entries .result) (lent s) (lent-own s) (z .change-entries .ensures) (lived z .lives .result) (lived z .lives .ensures),
     )
 
 pub change-section-spec : {M : Type 1} → statement M

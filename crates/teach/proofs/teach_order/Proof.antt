@@ -1,5 +1,5 @@
 -- `teach::teach_order` meets its contract, by the tests that it makes in turn. Assumes nothing.
-use mathlib.Core.Path.{_≡_, refl, sym, _∙_}
+use mathlib.Core.Path.{_≡_, refl, sym, ap, _∙_}
 use borrow.Author.Needs.{needs}
 use lib.ListN.{length}
 use Rattle.figures.specs.Limits.{most-nodes}
@@ -8,6 +8,7 @@ use Rattle.order.specs.Reading.{causeOf}
 use Rattle.order.specs.Levels.{LinesLevelled}
 use Rattle.book.specs.Holding.{Holds}
 use Rattle.own.specs.Own.{own-words}
+use Rattle.amend.specs.declared.BookWeighed.{BookWeighed}
 use Rattle.teach.proofs.Outcomes.{all-zeros, told, teach-refused, used-room, least, teach-full, own-holds, teach-overfull, teach-crowded, teach-ready, teach-done}
 use Rattle.teach.proofs.teach_order.Statement.{statement}
 use Rattle.teach.proofs.teach_order.Tie as tie
@@ -114,7 +115,7 @@ change-book-requires c κs =
     let o = l .before .before .before .before .before in
     let s = o .before .before .before .before .before in
     let ready = teach-ready _ _ _ (s .pre) (ordered o) _ _ (l .list-own .ensures .0) (l .list-own .ensures .1) _ (w .weigh-book .ensures) (l .before .before .before .if2 .left) (r .if3 .left) (c .before .before .if4 .left) in
-    (s .pre, (listed l, ready))
+    (s .pre, (listed l, (ready, ap (λ (x : BookWeighed). x .each) (w .weigh-book .ensures))))
 
 answered-requires-5 : tie.Need-answered-requires-5
 answered-requires-5 c κs = search needs

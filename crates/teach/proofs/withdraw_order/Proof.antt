@@ -107,7 +107,7 @@ change-book-requires c κs =
     let o = l .before .before .before in
     let s = o .before .before .before .before .before in
     let ready = withdraw-ready _ _ _ (s .pre) (ordered o) _ _ (l .list-own .ensures .0) (l .list-own .ensures .1) _ (w .weigh-section .ensures) (r .if2 .left) in
-    (s .pre, (listed l, ready))
+    (s .pre, (listed l, (ready, tt)))
 
 answered-requires-4 : tie.Need-answered-requires-4
 answered-requires-4 c κs = search needs
