@@ -14,7 +14,7 @@ use Rattle.words.specs.Compare.{compareOf, _≺_}
 use Rattle.words.specs.declared.Compared.{Compared}
 use Rattle.words.specs.declared.Compared.the-variants.{Lower, Equal, Higher}
 use Rattle.words.proofs.Ordered.{compare-flip, compare-self, compare-equal}
-use Rattle.words.proofs.Tests.{and-left, and-right, and-both}
+use Rattle.words.proofs.Tests.{and-right}
 use Rattle.figures.specs.Limits.{greatest-count}
 use Rattle.section.specs.Entries.{Entry, sectionWords, has, countOf, Below, Sorted, add}
 use Rattle.changes.specs.Editing.{addAll, fitting, lackingWords, overfull}
@@ -120,15 +120,6 @@ fitting-add n x (e ∷ es) s = go (compareOf (e .key) x) refl (fitting-add n x e
     go Lower c ih = rw (c, count-lower-first e es x c, ih) (swap (leb (e .count) greatest-count) (leb (countOf x es + n) greatest-count) (fitting es))
     go Equal c ih = rw (c, entry-count x {es = e ∷ es} s (here refl) (compare-equal (e .key) x c)) (more (leb (e .count + n) greatest-count) refl)
     go Higher c ih = rw (c, below-absent x (e ∷ es) (compare-flip (e .key) x ∙ rw c) s, zero-add)
-
--- The other's counts fit if those of the sum do.
-pub fitting-other : (os es : List Entry) → Sorted os → Sorted es → fitting (addAll os es) ≡ true → fitting os ≡ true
-unfolding addAll fitting Sorted
-fitting-other [] es p s f = refl
-fitting-other (o ∷ os) es p s f =
-    let n = countOf (o .key) (addAll os es) + o .count in
-    let both : (leb n greatest-count and fitting (addAll os es)) ≡ true = sym (fitting-add (o .count) (o .key) (addAll os es) (sorted-add-all os es (p .2) s)) ∙ f in
-    and-both (le-leb (o .count) greatest-count (omega (arith, leb-true n greatest-count (and-left _ _ both)))) (fitting-other os es (p .2) s (and-right _ _ both))
 
 -- What an addition would give fits just if no count would pass.
 pub overfull-fitting : (os es : List Entry) → Sorted os → Sorted es → fitting es ≡ true → fitting (addAll os es) ≡ not (overfull os es)

@@ -12,15 +12,16 @@ use Rattle.words.specs.Base.{if_then_else_}
 use Rattle.figures.specs.Limits.{most-nodes, greatest-depth}
 use Rattle.figures.specs.Numbers.{done}
 use Rattle.order.specs.Trees.{Tree, node, Forest, words, depth, cut, subtrees}
-use Rattle.order.specs.Reading.{found, byOrder, causeOf}
+use Rattle.order.specs.Reading.{found, causeOf}
 use Rattle.order.specs.Walks.{walkOf, cutOf}
 use Rattle.order.specs.Levels.{LinesLevelled, levelsIn, treeLevels, rowLevels}
 use Rattle.order.specs.declared.Walked.the-variants.{Whole}
 use Rattle.order.proofs.Walks.{two}
 use Rattle.order.proofs.Orders.{size}
-use Rattle.order.proofs.Causes.{Passed, has-tree}
+use Rattle.order.proofs.Causes.{has-tree}
 use Rattle.order.proofs.Lines.{Spot, walk-spot, cut-spot}
 use Rattle.order.proofs.Spots.{two-words-a-line}
+use Rattle.order.proofs.Deep.{levels-of}
 use Rattle.order.proofs.SubtreeLevels.{levels-count, Above, Low, row-above, LineLevels, line-levels, deepest, row-deepest, level-within}
 use Rattle.order.proofs.SubtreeLevels.{lineKept, line-gone, keptWords, cut-by-levels}
 
@@ -33,17 +34,12 @@ pub record Known (os levels : List ℕ) (line : ℕ) : Type 0 where
   pub has : line < length os / 2
 
 module _ (os levels : List ℕ) (line : ℕ) (known : Known os levels line) where
-  -- They are those of its tree.
-  levels-of : (t : Tree) → Passed os t → levelsIn os ≡ treeLevels t 0
-  unfolding levelsIn byOrder
-  levels-of t p = rw (p .is)
-
   -- There is one for each line.
   pub levels-size : length (levelsIn os) ≡ length os / 2
   levels-size =
       let t = has-tree os (known .passes) .tree in
       let p = has-tree os (known .passes) .passes in
-      omega (arith, ap length (levels-of t p), levels-count t 0, two-words-a-line os t p)
+      omega (arith, ap length (levels-of os t (p .is)), levels-count t 0, two-words-a-line os t p)
 
   -- The level of a line is the one that is read.
   pub level-read : (i : ℕ) → i < length os / 2 → getD (levelsIn os) i 0 ≡ getD levels i 0
@@ -55,7 +51,7 @@ module _ (os levels : List ℕ) (line : ℕ) (known : Known os levels line) wher
       let t = has-tree os (known .passes) .tree in
       let p = has-tree os (known .passes) .passes in
       let n : i < length (subtrees t) = omega (arith, two-words-a-line os t p) in (
-        omega (arith, level-within t i n, p .deep, ap (λ (ls : List ℕ). getD ls i 0) (levels-of t p), level-read i h),
+        omega (arith, level-within t i n, p .deep, ap (λ (ls : List ℕ). getD ls i 0) (levels-of os t (p .is)), level-read i h),
         omega (arith, p .nodes),
       )
 
@@ -66,7 +62,7 @@ module _ (os levels : List ℕ) (line : ℕ) (known : Known os levels line) wher
       let p = has-tree os (known .passes) .passes in
       let q : LineLevels (words t ++ []) (treeLevels t 0 ++ []) i = line-levels t (p .good) 0 [] [] tt i (omega (arith, two-words-a-line os t p)) in
       subst (λ (ws : List ℕ). LineLevels ws (levelsIn os) i) (append-nil (words t) ∙ sym (p .spelt))
-      (subst (λ (ls : List ℕ). LineLevels (words t ++ []) ls i) (append-nil (treeLevels t 0) ∙ sym (levels-of t p)) q)
+      (subst (λ (ls : List ℕ). LineLevels (words t ++ []) ls i) (append-nil (treeLevels t 0) ∙ sym (levels-of os t (p .is))) q)
 
 -- ---- going over them
 
