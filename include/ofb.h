@@ -2,11 +2,14 @@
  * The book of built orders, for programs in C or in a language that calls C. The library behind it, libofb.a, is written in Rattle: each function
  * below is proved, for all that may be lent to it, to end, to read and write only what it is lent, and to answer as the rules say.
  * It keeps nothing between calls, asks for no memory, and needs of the C library no more than memcpy and memset. It is for x86-64. Of the stack
- * ofb_read_file takes some 65 KiB, ofb_check and ofb_write_file 33 KiB, ofb_teach and ofb_withdraw 18 KiB, and every other call at most 7 KiB.
+ * ofb_read_file takes some 66 KiB, ofb_check and ofb_write_file 34 KiB, ofb_teach and ofb_withdraw 24 KiB, and every other call at most 7 KiB.
  *
  * An order is a tree of options in preorder, two words for each: its code, 1 to 9999, and how many children it has, 0 to 8. It has at most 64 options, and
  * is at most 12 deep. A book is a slice of 7 to 16,384 words; ofb_open makes an empty one. Word 0 of a book is how deep it looks, k, word 1 how many of
  * its words it uses, word 2 how many teachings it holds.
+ *
+ * The top of an order is the order cut at depth k-2. Each of its lines stands for a part: its subtree, where that is at most k-2 deep, which is a low part;
+ * and otherwise its subtree cut at depth k-1, which is a middle part. A book that was opened, taught and withdrawn from has just those of its orders.
  *
  * What is lent, for a call: a pointer, aligned for what it points to, and how many words or bytes stand there. The parts of one call may not overlap. A
  * part of length 0 has a pointer too, to anything that is aligned, and not NULL. Calls on different books may run at the same time.
@@ -35,14 +38,14 @@ enum {
     OFB_TOO_MANY = 7,          /* the teachings held, or a count, would pass 65,535 */
     OFB_NOT_TAUGHT = 8,        /* the book does not hold this order */
     OFB_NOT_AGREEING = 9,      /* the book does not agree with itself, or, in withdrawing, lacks a part of the order */
-    OFB_NO_FORM = 10,          /* the text has a line that is misspelt, or none */
+    OFB_NO_FORM = 10,          /* the text has no bytes, or a line that is misspelt, has code 0000 or a level that may not stand there, or is a ninth child */
     OFB_SHORT_OUTPUT = 11,     /* the lent output is too short */
     OFB_NO_MARK = 12,          /* the file is under 5 bytes, or does not begin with OFB */
     OFB_OTHER_VERSION = 13,    /* the file's version is not 1 */
     OFB_NO_STORED_BOOK = 14,   /* what follows in the file is not the used words of a book in form */
-    OFB_TOP_UNKNOWN = 20,      /* the book holds no order that begins like this one */
-    OFB_LOW_UNKNOWN = 21,      /* the option on this line, with all that stands below it, is in no order that the book holds */
-    OFB_MIDDLE_UNKNOWN = 22    /* the option on this line, with what stands below it as deep as the book looks, is in no order that the book holds */
+    OFB_TOP_UNKNOWN = 20,      /* the order's top is not among the book's tops */
+    OFB_LOW_UNKNOWN = 21,      /* the part that this line stands for is not among the book's low parts */
+    OFB_MIDDLE_UNKNOWN = 22    /* the part that this line stands for is not among the book's middle parts */
 };
 
 /* An answer: its number; the line it speaks of, counted from 1, or 0; and how many words or bytes were written to an output that is not a book. */

@@ -1,5 +1,6 @@
-// A section of a book changed by the entries of another, both with ascending keys: each pass reads both once, and sweeps a gap through the
-// book, over which each word moves at most once. What the other would enter is weighed first; then it is added, or one less of each is taken.
+// A section of a book changed by the entries of another, both with ascending keys: each pass reads both once.
+// What the other would enter is weighed first; then it is added, or one less of each is taken. Adding opens a gap in front for all that is lacking, and
+// moves what it has passed down over it; taking moves what it has passed down over what it took out.
 // Assumes nothing beyond each function's `requires`.
 ghost use mathlib.Core.Path.{_≡_};
 ghost use mathlib.Core.Bool.{true};

@@ -1,5 +1,5 @@
-// Orders: trees as 16-bit words in a lent slice. The walk of a tree, whether words are an order, and whether one of a given depth; and the types
-// that cuts and parts are answered by. Assumes nothing.
+// Orders: trees as 16-bit words in a lent slice. The walk of a tree, the levels of an order's lines, whether words are an order, and whether
+// one of a given depth; and the types that cuts and parts are answered by. Assumes nothing.
 ghost use mathlib.Core.Path.{_≡_};
 ghost use Prim.Native.Nat.{suc, _+_, _-_, _*_, _/_, _^_, _≤_, _<_, max};
 ghost use lib.ListN.{length, take};
@@ -220,7 +220,7 @@ pub fn level_lines(order: &[u16], most: usize, levels: &mut [u8; limits::MOST_NO
     Levelled::Broken
 }
 
-// The number of words whose length is no cause, by a walk of their tree: 0, or 1, or 2.
+// What number words get whose length is no cause, by a walk of their tree: 0, 1 or 2.
 fn cause_by_walk(order: &[u16]) -> u16
     requires { ⌜ (0 < length (now order)) × (2 * (length (now order) / 2) ≡ length (now order)) × (length (now order) ≤ most-words) ⌝ }
     ensures { λ r. ⌜ r ≡ causeOf (now (order .entry)) ⌝ }

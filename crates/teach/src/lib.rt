@@ -59,6 +59,7 @@ fn withdraw_order(book: &mut [u16], places: Places, order: &[u16]) -> Answer
     if 0 < amend::lacking_parts(book, places, &own, owns) {
         return answered(numbers::NOT_AGREEING);
     }
+    // What the book lacks plays no part in withdrawing.
     let unasked = Lacking {
         taught: 0,
         tops: 0,
