@@ -16,10 +16,10 @@ use Rattle.section.proofs.Counts.{has-entry, entry-count, counts-has, lacks-cou
 use Rattle.section.proofs.Sorting.{same-counts}
 use Rattle.section.proofs.Sizes.{size-first, even-add}
 use Rattle.tally.specs.Tallying.{Few, sameCounts}
-use Rattle.order.specs.Trees.{Tree, words}
-use Rattle.order.specs.Reading.{Order, refused, order, byOrder, orderOf, causeOf}
-use Rattle.order.proofs.Orders.{size, some-lines}
-use Rattle.order.proofs.Fitting.{order-read}
+use Rattle.trees.specs.Trees.{Tree, words}
+use Rattle.trees.specs.Reading.{Order, refused, order, byOrder, orderOf, causeOf}
+use Rattle.trees.proofs.Orders.{size, some-lines}
+use Rattle.trees.proofs.Fitting.{order-read}
 use Rattle.book.specs.Book.{Book, sectionOf, used, live, inForm}
 use Rattle.book.specs.Taught.{addEach, bookOf}
 use Rattle.book.specs.declared.Section.{Section}
@@ -28,8 +28,8 @@ use Rattle.book.proofs.Sound.{form-sound, sound-section}
 use Rattle.book.proofs.Taught.{same-section, section-same, none-in}
 use Rattle.own.specs.Own.{ownBook, ownOf}
 use Rattle.amend.proofs.Sections.{form-sorted, used-split}
-use Rattle.teach.specs.Calls.{treesIn}
-use Rattle.teach.proofs.Adds.{own-section, own-sorted}
+use Rattle.effects.specs.Calls.{treesIn}
+use Rattle.effects.proofs.Adds.{own-section, own-sorted}
 use Rattle.effects.proofs.Agreeing.{form-orders, teachings-sorted}
 use Rattle.agree.specs.Tallies.{most-entries, partsIn, allKnown, talliedAll, agreeingIn}
 use Rattle.agree.proofs.Tallied.{countedIn, count-most, countsBy, counts-few, tallied-is, same-by, by-same, counted-known, known-counted}

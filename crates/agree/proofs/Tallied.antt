@@ -12,18 +12,18 @@ use Rattle.figures.specs.Limits.{greatest-depth}
 use Rattle.section.specs.Entries.{Entry, has, countOf, total, Sorted}
 use Rattle.section.proofs.Counts.{counts-own, counts-other, count-add, has-add, has-entry, entry-has}
 use Rattle.tally.specs.Tallying.{hasAll, tallied, sameCounts}
-use Rattle.order.specs.Trees.{Tree, words}
-use Rattle.order.specs.Reading.{byOrder}
-use Rattle.order.specs.Fits.{Fits}
-use Rattle.order.proofs.Fitting.{order-read, fits-order-of}
-use Rattle.order.proofs.Once.{NoRepeats}
+use Rattle.trees.specs.Trees.{Tree, words}
+use Rattle.trees.specs.Reading.{byOrder}
+use Rattle.trees.specs.Fits.{Fits}
+use Rattle.trees.proofs.Fitting.{order-read, fits-order-of}
+use Rattle.trees.proofs.Once.{NoRepeats}
 use Rattle.book.specs.Book.{Book, sectionOf}
 use Rattle.book.specs.Taught.{Teaching, addEach, taught, bookOf, teachingsIn}
 use Rattle.book.specs.declared.Section.{Section}
 use Rattle.book.proofs.Taught.{lacks-any, count-each, taught-k, none-in}
 use Rattle.own.specs.Own.{ownBook, ownOf}
-use Rattle.teach.specs.Calls.{treesIn}
-use Rattle.teach.proofs.Adds.{taught-section, own-section, trees-once, count-each-apart}
+use Rattle.effects.specs.Calls.{treesIn}
+use Rattle.effects.proofs.Adds.{taught-section, own-section, trees-once, count-each-apart}
 use Rattle.effects.proofs.Agreeing.{TaughtOrders, later-taught, first}
 use Rattle.agree.specs.Tallies.{partsIn, allKnown, talliedAll}
 

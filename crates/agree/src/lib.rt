@@ -8,7 +8,7 @@ ghost use Rattle.figures.specs.Limits.{least-k};
 ghost use Rattle.figures.specs.Numbers.{done};
 ghost use Rattle.section.specs.Entries.{width, firstEntry};
 ghost use Rattle.tally.specs.Tallying.{listed, Indexed, hasAll, tallied, Few};
-ghost use Rattle.order.specs.Reading.{causeOf};
+ghost use Rattle.trees.specs.Reading.{causeOf};
 ghost use Rattle.book.specs.Decoding.{bookIn};
 ghost use Rattle.book.specs.Holding.{Holds};
 ghost use Rattle.own.specs.Own.{list-words};

@@ -11,16 +11,16 @@ use Rattle.figures.specs.Limits.{most-words}
 use Rattle.figures.specs.Numbers.{done}
 use Rattle.figures.specs.Answers.{wrote, refusedAt}
 use Rattle.figures.specs.declared.Written.{Written}
-use Rattle.order.specs.Answers.{Writing, writing, write}
-use Rattle.order.proofs.Causes.{order-passed}
-use Rattle.order.proofs.Spots.{short-order}
+use Rattle.trees.specs.Answers.{Writing, writing, write}
+use Rattle.trees.proofs.Causes.{order-passed}
+use Rattle.trees.proofs.Spots.{short-order}
 use Rattle.form.specs.Text.{Line}
 use Rattle.form.specs.Reading.{Form, fault, form, byForm, formOf, wordsOf, readOf}
 use Rattle.form.proofs.FirstFault.{text-refused}
 use Rattle.form.proofs.Trips.{form-order, form-write, fault-write}
 use Rattle.book.specs.Opening.{outcome}
-use Rattle.judge.specs.Judging.{judgeOf}
-use Rattle.teach.specs.Calls.{teachOf, withdrawOf}
+use Rattle.verdicts.specs.Judging.{judgeOf}
+use Rattle.effects.specs.Calls.{teachOf, withdrawOf}
 use Rattle.sheet.specs.declared.Letter.{Letter}
 use Rattle.sheet.specs.declared.Letter.the-variants.{Teach, Withdraw, Judge}
 use Rattle.ask.specs.Asking.{askOf, callOf}

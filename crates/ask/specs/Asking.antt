@@ -3,8 +3,8 @@ use Prim.Native.Nat.{ℕ}
 use mathlib.Core.List.{List}
 use Rattle.form.specs.Reading.{byForm, formOf, wordsOf}
 use Rattle.book.specs.Opening.{Outcome, outcome}
-use Rattle.judge.specs.Judging.{judgeOf}
-use Rattle.teach.specs.Calls.{teachOf, withdrawOf}
+use Rattle.verdicts.specs.Judging.{judgeOf}
+use Rattle.effects.specs.Calls.{teachOf, withdrawOf}
 use Rattle.sheet.specs.Sheets.{Call}
 use Rattle.sheet.specs.declared.Letter.{Letter}
 use Rattle.sheet.specs.declared.Letter.the-variants.{Teach, Withdraw, Judge}

@@ -11,19 +11,19 @@ use lib.Seq.{drop-cons, drop-drop, getD-take, getD-drop}
 use Rattle.words.specs.Base.{if_then_else_}
 use Rattle.figures.specs.Limits.{most-nodes, greatest-depth}
 use Rattle.figures.specs.Numbers.{done}
-use Rattle.order.specs.Trees.{Tree, node, Forest, words, depth, cut, subtrees}
-use Rattle.order.specs.Reading.{found, causeOf}
-use Rattle.order.specs.Walks.{walkOf, cutOf}
-use Rattle.order.specs.Levels.{LinesLevelled, levelsIn, treeLevels, rowLevels}
-use Rattle.order.specs.declared.Walked.the-variants.{Whole}
-use Rattle.order.proofs.Walks.{two}
-use Rattle.order.proofs.Orders.{size}
-use Rattle.order.proofs.Causes.{has-tree}
-use Rattle.order.proofs.Lines.{Spot, walk-spot, cut-spot}
-use Rattle.order.proofs.Spots.{two-words-a-line}
-use Rattle.order.proofs.Deep.{levels-of}
-use Rattle.order.proofs.SubtreeLevels.{levels-count, Above, Low, row-above, LineLevels, line-levels, deepest, row-deepest, level-within}
-use Rattle.order.proofs.SubtreeLevels.{lineKept, line-gone, keptWords, cut-by-levels}
+use Rattle.trees.specs.Trees.{Tree, node, Forest, words, depth, cut, subtrees}
+use Rattle.trees.specs.Reading.{found, causeOf}
+use Rattle.trees.specs.Walks.{walkOf, cutOf}
+use Rattle.trees.specs.Levels.{LinesLevelled, levelsIn, treeLevels, rowLevels}
+use Rattle.trees.specs.declared.Walked.the-variants.{Whole}
+use Rattle.trees.proofs.Walks.{two}
+use Rattle.trees.proofs.Orders.{size}
+use Rattle.trees.proofs.Causes.{has-tree}
+use Rattle.trees.proofs.Lines.{Spot, walk-spot, cut-spot}
+use Rattle.trees.proofs.Spots.{two-words-a-line}
+use Rattle.trees.proofs.Deep.{levels-of}
+use Rattle.trees.proofs.SubtreeLevels.{levels-count, Above, Low, row-above, LineLevels, line-levels, deepest, row-deepest, level-within}
+use Rattle.trees.proofs.SubtreeLevels.{lineKept, line-gone, keptWords, cut-by-levels}
 
 -- ---- the levels of an order
 

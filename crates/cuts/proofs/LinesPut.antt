@@ -7,13 +7,13 @@ use lib.Dec.{leb}
 use lib.ListN.{length, drop, getD, set, length-append, length-drop, length-set}
 use lib.Seq.{set-at}
 use Rattle.words.specs.Base.{if_then_else_, over}
-use Rattle.order.specs.Walks.{walkOf, cutOf, Room, laidOf}
-use Rattle.order.specs.Levels.{levelsIn}
-use Rattle.order.specs.declared.Walked.{Walked}
-use Rattle.order.specs.declared.Walked.the-variants.{Whole}
-use Rattle.order.proofs.Walks.{two}
-use Rattle.order.proofs.Cuts.{set-two}
-use Rattle.order.proofs.SubtreeLevels.{lineKept, line-gone, keptWords}
+use Rattle.trees.specs.Walks.{walkOf, cutOf, Room, laidOf}
+use Rattle.trees.specs.Levels.{levelsIn}
+use Rattle.trees.specs.declared.Walked.{Walked}
+use Rattle.trees.specs.declared.Walked.the-variants.{Whole}
+use Rattle.trees.proofs.Walks.{two}
+use Rattle.trees.proofs.Cuts.{set-two}
+use Rattle.trees.proofs.SubtreeLevels.{lineKept, line-gone, keptWords}
 use Rattle.cuts.proofs.ByLevels.{Known, Going, start, read-all, read-low, read-deeper, line-within}
 
 -- Two words written behind others.

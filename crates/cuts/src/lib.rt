@@ -7,18 +7,18 @@ ghost use lib.Dec.{leb};
 ghost use Rattle.words.specs.Base.{over, if_then_else_};
 ghost use Rattle.figures.specs.Limits.{most-nodes};
 ghost use Rattle.figures.specs.Numbers.{done};
-ghost use Rattle.order.specs.Reading.{causeOf};
-ghost use Rattle.order.specs.Levels.{LinesLevelled};
-ghost use Rattle.order.specs.Walks.{walkOf, Room, cutOf, endOf, laidOf, placeOf};
-ghost use Rattle.order.specs.Answers.{subtreeOf, writing, write, cutIntoOf};
+ghost use Rattle.trees.specs.Reading.{causeOf};
+ghost use Rattle.trees.specs.Levels.{LinesLevelled};
+ghost use Rattle.trees.specs.Walks.{walkOf, Room, cutOf, endOf, laidOf, placeOf};
+ghost use Rattle.trees.specs.Answers.{subtreeOf, writing, write, cutIntoOf};
 use figures::Written;
 use figures::limits;
 use figures::numbers;
 use figures::wrote;
-use order::Laid;
-use order::Place;
-use order::Walked;
 use order::walk;
+use trees::Laid;
+use trees::Place;
+use trees::Walked;
 
 // Where a line of an order stands; and the levels of the order's lines, at the front of `levels`.
 pub fn find_line(order: &[u16], line: usize, levels: &mut [u8; limits::MOST_NODES]) -> Place

@@ -16,21 +16,21 @@ use Rattle.section.specs.Entries.{Entry, counted, has, countOf, Sorted, byCompa
 use Rattle.section.proofs.Counts.{count-add, counts-sum}
 use Rattle.section.proofs.Sorting.{same-counts, add-lower}
 use Rattle.changes.proofs.Adding.{add-below}
-use Rattle.order.specs.Trees.{Tree, words}
-use Rattle.order.specs.Reading.{byFound, found, treeOf}
-use Rattle.order.specs.Fits.{Fits}
-use Rattle.order.proofs.Orders.{words-read}
-use Rattle.order.proofs.Fitting.{fits-order-of}
+use Rattle.trees.specs.Trees.{Tree, words}
+use Rattle.trees.specs.Reading.{byFound, found, treeOf}
+use Rattle.trees.specs.Fits.{Fits}
+use Rattle.trees.proofs.Orders.{words-read}
+use Rattle.trees.proofs.Fitting.{fits-order-of}
 use Rattle.book.specs.Book.{Book, sectionOf, inForm}
 use Rattle.book.specs.Taught.{Teaching, addEach, taught, bookOf, teachingsIn, agreeing}
 use Rattle.book.specs.declared.Section.{Section}
 use Rattle.book.specs.declared.Section.the-variants.{Taught}
 use Rattle.book.proofs.Sound.{form-sound}
 use Rattle.book.proofs.Taught.{taught-k, taught-sorted, sorted-each, same-section, section-same}
-use Rattle.teach.specs.Calls.{withdrawn, hasParts, treesIn}
-use Rattle.teach.proofs.Adds.{each-section, same-books, taught-section, count-each-apart}
+use Rattle.effects.specs.Calls.{withdrawn, hasParts, treesIn}
+use Rattle.effects.proofs.Adds.{each-section, same-books, taught-section, count-each-apart}
 use Rattle.amend.proofs.Sections.{form-sorted}
-use Rattle.teach.proofs.Formed.{withdrawn-keeps-form}
+use Rattle.effects.proofs.Formed.{withdrawn-keeps-form}
 use Rattle.effects.proofs.Undoing.{undo, commute}
 use Rattle.effects.proofs.Counted.{taught-parts}
 

@@ -11,10 +11,10 @@ use Rattle.words.specs.Base.{if_then_else_}
 use Rattle.figures.specs.Limits.{greatest-depth}
 use Rattle.figures.specs.Numbers.{done, book-size, not-in-form, no-room, too-many, not-taught, not-agreeing}
 use Rattle.section.specs.Entries.{Sorted, has}
-use Rattle.order.specs.Trees.{Tree, words}
-use Rattle.order.specs.Fits.{Fits}
-use Rattle.order.specs.Reading.{order, byOrder, orderOf, causeOf}
-use Rattle.order.proofs.Causes.{cause-is, Seen, seen, stopped, passed, order-passed}
+use Rattle.trees.specs.Trees.{Tree, words}
+use Rattle.trees.specs.Fits.{Fits}
+use Rattle.trees.specs.Reading.{order, byOrder, orderOf, causeOf}
+use Rattle.trees.proofs.Causes.{cause-is, Seen, seen, stopped, passed, order-passed}
 use Rattle.book.specs.Book.{Book, sectionOf, used, lay, inForm}
 use Rattle.book.specs.Decoding.{bookIn, formed, byBook, sized, onBook, placesOf}
 use Rattle.book.specs.Holding.{Holds}
@@ -25,10 +25,10 @@ use Rattle.book.proofs.Meaning.{decoded, read-back, lay-long}
 use Rattle.book.proofs.Heads.{on-unsized, on-unformed, form-formed}
 use Rattle.book.proofs.Holding.{holds}
 use Rattle.book.proofs.Sound.{held-book}
-use Rattle.teach.specs.Calls.{onOrder, withinCounts, teachTree, teachOf, withdrawn, hasParts, withdrawTree, withdrawOf}
+use Rattle.effects.specs.Calls.{onOrder, withinCounts, teachTree, teachOf, withdrawn, hasParts, withdrawTree, withdrawOf}
 use Rattle.amend.proofs.Sections.{form-sorted}
-use Rattle.teach.proofs.Formed.{passed-fits}
-use Rattle.teach.proofs.Outcomes.{by-cause}
+use Rattle.effects.proofs.Formed.{passed-fits}
+use Rattle.effects.proofs.Outcomes.{by-cause}
 use Rattle.effects.specs.Conditions.{BookAndOrder}
 
 -- ---- outcomes

@@ -10,14 +10,14 @@ use lib.ListN.{length}
 use Rattle.words.proofs.Tests.{no-test}
 use Rattle.figures.specs.Numbers.{done, no-room, too-many, not-taught, not-agreeing}
 use Rattle.section.specs.Entries.{has}
-use Rattle.order.specs.Trees.{Tree, words}
+use Rattle.trees.specs.Trees.{Tree, words}
 use Rattle.book.specs.Book.{Book, used, lay, inForm}
 use Rattle.book.specs.Decoding.{decode}
 use Rattle.book.specs.Taught.{taught}
 use Rattle.book.specs.Opening.{Outcome, leave, writeBook}
 use Rattle.book.proofs.Meaning.{read-back}
-use Rattle.teach.specs.Calls.{teachOf, withdrawn, withdrawOf}
-use Rattle.teach.proofs.Formed.{taught-keeps-form, withdrawn-keeps-form}
+use Rattle.effects.specs.Calls.{teachOf, withdrawn, withdrawOf}
+use Rattle.effects.proofs.Formed.{taught-keeps-form, withdrawn-keeps-form}
 use Rattle.effects.specs.Conditions.{_exactly-when_, BookAndOrder, WouldPass, PartMissing}
 use Rattle.effects.proofs.Calling.{number-is, one-number, words-are, Met, met, refuses, goes, its-form, its-limits, TeachCase, passing, crowded, teaches, teach-case, WithdrawCase, untaught, lacks, withdraws, withdraw-case}
 use Rattle.effects.proofs.Reasons.{within-none, not-within, fails-missing, passes-none}

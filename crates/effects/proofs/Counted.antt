@@ -8,15 +8,15 @@ use Rattle.words.specs.Base.{_∈_}
 use Rattle.words.proofs.Tests.{and-both}
 use Rattle.section.specs.Entries.{has, countOf, Sorted}
 use Rattle.section.proofs.Counts.{counts-has}
-use Rattle.order.specs.Trees.{Tree, words}
-use Rattle.order.specs.Parts.{top, lowParts, middleParts}
+use Rattle.trees.specs.Trees.{Tree, words}
+use Rattle.trees.specs.Parts.{top, lowParts, middleParts}
 use Rattle.book.specs.Book.{Book, sectionOf, used}
 use Rattle.book.specs.Taught.{taught}
 use Rattle.book.specs.declared.Section.{Section}
 use Rattle.book.specs.declared.Section.the-variants.{Taught, Tops, Lows, Middles}
 use Rattle.book.proofs.Taught.{sorted-each}
-use Rattle.teach.specs.Calls.{hasParts, treesIn}
-use Rattle.teach.proofs.Adds.{taught-section, each-has, used-taught}
+use Rattle.effects.specs.Calls.{hasParts, treesIn}
+use Rattle.effects.proofs.Adds.{taught-section, each-has, used-taught}
 use Rattle.effects.proofs.Undoing.{times-counted, count-after-taught}
 
 module _ (t : Tree) (b : Book) (sorted : (s : Section) → Sorted (sectionOf s b)) where

@@ -1,4 +1,7 @@
--- The laws of the crate: those that readers meet are in Conditions, Whys, Sequences, Agreeing, Undoing and Rows.
+-- The laws of the crate: those that readers meet are in Conditions, Whys, Sequences, Agreeing and Undoing; the proofs of teaching and withdrawing cite Outcomes.
+pub mod Adds
+pub mod Formed
+pub mod Outcomes
 pub mod Calling
 pub mod Counted
 pub mod Reasons

@@ -14,19 +14,19 @@ use Rattle.section.proofs.Counts.{has-entry, entry-count, lacks-counts}
 use Rattle.changes.specs.Editing.{fitting}
 use Rattle.changes.proofs.Adding.{fitting-entry}
 use Rattle.changes.proofs.Weighing.{fitting-add}
-use Rattle.order.specs.Trees.{Tree, words}
-use Rattle.order.specs.Parts.{top, lowParts, middleParts}
-use Rattle.order.proofs.Once.{NoRepeats}
+use Rattle.trees.specs.Trees.{Tree, words}
+use Rattle.trees.specs.Parts.{top, lowParts, middleParts}
+use Rattle.trees.proofs.Once.{NoRepeats}
 use Rattle.book.specs.Book.{Book, sectionOf, live, inForm}
 use Rattle.book.specs.Taught.{addEach, taught}
 use Rattle.book.specs.declared.Section.{Section}
 use Rattle.book.specs.declared.Section.the-variants.{Taught, Tops, Lows, Middles}
 use Rattle.book.proofs.Sound.{form-sound}
 use Rattle.book.proofs.Taught.{lacks-any, count-each, sorted-each}
-use Rattle.teach.specs.Calls.{withinCounts, hasEach, hasParts, treesIn}
-use Rattle.teach.proofs.Adds.{taught-section, trees-once, live-taught, has-each}
+use Rattle.effects.specs.Calls.{withinCounts, hasEach, hasParts, treesIn}
+use Rattle.effects.proofs.Adds.{taught-section, trees-once, live-taught, has-each}
 use Rattle.amend.proofs.Sections.{form-sorted, form-fitting}
-use Rattle.teach.proofs.Formed.{within-fits}
+use Rattle.effects.proofs.Formed.{within-fits}
 use Rattle.effects.proofs.Undoing.{times-counted, count-after-taught}
 use Rattle.effects.specs.Conditions.{WouldPass, lives, touched, PartMissing, from-tops, from-lows, from-middles}
 use Rattle.effects.proofs.Counted.{after-sorted}

@@ -11,19 +11,19 @@ use Rattle.figures.specs.Limits.{greatest-depth, greatest-count}
 use Rattle.figures.specs.Numbers.{done, not-agreeing}
 use Rattle.figures.specs.Answers.{answered}
 use Rattle.section.specs.Entries.{has, countOf}
-use Rattle.order.specs.Trees.{Tree, words}
-use Rattle.order.specs.Fits.{Fits}
-use Rattle.order.specs.Reading.{orderOf, order}
+use Rattle.trees.specs.Trees.{Tree, words}
+use Rattle.trees.specs.Fits.{Fits}
+use Rattle.trees.specs.Reading.{orderOf, order}
 use Rattle.book.specs.Book.{Book, sectionOf, used, lay, inForm}
 use Rattle.book.specs.Decoding.{decode}
 use Rattle.book.specs.Taught.{taught, agreeing}
 use Rattle.book.specs.Opening.{outcome, leave, writeBook}
 use Rattle.book.proofs.Meaning.{decoded, lay-long}
 use Rattle.book.proofs.Sound.{form-sound}
-use Rattle.teach.specs.Calls.{withinCounts, teachOf, withdrawn, withdrawOf}
-use Rattle.teach.proofs.Adds.{live-taught}
+use Rattle.effects.specs.Calls.{withinCounts, teachOf, withdrawn, withdrawOf}
+use Rattle.effects.proofs.Adds.{live-taught}
 use Rattle.amend.proofs.Sections.{form-sorted, form-fitting}
-use Rattle.teach.proofs.Formed.{taught-keeps-form}
+use Rattle.effects.proofs.Formed.{taught-keeps-form}
 use Rattle.effects.proofs.Undoing.{undo, commute, count-after-taught}
 use Rattle.effects.specs.Conditions.{BookAndOrder, WouldPass, lives, touched}
 use Rattle.effects.proofs.Calling.{number-is, one-number, words-are, Met, met, refuses, goes, its-words, its-form, its-limits, its-sorted, written-met, TeachCase, passing, crowded, teaches, teach-does, withdraw-does, teach-case, WithdrawCase, untaught, lacks, withdraws, withdraw-case}

@@ -5,15 +5,15 @@ use mathlib.Core.Path.{_≡_, refl, sym, ap, _∙_}
 use mathlib.Core.List.{List, []}
 use native.Mathlib.Omega.{arith}
 use Rattle.words.specs.Base.{if_then_else_, _∈_}
-use Rattle.order.specs.Trees.{Tree, words}
+use Rattle.trees.specs.Trees.{Tree, words}
 use Rattle.section.specs.Entries.{Entry, countOf, Sorted}
 use Rattle.section.proofs.Sorting.{same-counts}
 use Rattle.book.specs.Book.{Book, sectionOf}
 use Rattle.book.specs.Taught.{addEach, taught}
 use Rattle.book.specs.declared.Section.{Section}
 use Rattle.book.proofs.Taught.{in-any, lacks-any, count-each, sorted-each}
-use Rattle.teach.specs.Calls.{lowerEach, withdrawn, treesIn, timesIn}
-use Rattle.teach.proofs.Adds.{same-books, taught-section, withdrawn-section, trees-once, count-each-apart, sorted-lower-each, count-lower-each}
+use Rattle.effects.specs.Calls.{lowerEach, withdrawn, treesIn, timesIn}
+use Rattle.effects.proofs.Adds.{same-books, taught-section, withdrawn-section, trees-once, count-each-apart, sorted-lower-each, count-lower-each}
 
 -- ---- undone, and in any order
 

@@ -6,12 +6,12 @@ use mathlib.Core.List.{List}
 use native.Mathlib.Omega.{arith}
 use Rattle.figures.specs.Numbers.{done, book-size, not-in-form}
 use Rattle.figures.specs.Answers.{answered}
-use Rattle.order.specs.Trees.{Tree}
-use Rattle.order.specs.Reading.{causeOf}
-use Rattle.order.specs.Causes.{Cause}
-use Rattle.order.specs.Fits.{IsOrder}
-use Rattle.order.proofs.Causes.{cause-is, Seen, stopped, passed, seen}
-use Rattle.order.proofs.Fitting.{passed-order, order-read}
+use Rattle.trees.specs.Trees.{Tree}
+use Rattle.trees.specs.Reading.{causeOf}
+use Rattle.trees.specs.Causes.{Cause}
+use Rattle.trees.specs.Fits.{IsOrder}
+use Rattle.trees.proofs.Causes.{cause-is, Seen, stopped, passed, seen}
+use Rattle.trees.proofs.Fitting.{passed-order, order-read}
 use Rattle.book.specs.Book.{Book}
 use Rattle.book.specs.Decoding.{bookFormOf}
 use Rattle.book.specs.Sound.{IsBook, WhyForm, shorter, longer, formless, book}
@@ -20,8 +20,8 @@ use Rattle.book.specs.Opening.{Outcome, outcome, leave}
 use Rattle.book.specs.declared.BookForm.the-variants.{Refused}
 use Rattle.book.proofs.Heads.{is-sized}
 use Rattle.book.proofs.Sound.{sound-form, book-decode, why-is, why-only}
-use Rattle.teach.specs.Calls.{onOrder, teachTree, teachOf, withdrawTree, withdrawOf}
-use Rattle.teach.proofs.Outcomes.{unheld, by-cause}
+use Rattle.effects.specs.Calls.{onOrder, teachTree, teachOf, withdrawTree, withdrawOf}
+use Rattle.effects.proofs.Outcomes.{unheld, by-cause}
 use Rattle.effects.specs.Conditions.{BookAndOrder}
 use Rattle.effects.specs.Whys.{WhyTaught, teach-no-book, teach-no-order, would-pass, needs-more, book-taught, WhyWithdrawn, withdraw-no-book, withdraw-no-order, no-entry, part-missing, book-withdrawn}
 use Rattle.effects.proofs.Calling.{TeachCase, passing, crowded, teaches, teach-case, WithdrawCase, untaught, lacks, withdraws, withdraw-case}

@@ -8,13 +8,13 @@ use mathlib.Core.Option.{some}
 use Rattle.words.specs.Base.{_∈_}
 use Rattle.figures.specs.Limits.{greatest-count}
 use Rattle.section.specs.Entries.{has, countOf}
-use Rattle.order.specs.Trees.{Tree, words}
-use Rattle.order.specs.Reading.{orderOf, order}
-use Rattle.order.specs.Parts.{top, lowParts, middleParts}
+use Rattle.trees.specs.Trees.{Tree, words}
+use Rattle.trees.specs.Reading.{orderOf, order}
+use Rattle.trees.specs.Parts.{top, lowParts, middleParts}
 use Rattle.book.specs.Book.{Book, sectionOf, live}
 use Rattle.book.specs.Decoding.{sized, decode}
 use Rattle.book.specs.declared.Section.{Section}
-use Rattle.teach.specs.Calls.{treesIn}
+use Rattle.effects.specs.Calls.{treesIn}
 
 infix 1 _exactly-when_
 -- "Given exactly when": each follows from the other.

@@ -7,15 +7,15 @@ use mathlib.Core.List.{List}
 use lib.ListN.{length}
 use Rattle.figures.specs.Numbers.{done, no-room, too-many, not-taught, not-agreeing}
 use Rattle.section.specs.Entries.{has}
-use Rattle.order.specs.Trees.{Tree, words}
-use Rattle.order.specs.Causes.{Cause}
-use Rattle.order.specs.Fits.{IsOrder}
+use Rattle.trees.specs.Trees.{Tree, words}
+use Rattle.trees.specs.Causes.{Cause}
+use Rattle.trees.specs.Fits.{IsOrder}
 use Rattle.book.specs.Book.{Book, used}
 use Rattle.book.specs.Sound.{IsBook, WhyForm}
 use Rattle.book.specs.Taught.{taught}
 use Rattle.book.specs.Opening.{Outcome, leave, writeBook}
 use Rattle.book.specs.declared.BookForm.the-variants.{Refused}
-use Rattle.teach.specs.Calls.{withdrawn}
+use Rattle.effects.specs.Calls.{withdrawn}
 use Rattle.effects.specs.Conditions.{WouldPass, PartMissing}
 
 -- Why teaching answers and leaves the words as o has them: "Teach: 4, 5, 1, 2, 7, 6."

@@ -1,1 +1,1 @@
-// What teaching and withdrawing do to a book, as laws on the definitions of `teach`; no code. Assumes nothing.
+// What teaching and withdrawing answer and do to a book, as definitions and laws; no code. Assumes nothing.

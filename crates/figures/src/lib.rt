@@ -4,6 +4,7 @@ ghost use Rattle.figures.specs.Answers.{answered, refusedAt, wrote};
 
 mod depths;
 pub mod limits;
+pub mod nodes;
 pub mod numbers;
 
 pub use depths::Asked;

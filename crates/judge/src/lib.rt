@@ -6,12 +6,12 @@ ghost use lib.ListN.{length};
 ghost use Rattle.words.specs.Compare.{compareOf};
 ghost use Rattle.figures.specs.Limits.{most-nodes, most-words};
 ghost use Rattle.figures.specs.Numbers.{done};
-ghost use Rattle.order.specs.Reading.{causeOf};
-ghost use Rattle.order.specs.Levels.{LinesLevelled};
+ghost use Rattle.trees.specs.Reading.{causeOf};
+ghost use Rattle.trees.specs.Levels.{LinesLevelled};
 ghost use Rattle.book.specs.Decoding.{bookIn};
 ghost use Rattle.book.specs.Holding.{Holds};
-ghost use Rattle.judge.specs.Judging.{judgeOf};
-ghost use Rattle.judge.specs.Seeking.{topKnown, lineUnknown, speltIn, keyOf, Seeks, lineAnswer};
+ghost use Rattle.verdicts.specs.Judging.{judgeOf};
+ghost use Rattle.verdicts.specs.Seeking.{topKnown, lineUnknown, speltIn, keyOf, Seeks, lineAnswer};
 use book::BookForm;
 use book::Places;
 use figures::Answer;
@@ -19,18 +19,10 @@ use figures::Depth;
 use figures::answered;
 use figures::limits;
 use figures::numbers;
-use order::PartAt;
 use section::Found;
+use trees::PartAt;
+use verdicts::Sought;
 use words::Compared;
-
-// The part that a line stands for: whether it is low, which words it has, of the order or of its cut, and its section's entries.
-pub struct Sought {
-    pub low: bool,
-    pub from: usize,
-    pub to: usize,
-    pub at: usize,
-    pub many: usize,
-}
 
 // Whether the order's top is in the book.
 fn top_known(book: &[u16], places: Places, order: &[u16], levels: &[u8; limits::MOST_NODES]) -> bool

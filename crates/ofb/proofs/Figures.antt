@@ -13,11 +13,11 @@ use Rattle.figures.specs.Limits.{most-nodes, most-words, least-k, greatest-k, m
 use Rattle.figures.specs.Answers.{answered}
 use Rattle.figures.specs.declared.Answer.{Answer}
 use Rattle.section.specs.Entries.{has}
-use Rattle.order.specs.Trees.{Tree, words, subtrees}
-use Rattle.order.specs.Reading.{byOrder, orderOf}
-use Rattle.order.specs.Parts.{top}
-use Rattle.order.specs.Answers.{Writing, refuse, write}
-use Rattle.order.proofs.Causes.{Passed, Seen, stopped, passed, seen}
+use Rattle.trees.specs.Trees.{Tree, words, subtrees}
+use Rattle.trees.specs.Reading.{byOrder, orderOf}
+use Rattle.trees.specs.Parts.{top}
+use Rattle.trees.specs.Answers.{Writing, refuse, write}
+use Rattle.trees.proofs.Causes.{Passed, Seen, stopped, passed, seen}
 use Rattle.form.specs.Text.{Line, linesOf, textOf}
 use Rattle.form.specs.Reading.{Form, fault, form, formOf, wordsOf, readOf}
 use Rattle.form.specs.Faults.{Why, past, misspelt, no-option, not-allowed, too-deep, ninth-child}
@@ -37,9 +37,9 @@ use Rattle.book.specs.declared.BookForm.the-variants.{Refused}
 use Rattle.book.proofs.Meaning.{used-fits}
 use Rattle.book.proofs.Holding.{refused-book}
 use Rattle.book.proofs.Sound.{on-any, why-is}
-use Rattle.judge.specs.Judging.{knows, firstUnknown, verdict, judgeOf}
+use Rattle.verdicts.specs.Judging.{knows, firstUnknown, verdict, judgeOf}
 use Rattle.agree.specs.Checking.{checkOf}
-use Rattle.store.specs.Files.{front-bytes, fileOf, writeFileOf, storedIn, readBookOf, readRestOf, isMarked, readFileOf}
+use Rattle.files.specs.Files.{front-bytes, fileOf, writeFileOf, storedIn, readBookOf, readRestOf, isMarked, readFileOf}
 use Rattle.store.proofs.Writing.{file-long}
 
 -- ---- whatever is answered

@@ -5,11 +5,11 @@ use mathlib.Core.List.{List}
 use native.Mathlib.Omega.{arith}
 use Rattle.figures.specs.declared.Answer.{Answer}
 use Rattle.figures.specs.declared.Written.{Written}
-use Rattle.order.specs.Answers.{Writing, writing}
+use Rattle.trees.specs.Answers.{Writing, writing}
 use Rattle.form.specs.Reading.{readOf}
 use Rattle.form.specs.Writing.{writeOf}
 use Rattle.book.specs.Opening.{Outcome, outcome}
-use Rattle.store.specs.Files.{writeFileOf}
+use Rattle.files.specs.Files.{writeFileOf}
 use Rattle.ofb.specs.Interface.{toldOf, toldWrittenOf, handed, outcomeInC, writingInC}
 use Rattle.ofb.specs.declared.OfbAnswer.{OfbAnswer}
 use Rattle.ofb.proofs.Figures.{filed-line, filed-count, read-line-most, read-count-most, print-line, print-count}

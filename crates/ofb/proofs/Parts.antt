@@ -9,14 +9,14 @@ use lib.ListN.{length, take, drop, length-append, length-drop}
 use lib.Seq.{take-append-seam}
 use Rattle.words.specs.Base.{if_then_else_}
 use Rattle.figures.specs.Limits.{most-words}
-use Rattle.order.specs.Trees.{Tree, subtrees}
-use Rattle.order.specs.Reading.{Found, missing, found, byFound, byOrder}
-use Rattle.order.specs.Answers.{treeAt, lineOf, subtreeOf}
-use Rattle.order.proofs.Causes.{Passed, Seen, stopped, passed, seen}
-use Rattle.order.proofs.Lines.{subtree-part}
-use Rattle.order.proofs.Walks.{two-words}
-use Rattle.order.proofs.Spots.{short-order}
-use Rattle.order.proofs.Answers.{subtree-refused}
+use Rattle.trees.specs.Trees.{Tree, subtrees}
+use Rattle.trees.specs.Reading.{Found, missing, found, byFound, byOrder}
+use Rattle.trees.specs.Answers.{treeAt, lineOf, subtreeOf}
+use Rattle.trees.proofs.Causes.{Passed, Seen, stopped, passed, seen}
+use Rattle.trees.proofs.Lines.{subtree-part}
+use Rattle.trees.proofs.Walks.{two-words}
+use Rattle.trees.proofs.Spots.{short-order}
+use Rattle.trees.proofs.Answers.{subtree-refused}
 use Rattle.ofb.specs.Interface.{partInC}
 use Rattle.ofb.specs.declared.OfbPart.{OfbPart}
 

@@ -7,7 +7,7 @@ use lib.ListN.{length}
 use Rattle.words.specs.Base.{if_then_else_}
 use Rattle.figures.specs.declared.Answer.{Answer}
 use Rattle.figures.specs.declared.Written.{Written}
-use Rattle.order.specs.Answers.{Writing, subtreeOf}
+use Rattle.trees.specs.Answers.{Writing, subtreeOf}
 use Rattle.book.specs.Opening.{Outcome}
 use Rattle.ofb.specs.declared.OfbAnswer.{OfbAnswer}
 use Rattle.ofb.specs.declared.OfbPart.{OfbPart}

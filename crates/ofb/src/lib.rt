@@ -3,10 +3,10 @@
 ghost use mathlib.Core.Path.{_≡_};
 ghost use Prim.Native.Nat.{_^_, _<_};
 ghost use Rattle.book.specs.Opening.{openOf};
-ghost use Rattle.judge.specs.Judging.{judgeOf};
-ghost use Rattle.teach.specs.Calls.{teachOf, withdrawOf};
+ghost use Rattle.verdicts.specs.Judging.{judgeOf};
+ghost use Rattle.effects.specs.Calls.{teachOf, withdrawOf};
 ghost use Rattle.agree.specs.Checking.{checkOf};
-ghost use Rattle.store.specs.Files.{writeFileOf, readFileOf};
+ghost use Rattle.files.specs.Files.{writeFileOf, readFileOf};
 ghost use Rattle.form.specs.Reading.{readOf};
 ghost use Rattle.form.specs.Writing.{writeOf};
 ghost use Rattle.ofb.specs.Interface.{toldOf, toldWrittenOf, handed, outcomeInC, writingInC, partInC};

@@ -1,88 +1,23 @@
 // Orders: trees as 16-bit words in a lent slice. The walk of a tree, the levels of an order's lines, whether words are an order, and whether
-// one of a given depth; and the types that cuts and parts are answered by. Assumes nothing.
+// one of a given depth. Assumes nothing beyond each inner function's `requires`.
 ghost use mathlib.Core.Path.{_≡_};
 ghost use Prim.Native.Nat.{suc, _+_, _-_, _*_, _/_, _^_, _≤_, _<_, max};
 ghost use lib.ListN.{length, take};
 ghost use Rattle.figures.specs.Limits.{most-nodes, most-words, greatest-depth};
 ghost use Rattle.figures.specs.Numbers.{done};
-ghost use Rattle.order.specs.Trees.{Tree, depth};
-ghost use Rattle.order.specs.Reading.{soundNode, found, treeOf, causeOf};
-ghost use Rattle.order.specs.Levels.{treeLevels, deepOf, endedOf, LinesLevelled, Open, nextRow};
-ghost use Rattle.order.specs.Walks.{walkOf, keptOf};
-ghost use Rattle.order.specs.Answers.{checkOf};
-ghost use Rattle.order.specs.Fits.{fitsOf};
+ghost use Rattle.trees.specs.Trees.{Tree, depth};
+ghost use Rattle.trees.specs.Reading.{found, treeOf, causeOf};
+ghost use Rattle.trees.specs.Levels.{treeLevels, deepOf, endedOf, LinesLevelled, Open, nextRow};
+ghost use Rattle.trees.specs.Walks.{walkOf, keptOf};
+ghost use Rattle.trees.specs.Answers.{checkOf};
+ghost use Rattle.trees.specs.Fits.{fitsOf};
 use figures::Answer;
-use figures::Written;
 use figures::limits;
+use figures::nodes::node_ok;
 use figures::numbers;
-
-// What reading one tree at a word finds: the word past it, its depth, and the number of words of its cut.
-pub enum Walked {
-    Broken,
-    Whole {
-        end: usize,
-        depth: usize,
-        cut: usize,
-    },
-}
-
-// What the lines of words come to: not one tree, or not one of an allowed depth; or a tree of this depth.
-pub enum Levelled {
-    Broken,
-    Deep(usize),
-}
-
-// A row of trees: the level at which they stand, and how many of them are not done.
-pub struct Row {
-    pub level: usize,
-    pub trees: u16,
-}
-
-// Where a line of an order stands.
-pub enum Place {
-    Refused(u16),
-    Lacking,
-    At(usize),
-}
-
-// What a written cut comes to: the word past the uncut tree, and the number of words written.
-pub struct Laid {
-    pub end: usize,
-    pub count: usize,
-}
-
-// The kind of part that a line stands for.
-pub enum Kind {
-    Absent,
-    Low,
-    Middle,
-}
-
-// The part at a word: a low part is the words up to `end`; a middle part is a cut of `count` words.
-pub enum PartAt {
-    NoPart,
-    LowTo { end: usize },
-    MiddleTo { end: usize, count: usize },
-}
-
-// The answer of `part_into`.
-pub struct PartWritten {
-    pub kind: Kind,
-    pub written: Written,
-}
-
-// Whether two words can be a node.
-fn node_ok(code: u16, children: u16) -> bool
-    ensures { λ r. ⌜ r ≡ soundNode code children ⌝ }
-{
-    if code < limits::LEAST_CODE {
-        return false;
-    }
-    if limits::GREATEST_CODE < code {
-        return false;
-    }
-    children <= limits::MOST_CHILDREN
-}
+use trees::Levelled;
+use trees::Row;
+use trees::Walked;
 
 // The depth that is left for the children.
 fn below(d: usize) -> usize

@@ -21,20 +21,20 @@ use Rattle.section.proofs.Words.{words-entries, words-span}
 use Rattle.section.proofs.Counts.{has-add}
 use Rattle.section.proofs.Sorting.{sorted-add, add-commutes}
 use Rattle.changes.proofs.Once.{once-has, once-lacks, sorted-add-once}
-use Rattle.order.specs.Trees.{Tree, words, depth, cut, subtrees}
-use Rattle.order.specs.Parts.{isLow, isMiddle, middle, lows, middles, sameTree, eachOnce, lowParts, middleParts}
-use Rattle.order.specs.Reading.{byOrder, causeOf}
-use Rattle.order.specs.Walks.{walkOf, cutOf, Room, partAtOf}
-use Rattle.order.specs.Answers.{treeAt}
-use Rattle.order.specs.declared.Walked.{Walked}
-use Rattle.order.specs.declared.PartAt.{PartAt}
-use Rattle.order.specs.declared.PartAt.the-variants.{NoPart, LowTo, MiddleTo}
-use Rattle.order.proofs.Unique.{tree-same}
-use Rattle.order.proofs.Orders.{size}
-use Rattle.order.proofs.Causes.{Passed, has-tree}
-use Rattle.order.proofs.Lines.{Spot, line-spot, tree-next, walk-spot, cut-spot}
-use Rattle.order.proofs.Spots.{two-words-a-line, short-order, PartIs, part-told, cut-room}
-use Rattle.order.proofs.Cutting.{cut-shallow}
+use Rattle.trees.specs.Trees.{Tree, words, depth, cut, subtrees}
+use Rattle.trees.specs.Parts.{isLow, isMiddle, middle, lows, middles, sameTree, eachOnce, lowParts, middleParts}
+use Rattle.trees.specs.Reading.{byOrder, causeOf}
+use Rattle.trees.specs.Walks.{walkOf, cutOf, Room, partAtOf}
+use Rattle.trees.specs.Answers.{treeAt}
+use Rattle.trees.specs.declared.Walked.{Walked}
+use Rattle.trees.specs.declared.PartAt.{PartAt}
+use Rattle.trees.specs.declared.PartAt.the-variants.{NoPart, LowTo, MiddleTo}
+use Rattle.trees.proofs.Unique.{tree-same}
+use Rattle.trees.proofs.Orders.{size}
+use Rattle.trees.proofs.Causes.{Passed, has-tree}
+use Rattle.trees.proofs.Lines.{Spot, line-spot, tree-next, walk-spot, cut-spot}
+use Rattle.trees.proofs.Spots.{two-words-a-line, short-order, PartIs, part-told, cut-room}
+use Rattle.trees.proofs.Cutting.{cut-shallow}
 use Rattle.book.specs.Taught.{addEach}
 use Rattle.book.proofs.Taught.{sorted-each}
 use Rattle.own.specs.Own.{entry-words, occurring, partsOnce, partLines, listOf, lowAt}

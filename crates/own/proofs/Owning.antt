@@ -16,16 +16,16 @@ use Rattle.section.specs.Entries.{Entry, counted, entryWords, sectionWords, Sor
 use Rattle.changes.specs.Editing.{addOnce, padded}
 use Rattle.changes.proofs.Relaying.{drop-zeros}
 use Rattle.changes.proofs.Once.{sorted-add-once}
-use Rattle.order.specs.Trees.{Tree, words, cut, subtrees}
-use Rattle.order.specs.Reading.{found, byOrder, causeOf}
-use Rattle.order.specs.Walks.{walkOf, cutOf, Room}
-use Rattle.order.specs.Parts.{isLow, top}
-use Rattle.order.specs.declared.Walked.{Walked}
-use Rattle.order.proofs.Orders.{size, some-lines}
-use Rattle.order.proofs.Causes.{Passed, has-tree}
-use Rattle.order.proofs.Cutting.{cut-shallow, cut-nodes, subtree-nodes}
-use Rattle.order.proofs.Lines.{walk-spot, cut-spot}
-use Rattle.order.proofs.Spots.{two-words-a-line, top-spot, top-room}
+use Rattle.trees.specs.Trees.{Tree, words, cut, subtrees}
+use Rattle.trees.specs.Reading.{found, byOrder, causeOf}
+use Rattle.trees.specs.Walks.{walkOf, cutOf, Room}
+use Rattle.trees.specs.Parts.{isLow, top}
+use Rattle.trees.specs.declared.Walked.{Walked}
+use Rattle.trees.proofs.Orders.{size, some-lines}
+use Rattle.trees.proofs.Causes.{Passed, has-tree}
+use Rattle.trees.proofs.Cutting.{cut-shallow, cut-nodes, subtree-nodes}
+use Rattle.trees.proofs.Lines.{walk-spot, cut-spot}
+use Rattle.trees.proofs.Spots.{two-words-a-line, top-spot, top-room}
 use Rattle.book.specs.Book.{Book, body, used, live, encode, lay}
 use Rattle.book.specs.Decoding.{placesOf}
 use Rattle.book.specs.declared.Places.{Places}

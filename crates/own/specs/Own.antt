@@ -6,11 +6,11 @@ use lib.ListN.{length}
 use Rattle.figures.specs.Limits.{most-nodes, most-words, head-words}
 use Rattle.section.specs.Entries.{Entry, sectionWords}
 use Rattle.changes.specs.declared.Size.{Size}
-use Rattle.order.specs.Trees.{Tree}
-use Rattle.order.specs.Reading.{byOrder, orderOf}
-use Rattle.order.specs.Parts.{lows, middles, lowParts, middleParts}
-use Rattle.order.specs.declared.PartAt.{PartAt}
-use Rattle.order.specs.declared.PartAt.the-variants.{NoPart, LowTo, MiddleTo}
+use Rattle.trees.specs.Trees.{Tree}
+use Rattle.trees.specs.Reading.{byOrder, orderOf}
+use Rattle.trees.specs.Parts.{lows, middles, lowParts, middleParts}
+use Rattle.trees.specs.declared.PartAt.{PartAt}
+use Rattle.trees.specs.declared.PartAt.the-variants.{NoPart, LowTo, MiddleTo}
 use Rattle.book.specs.Book.{Book}
 use Rattle.book.specs.Taught.{emptyBook, addEach, bookOf}
 

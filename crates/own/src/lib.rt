@@ -9,9 +9,9 @@ ghost use Rattle.figures.specs.Limits.{least-k, most-nodes};
 ghost use Rattle.figures.specs.Numbers.{done};
 ghost use Rattle.section.specs.Entries.{counted, entryWords, sectionWords};
 ghost use Rattle.changes.specs.Editing.{padded};
-ghost use Rattle.order.specs.Reading.{causeOf};
-ghost use Rattle.order.specs.Levels.{LinesLevelled};
-ghost use Rattle.order.specs.Walks.{cutOf, partAtOf};
+ghost use Rattle.trees.specs.Reading.{causeOf};
+ghost use Rattle.trees.specs.Levels.{LinesLevelled};
+ghost use Rattle.trees.specs.Walks.{cutOf, partAtOf};
 ghost use Rattle.book.specs.Book.{sectionOf, lay};
 ghost use Rattle.book.specs.Decoding.{placesOf};
 ghost use Rattle.own.specs.Own.{entry-words, list-words, own-words, ownOf, partLines, listOf, sizeOf, lowAt};
@@ -20,7 +20,7 @@ use book::Section;
 use changes::Size;
 use figures::Depth;
 use figures::limits;
-use order::PartAt;
+use trees::PartAt;
 
 // The most words that an entry takes.
 const ENTRY_WORDS: usize = 2 + limits::MOST_WORDS;

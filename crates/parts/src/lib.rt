@@ -4,20 +4,20 @@ ghost use Prim.Native.Nat.{_*_, _/_, _<_};
 ghost use lib.ListN.{length};
 ghost use Rattle.figures.specs.Limits.{most-nodes};
 ghost use Rattle.figures.specs.Numbers.{done};
-ghost use Rattle.order.specs.Reading.{causeOf};
-ghost use Rattle.order.specs.Levels.{LinesLevelled};
-ghost use Rattle.order.specs.Walks.{partAtOf, kindOf};
-ghost use Rattle.order.specs.Answers.{noPart, partWriting, partIntoOf};
+ghost use Rattle.trees.specs.Reading.{causeOf};
+ghost use Rattle.trees.specs.Levels.{LinesLevelled};
+ghost use Rattle.trees.specs.Walks.{partAtOf, kindOf};
+ghost use Rattle.trees.specs.Answers.{noPart, partWriting, partIntoOf};
 use figures::Depth;
 use figures::limits;
 use figures::numbers;
 use figures::wrote;
-use order::Kind;
-use order::PartAt;
-use order::PartWritten;
-use order::Place;
-use order::Walked;
 use order::walk;
+use trees::Kind;
+use trees::PartAt;
+use trees::PartWritten;
+use trees::Place;
+use trees::Walked;
 
 // A number, and no part.
 fn no_part(number: u16) -> PartWritten

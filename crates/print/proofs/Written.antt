@@ -10,14 +10,14 @@ use Rattle.figures.specs.Limits.{most-nodes, greatest-depth}
 use Rattle.figures.specs.Numbers.{done}
 use Rattle.figures.specs.declared.Written.{Written}
 use Rattle.figures.specs.Answers.{wrote}
-use Rattle.order.specs.Trees.{Tree}
-use Rattle.order.specs.Reading.{byOrder, causeOf}
-use Rattle.order.specs.Answers.{writing, write}
-use Rattle.order.specs.Levels.{LinesLevelled, treeLevels}
-use Rattle.order.proofs.Orders.{size}
-use Rattle.order.proofs.Deep.{levels-of}
-use Rattle.order.proofs.SubtreeLevels.{level-within}
-use Rattle.order.proofs.Causes.{Passed, refused-by, has-tree}
+use Rattle.trees.specs.Trees.{Tree}
+use Rattle.trees.specs.Reading.{byOrder, causeOf}
+use Rattle.trees.specs.Answers.{writing, write}
+use Rattle.trees.specs.Levels.{LinesLevelled, treeLevels}
+use Rattle.trees.proofs.Orders.{size}
+use Rattle.trees.proofs.Deep.{levels-of}
+use Rattle.trees.proofs.SubtreeLevels.{level-within}
+use Rattle.trees.proofs.Causes.{Passed, refused-by, has-tree}
 use Rattle.form.specs.Text.{code-size, Line, linesOf, levelText, lineText, spell, textOf}
 use Rattle.form.specs.Reading.{wordsOf}
 use Rattle.form.specs.Writing.{writeOf}

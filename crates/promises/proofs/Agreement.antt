@@ -11,10 +11,10 @@ use Rattle.figures.specs.Limits.{least-k}
 use Rattle.section.specs.Entries.{Entry, has, countOf, Sorted}
 use Rattle.section.proofs.Counts.{has-entry, lacks-counts}
 use Rattle.section.proofs.Sorting.{same-counts}
-use Rattle.order.specs.Trees.{Tree, words}
-use Rattle.order.specs.Fits.{IsOrder}
-use Rattle.order.specs.Paper.{IsR, IsL, IsP}
-use Rattle.order.proofs.Fitting.{fits-order-of}
+use Rattle.trees.specs.Trees.{Tree, words}
+use Rattle.trees.specs.Fits.{IsOrder}
+use Rattle.trees.specs.Paper.{IsR, IsL, IsP}
+use Rattle.trees.proofs.Fitting.{fits-order-of}
 use Rattle.book.specs.Book.{Book, sectionOf, inForm}
 use Rattle.book.specs.Sound.{SoundBook}
 use Rattle.book.specs.Taught.{Teaching, bookOf, teachingsIn, anyTree, agreeing}
@@ -22,8 +22,8 @@ use Rattle.book.specs.declared.Section.{Section}
 use Rattle.book.specs.declared.Section.the-variants.{Tops, Lows, Middles}
 use Rattle.book.proofs.Sound.{form-sound, sound-form, sound-section}
 use Rattle.book.proofs.Taught.{any-in, in-any, taught-k, each-keys, section-same, none-in}
-use Rattle.teach.specs.Calls.{treesIn, timesIn}
-use Rattle.teach.proofs.Adds.{taught-section}
+use Rattle.effects.specs.Calls.{treesIn, timesIn}
+use Rattle.effects.proofs.Adds.{taught-section}
 use Rattle.amend.proofs.Sections.{form-sorted}
 use Rattle.effects.specs.Conditions.{_exactly-when_}
 use Rattle.effects.proofs.Undoing.{times-counted, times-other, count-after-taught}

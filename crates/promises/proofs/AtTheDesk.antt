@@ -17,10 +17,10 @@ use Rattle.figures.specs.Numbers.{done, no-room, not-taught, top-unknown, low-u
 use Rattle.figures.specs.Answers.{answered}
 use Rattle.figures.specs.declared.Answer.{Answer}
 use Rattle.section.specs.Entries.{has}
-use Rattle.order.specs.Trees.{Tree, words, subtrees}
-use Rattle.order.specs.Fits.{IsOrder}
-use Rattle.order.specs.Parts.{top, isLow}
-use Rattle.order.proofs.Fitting.{order-read, read-order}
+use Rattle.trees.specs.Trees.{Tree, words, subtrees}
+use Rattle.trees.specs.Fits.{IsOrder}
+use Rattle.trees.specs.Parts.{top, isLow}
+use Rattle.trees.proofs.Fitting.{order-read, read-order}
 use Rattle.form.specs.Text.{textOf}
 use Rattle.form.specs.Reading.{Form, fault, form, byForm, formOf, wordsOf}
 use Rattle.form.proofs.Trips.{form-order}
@@ -29,9 +29,9 @@ use Rattle.book.specs.Opening.{outcome, openOf}
 use Rattle.book.specs.Taught.{bookOf}
 use Rattle.book.proofs.Sound.{head-says}
 use Rattle.book.proofs.Openings.{opened-book, opened-used}
-use Rattle.judge.specs.Judging.{knows, firstUnknown, verdict, judgeOf}
-use Rattle.judge.proofs.Judgements.{by-verdict}
-use Rattle.teach.specs.Calls.{teachOf, withdrawOf}
+use Rattle.verdicts.specs.Judging.{knows, firstUnknown, verdict, judgeOf}
+use Rattle.verdicts.proofs.Judgements.{by-verdict}
+use Rattle.effects.specs.Calls.{teachOf, withdrawOf}
 use Rattle.effects.specs.Conditions.{_exactly-when_}
 use Rattle.effects.proofs.Calling.{number-is}
 use Rattle.effects.proofs.Conditions.{teach-refusal-leaves, withdraw-refusal-leaves}

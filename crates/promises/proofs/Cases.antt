@@ -6,14 +6,14 @@ use mathlib.Core.List.{List, [], _∷_, _++_, List·Memᴰ·not-nil}
 use lib.ListN.{length}
 use Rattle.figures.specs.Limits.{head-words, most-book-words, least-k, greatest-k}
 use Rattle.figures.specs.Numbers.{top-unknown}
-use Rattle.order.specs.Trees.{Tree}
-use Rattle.order.specs.Fits.{IsOrder}
+use Rattle.trees.specs.Trees.{Tree}
+use Rattle.trees.specs.Fits.{IsOrder}
 use Rattle.form.specs.Reading.{readOf}
 use Rattle.book.specs.Taught.{bookOf}
 use Rattle.book.specs.Opening.{openOf}
-use Rattle.judge.specs.Judging.{judgeOf}
-use Rattle.judge.specs.Verdicts.{In}
-use Rattle.judge.proofs.Answers.{top-answered}
+use Rattle.verdicts.specs.Judging.{judgeOf}
+use Rattle.verdicts.specs.Verdicts.{In}
+use Rattle.verdicts.proofs.Answers.{top-answered}
 use Rattle.book.proofs.Openings.{opened-book}
 use Rattle.promises.specs.Heard.{A, B, C, single, pair, three, opens, teaches, withdraws, judges, slice, heard, readAs}
 use Rattle.promises.proofs.Computed.{computes}

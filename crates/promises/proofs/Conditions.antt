@@ -13,13 +13,13 @@ use Rattle.figures.specs.Limits.{least-k, greatest-k, greatest-count, head-word
 use Rattle.figures.specs.Numbers.{done, no-room, too-many, not-taught}
 use Rattle.section.specs.Entries.{has}
 use Rattle.section.proofs.Counts.{has-count}
-use Rattle.order.specs.Trees.{Tree, words}
-use Rattle.order.specs.Fits.{IsOrder}
-use Rattle.order.proofs.Fitting.{order-read}
+use Rattle.trees.specs.Trees.{Tree, words}
+use Rattle.trees.specs.Fits.{IsOrder}
+use Rattle.trees.proofs.Fitting.{order-read}
 use Rattle.book.specs.Book.{sectionOf, used}
 use Rattle.book.specs.Taught.{taught, agreeing}
 use Rattle.book.specs.declared.Section.the-variants.{Taught}
-use Rattle.teach.specs.Calls.{teachOf, withdrawOf}
+use Rattle.effects.specs.Calls.{teachOf, withdrawOf}
 use Rattle.effects.specs.Conditions.{_exactly-when_, BookAndOrder, WouldPass, lives}
 use Rattle.effects.proofs.Conditions.{teach-7, teach-6, teach-0, withdraw-0, withdraw-8}
 use Rattle.effects.proofs.Reasons.{within-none}

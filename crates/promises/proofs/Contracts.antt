@@ -17,15 +17,15 @@ use prog.Memory
 use prog.Routine
 use prog.Wp
 use Rattle.figures.specs.Answers.{depthOf, numberOf}
-use Rattle.order.specs.Answers.{checkOf, subtreeOf, writing, cutIntoOf, partWriting, partIntoOf}
+use Rattle.trees.specs.Answers.{checkOf, subtreeOf, writing, cutIntoOf, partWriting, partIntoOf}
 use Rattle.form.specs.Reading.{readOf}
 use Rattle.form.specs.Writing.{writeOf}
 use Rattle.book.specs.Decoding.{bookFormOf}
 use Rattle.book.specs.Opening.{outcome, openOf}
-use Rattle.judge.specs.Judging.{judgeOf}
-use Rattle.teach.specs.Calls.{teachOf, withdrawOf}
+use Rattle.verdicts.specs.Judging.{judgeOf}
+use Rattle.effects.specs.Calls.{teachOf, withdrawOf}
 use Rattle.agree.specs.Checking.{checkOf as agreesOf}
-use Rattle.store.specs.Files.{writeFileOf, readFileOf}
+use Rattle.files.specs.Files.{writeFileOf, readFileOf}
 use Rattle.sheet.specs.Sheets.{letterByte, openingOf}
 use Rattle.calls.specs.Steps.{stepping, beginOf, stepOf}
 use Rattle.order.proofs.check as order-check

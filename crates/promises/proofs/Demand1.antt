@@ -19,8 +19,8 @@ use Rattle.figures.specs.Answers.{depthOf}
 use Rattle.figures.specs.declared.depths.Asked.{Asked}
 use Rattle.figures.specs.declared.Answer.{Answer}
 use Rattle.figures.specs.declared.Written.{Written}
-use Rattle.order.specs.Answers.{checkOf, subtreeOf, Writing, writing, cutIntoOf, PartWriting, partWriting, partIntoOf}
-use Rattle.order.specs.declared.PartWritten.{PartWritten}
+use Rattle.trees.specs.Answers.{checkOf, subtreeOf, Writing, writing, cutIntoOf, PartWriting, partWriting, partIntoOf}
+use Rattle.trees.specs.declared.PartWritten.{PartWritten}
 use Rattle.form.specs.Reading.{readOf}
 use Rattle.form.specs.Writing.{writeOf}
 use Rattle.book.specs.Sound.{WhyForm}
@@ -28,15 +28,15 @@ use Rattle.book.specs.Decoding.{bookFormOf}
 use Rattle.book.specs.Opening.{Outcome, outcome, openOf}
 use Rattle.book.specs.declared.BookForm.{BookForm}
 use Rattle.book.proofs.Sound.{why-is, why-only}
-use Rattle.judge.specs.Judging.{judgeOf}
-use Rattle.judge.specs.Verdicts.{Judged}
-use Rattle.judge.proofs.Answers.{judged-is, judged-only}
-use Rattle.teach.specs.Calls.{teachOf, withdrawOf}
+use Rattle.verdicts.specs.Judging.{judgeOf}
+use Rattle.verdicts.specs.Verdicts.{Judged}
+use Rattle.verdicts.proofs.Answers.{judged-is, judged-only}
+use Rattle.effects.specs.Calls.{teachOf, withdrawOf}
 use Rattle.effects.specs.Whys.{WhyTaught, WhyWithdrawn}
 use Rattle.effects.proofs.Whys.{teach-why, teach-only, withdraw-why, withdraw-only}
 use Rattle.effects.proofs.Conditions.{teach-refusal-leaves, withdraw-refusal-leaves, teach-line, withdraw-line}
 use Rattle.agree.specs.Checking.{checkOf as agreesOf}
-use Rattle.store.specs.Files.{writeFileOf, readFileOf}
+use Rattle.files.specs.Files.{writeFileOf, readFileOf}
 use Rattle.ofb.proofs.Figures.{open-line, check-line as agrees-line, print-line, filed-line, restored-line}
 use Rattle.reply.specs.Replies.{reply-room}
 use Rattle.sheet.specs.Sheets.{Handed, faulty, handed, handedIn, openingBy, openingOf}

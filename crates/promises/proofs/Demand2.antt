@@ -2,8 +2,8 @@
 -- them. Codes are decimal. A sound form goes to text and back unchanged; so does a book that agrees with itself, to file and back into a slice of its own
 -- length."
 --
--- Document 000's r, l and p are `IsR`, `IsL` and `IsP` (order/specs/Paper.antt), said by positions and labels. A tree is in a section if one of its
--- entries has the tree's words (`In`, judge/specs/Verdicts.antt). Assumes nothing.
+-- Document 000's r, l and p are `IsR`, `IsL` and `IsP` (trees/specs/Paper.antt), said by positions and labels. A tree is in a section if one of its
+-- entries has the tree's words (`In`, verdicts/specs/Verdicts.antt). Assumes nothing.
 use Prim.Native.Nat.{ℕ, suc, _+_, _*_, _/_, _%_, _≤_, _<_}
 use mathlib.Core.Path.{_≡_, refl, sym, ap, subst, _∙_}
 use mathlib.Core.Bool.{false}
@@ -15,11 +15,11 @@ use Rattle.figures.specs.Limits.{least-code, greatest-code, most-nodes, used-wo
 use Rattle.figures.specs.Numbers.{done, no-form}
 use Rattle.figures.specs.Answers.{answered, wrote, refusedAt}
 use Rattle.figures.specs.declared.Answer.{Answer}
-use Rattle.order.specs.Trees.{Tree, node, Good, subtrees}
-use Rattle.order.specs.Fits.{IsOrder}
-use Rattle.order.specs.Answers.{writing, write}
-use Rattle.order.proofs.Cutting.{subtree-good}
-use Rattle.order.proofs.Fitting.{order-read}
+use Rattle.trees.specs.Trees.{Tree, node, Good, subtrees}
+use Rattle.trees.specs.Fits.{IsOrder}
+use Rattle.trees.specs.Answers.{writing, write}
+use Rattle.trees.proofs.Cutting.{subtree-good}
+use Rattle.trees.proofs.Fitting.{order-read}
 use Rattle.form.specs.Text.{Line, digit-0, space, line-feed, code-size, linesOf, levelText, codeText, lineText, spell, textOf}
 use Rattle.form.specs.Reading.{isDigit, speltOf, form, readLines, readOf}
 use Rattle.form.specs.Faults.{greatest-level}
@@ -32,11 +32,11 @@ use Rattle.form.proofs.Trips.{order-text, order-write, form-write, written-read
 use Rattle.book.specs.Book.{Book}
 use Rattle.book.specs.Sound.{IsBook}
 use Rattle.book.specs.Opening.{outcome}
-use Rattle.judge.specs.Judging.{judgeOf}
-use Rattle.judge.specs.Verdicts.{PassesBy}
-use Rattle.judge.proofs.Answers.{answered-passes, passes-answered}
+use Rattle.verdicts.specs.Judging.{judgeOf}
+use Rattle.verdicts.specs.Verdicts.{PassesBy}
+use Rattle.verdicts.proofs.Answers.{answered-passes, passes-answered}
 use Rattle.effects.specs.Conditions.{_exactly-when_}
-use Rattle.store.specs.Files.{front-bytes, fileOf, writeFileOf, readFileOf}
+use Rattle.files.specs.Files.{front-bytes, fileOf, writeFileOf, readFileOf}
 use Rattle.promises.specs.Agreement.{Agrees}
 use Rattle.promises.proofs.FileWhys.{agrees-filed}
 use Rattle.promises.proofs.FileTrips.{file-back, filed-back, filed-bytes, read-back-filed, read-alike}

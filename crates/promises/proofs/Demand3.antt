@@ -13,16 +13,16 @@ use Rattle.figures.specs.Numbers.{done, no-room, too-many, not-taught}
 use Rattle.figures.specs.Answers.{answered}
 use Rattle.figures.specs.declared.Answer.{Answer}
 use Rattle.section.specs.Entries.{countOf}
-use Rattle.order.specs.Trees.{Tree}
-use Rattle.order.specs.Fits.{IsOrder}
-use Rattle.order.specs.Answers.{write}
+use Rattle.trees.specs.Trees.{Tree}
+use Rattle.trees.specs.Fits.{IsOrder}
+use Rattle.trees.specs.Answers.{write}
 use Rattle.book.specs.Book.{Book, used}
 use Rattle.book.specs.Opening.{outcome, openOf}
-use Rattle.judge.specs.Judging.{judgeOf}
-use Rattle.teach.specs.Calls.{teachOf, withdrawOf}
+use Rattle.verdicts.specs.Judging.{judgeOf}
+use Rattle.effects.specs.Calls.{teachOf, withdrawOf}
 use Rattle.effects.specs.Conditions.{_exactly-when_}
 use Rattle.agree.specs.Checking.{checkOf}
-use Rattle.store.specs.Files.{fileOf, writeFileOf, readFileOf}
+use Rattle.files.specs.Files.{fileOf, writeFileOf, readFileOf}
 use Rattle.promises.specs.Remaining.{Call, afterBy, after, remainingBy, remaining, timesOf, SameOrders, taughtAll, NoneRefused, booked, ExactlyThese, MadeOf}
 use Rattle.promises.specs.Starts.{Start, opening, reading, startedBy, taughtFirst, startK}
 use Rattle.promises.specs.Whys.{IsFile}

@@ -14,9 +14,9 @@ use Rattle.figures.specs.Limits.{head-words, most-book-words, desk-book-words, 
 use Rattle.figures.specs.Numbers.{done, too-large, k-outside, no-form}
 use Rattle.figures.specs.Answers.{answered}
 use Rattle.figures.specs.declared.Answer.{Answer}
-use Rattle.order.specs.Trees.{Tree, node, bare, cons, words}
-use Rattle.order.specs.Reading.{orderOf, order}
-use Rattle.order.proofs.Fitting.{read-order}
+use Rattle.trees.specs.Trees.{Tree, node, bare, cons, words}
+use Rattle.trees.specs.Reading.{orderOf, order}
+use Rattle.trees.proofs.Fitting.{read-order}
 use Rattle.form.specs.Text.{textOf}
 use Rattle.form.specs.Reading.{byForm, formOf}
 use Rattle.book.specs.Book.{Book, used, encode, lay, inForm}
@@ -27,9 +27,9 @@ use Rattle.book.proofs.Meaning.{read-back, lay-long}
 use Rattle.book.proofs.Sound.{form-sound}
 use Rattle.book.proofs.Heads.{is-sized}
 use Rattle.book.proofs.Openings.{opened as opening-is}
-use Rattle.judge.specs.Judging.{verdict}
-use Rattle.judge.proofs.Judgements.{by-verdict}
-use Rattle.teach.specs.Calls.{withinCounts, withdrawn, hasParts}
+use Rattle.verdicts.specs.Judging.{verdict}
+use Rattle.verdicts.proofs.Judgements.{by-verdict}
+use Rattle.effects.specs.Calls.{withinCounts, withdrawn, hasParts}
 use Rattle.section.specs.Entries.{has}
 use Rattle.effects.specs.Conditions.{BookAndOrder}
 use Rattle.effects.proofs.Calling.{words-are, teach-does, withdraw-does}

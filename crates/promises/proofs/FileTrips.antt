@@ -9,14 +9,14 @@ use lib.Seq.{take-append-seam}
 use Rattle.figures.specs.Limits.{used-word}
 use Rattle.figures.specs.Numbers.{done}
 use Rattle.figures.specs.Answers.{answered}
-use Rattle.order.specs.Answers.{Writing, refuse, write}
+use Rattle.trees.specs.Answers.{Writing, refuse, write}
 use Rattle.book.specs.Book.{Book, lay}
 use Rattle.book.specs.Sound.{IsBook}
 use Rattle.book.specs.Opening.{Outcome, outcome, leave}
 use Rattle.book.proofs.Meaning.{lay-long, used-fits}
 use Rattle.book.proofs.Sound.{head-says}
 use Rattle.effects.proofs.Calling.{number-is, words-are}
-use Rattle.store.specs.Files.{front-bytes, fileOf, writeFileOf, readFileOf}
+use Rattle.files.specs.Files.{front-bytes, fileOf, writeFileOf, readFileOf}
 use Rattle.store.proofs.Writing.{file-long}
 use Rattle.promises.specs.Agreement.{Agrees}
 use Rattle.promises.specs.Whys.{IsFile, WhyFiled, file-no-book, file-disagrees, file-short, filed}

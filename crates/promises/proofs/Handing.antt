@@ -10,9 +10,9 @@ use lib.ListN.{length, drop, length-append, length-drop}
 use Rattle.words.specs.Base.{_and_, if_then_else_, sameWords}
 use Rattle.figures.specs.Limits.{least-k, greatest-k, most-input}
 use Rattle.figures.specs.Numbers.{done, no-form}
-use Rattle.order.specs.Trees.{Tree, words}
-use Rattle.order.specs.Fits.{IsOrder}
-use Rattle.order.proofs.Fitting.{order-read}
+use Rattle.trees.specs.Trees.{Tree, words}
+use Rattle.trees.specs.Fits.{IsOrder}
+use Rattle.trees.proofs.Fitting.{order-read}
 use Rattle.form.specs.Text.{Line, textOf}
 use Rattle.form.specs.Reading.{Form, fault, form, byForm, formOf, wordsOf}
 use Rattle.form.specs.Faults.{Why, past, misspelt, no-option, not-allowed, too-deep, ninth-child}

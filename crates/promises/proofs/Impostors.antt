@@ -13,18 +13,18 @@ use Rattle.figures.specs.Limits.{greatest-count, live-word}
 use Rattle.figures.specs.Numbers.{done, top-unknown}
 use Rattle.figures.specs.Answers.{answered}
 use Rattle.figures.specs.declared.Answer.{Answer}
-use Rattle.order.specs.Trees.{Tree, words}
-use Rattle.order.specs.Fits.{IsOrder}
-use Rattle.order.proofs.Fitting.{read-order}
+use Rattle.trees.specs.Trees.{Tree, words}
+use Rattle.trees.specs.Fits.{IsOrder}
+use Rattle.trees.proofs.Fitting.{read-order}
 use Rattle.book.specs.Book.{Book, used, live, lay}
 use Rattle.book.specs.Sound.{IsBook}
 use Rattle.book.specs.Decoding.{bookIn}
 use Rattle.book.specs.Opening.{Outcome, outcome, openOf}
 use Rattle.book.proofs.Sound.{decode-book, book-only, head-says}
-use Rattle.judge.specs.Judging.{judgeOf}
-use Rattle.judge.specs.Verdicts.{PassesBy, Judged}
-use Rattle.judge.proofs.Answers.{judged-only}
-use Rattle.teach.specs.Calls.{teachOf}
+use Rattle.verdicts.specs.Judging.{judgeOf}
+use Rattle.verdicts.specs.Verdicts.{PassesBy, Judged}
+use Rattle.verdicts.proofs.Answers.{judged-only}
+use Rattle.effects.specs.Calls.{teachOf}
 use Rattle.effects.specs.Conditions.{_exactly-when_}
 use Rattle.effects.specs.Whys.{WhyTaught}
 use Rattle.effects.proofs.Whys.{teach-only}

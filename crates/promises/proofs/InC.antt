@@ -17,14 +17,14 @@ use prog.Routine
 use prog.Wp
 use Rattle.figures.specs.declared.Answer.{Answer}
 use Rattle.figures.specs.declared.Written.{Written}
-use Rattle.order.specs.Answers.{Writing, subtreeOf}
+use Rattle.trees.specs.Answers.{Writing, subtreeOf}
 use Rattle.form.specs.Reading.{readOf}
 use Rattle.form.specs.Writing.{writeOf}
 use Rattle.book.specs.Opening.{Outcome, openOf}
-use Rattle.judge.specs.Judging.{judgeOf}
-use Rattle.teach.specs.Calls.{teachOf, withdrawOf}
+use Rattle.verdicts.specs.Judging.{judgeOf}
+use Rattle.effects.specs.Calls.{teachOf, withdrawOf}
 use Rattle.agree.specs.Checking.{checkOf}
-use Rattle.store.specs.Files.{writeFileOf, readFileOf}
+use Rattle.files.specs.Files.{writeFileOf, readFileOf}
 use Rattle.ofb.specs.Interface.{toldOf, toldWrittenOf, Handed, handed, outcomeInC, writingInC, partInC}
 use Rattle.ofb.specs.declared.OfbAnswer.{OfbAnswer}
 use Rattle.ofb.proofs.Parts.{part-is-subtree}

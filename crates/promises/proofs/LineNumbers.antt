@@ -6,13 +6,13 @@ use mathlib.Core.List.{List}
 use native.Mathlib.Omega.{arith}
 use Rattle.figures.specs.Numbers.{too-large, no-form, top-unknown}
 use Rattle.figures.specs.declared.Answer.{Answer}
-use Rattle.order.specs.Answers.{checkOf, Writing, cutIntoOf, PartWriting, partIntoOf}
+use Rattle.trees.specs.Answers.{checkOf, Writing, cutIntoOf, PartWriting, partIntoOf}
 use Rattle.form.specs.Text.{Line}
 use Rattle.form.specs.Reading.{readOf}
 use Rattle.form.specs.Faults.{Why, past, misspelt, no-option, not-allowed, too-deep, ninth-child}
-use Rattle.judge.specs.Judging.{judgeOf}
-use Rattle.judge.specs.Verdicts.{passing, no-top, no-low, no-middle, Judged, no-book, no-order, judged}
-use Rattle.judge.proofs.Answers.{judged-is}
+use Rattle.verdicts.specs.Judging.{judgeOf}
+use Rattle.verdicts.specs.Verdicts.{passing, no-top, no-low, no-middle, Judged, no-book, no-order, judged}
+use Rattle.verdicts.proofs.Answers.{judged-is}
 use Rattle.promises.specs.Whys.{WhyNumbered, numbered, WhyCut, cut-no-order, cut-lacks, cut-short, cut-written}
 use Rattle.promises.specs.Whys.{WhyPart, part-no-order, part-lacks, low-short, low-written, middle-short, middle-written}
 use Rattle.promises.specs.Whys.{WhyRead, no-bytes, at-fault, read-short, read}

@@ -12,11 +12,11 @@ use Rattle.words.specs.Base.{if_then_else_, within, over}
 use Rattle.figures.specs.Limits.{least-k, greatest-k}
 use Rattle.figures.specs.Numbers.{done, k-outside, book-size, short-output}
 use Rattle.figures.specs.Answers.{wrote, refusedAt}
-use Rattle.order.specs.Trees.{Tree, words, cut, subtrees}
-use Rattle.order.specs.Reading.{Found, missing, found, byFound, Order, refused, order, byOrder, orderOf}
-use Rattle.order.specs.Parts.{partOf}
-use Rattle.order.specs.Answers.{lineOf, Writing, writing, refuse, write, cutIntoOf, PartWriting, partWriting, noPart, ofKind, partIntoOf}
-use Rattle.order.proofs.Cuts.{no-output-room, has-room}
+use Rattle.trees.specs.Trees.{Tree, words, cut, subtrees}
+use Rattle.trees.specs.Reading.{Found, missing, found, byFound, Order, refused, order, byOrder, orderOf}
+use Rattle.trees.specs.Parts.{partOf}
+use Rattle.trees.specs.Answers.{lineOf, Writing, writing, refuse, write, cutIntoOf, PartWriting, partWriting, noPart, ofKind, partIntoOf}
+use Rattle.trees.proofs.Cuts.{no-output-room, has-room}
 use Rattle.form.specs.Text.{textOf}
 use Rattle.form.specs.Reading.{Form, fault, form, byForm, formOf, wordsOf, readOf}
 use Rattle.form.specs.Writing.{writeOf}

@@ -17,10 +17,10 @@ use Rattle.figures.specs.Answers.{answered}
 use Rattle.figures.specs.declared.Answer.{Answer}
 use Rattle.section.specs.Entries.{has}
 use Rattle.section.proofs.Counts.{has-counts}
-use Rattle.order.specs.Trees.{Tree}
-use Rattle.order.specs.Reading.{orderOf, order}
-use Rattle.order.specs.Fits.{IsOrder}
-use Rattle.order.proofs.Fitting.{order-read, read-order, order-fits}
+use Rattle.trees.specs.Trees.{Tree}
+use Rattle.trees.specs.Reading.{orderOf, order}
+use Rattle.trees.specs.Fits.{IsOrder}
+use Rattle.trees.proofs.Fitting.{order-read, read-order, order-fits}
 use Rattle.book.specs.Book.{Book, sectionOf, used, live, lay, inForm}
 use Rattle.book.specs.Decoding.{decode}
 use Rattle.book.specs.Sound.{IsBook}
@@ -31,8 +31,8 @@ use Rattle.book.proofs.Openings.{opened as opening, opened-book as opening-book
 use Rattle.book.proofs.Meaning.{decoded, lay-long}
 use Rattle.book.proofs.Sound.{form-sound, book-decode}
 use Rattle.book.proofs.Heads.{is-sized}
-use Rattle.teach.specs.Calls.{teachOf, withdrawn, withdrawOf}
-use Rattle.teach.proofs.Adds.{live-taught}
+use Rattle.effects.specs.Calls.{teachOf, withdrawn, withdrawOf}
+use Rattle.effects.proofs.Adds.{live-taught}
 use Rattle.effects.specs.Conditions.{BookAndOrder}
 use Rattle.effects.proofs.Calling.{one-number, words-are, Met, met, refuses, goes, written-met, teach-does}
 use Rattle.effects.proofs.Conditions.{teach-0, teach-writes, teach-refusal-leaves, withdraw-0, withdraw-writes, withdraw-refusal-leaves}

@@ -6,11 +6,11 @@ use mathlib.Core.Bool.{true, false}
 use mathlib.Core.List.{List, [], _∷_}
 use lib.ListN.{set}
 use Rattle.section.specs.Entries.{Entry, counted}
-use Rattle.order.specs.Trees.{Tree, node, bare, cons, words}
+use Rattle.trees.specs.Trees.{Tree, node, bare, cons, words}
 use Rattle.book.specs.Book.{Book, lay, inForm}
 use Rattle.book.specs.Decoding.{formed}
 use Rattle.book.specs.Taught.{Teaching, bookOf, agreeing}
-use Rattle.teach.specs.Calls.{hasParts}
+use Rattle.effects.specs.Calls.{hasParts}
 use Rattle.figures.specs.Answers.{answered}
 use Rattle.agree.specs.Checking.{checkOf}
 use Rattle.promises.specs.Heard.{A, B, C, single, opens, teaches, withdraws, slice, heard}

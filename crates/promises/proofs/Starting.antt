@@ -11,9 +11,9 @@ use Rattle.figures.specs.Limits.{head-words, most-book-words, least-k, greatest
 use Rattle.figures.specs.Numbers.{done}
 use Rattle.figures.specs.Answers.{answered}
 use Rattle.section.specs.Entries.{Entry}
-use Rattle.order.specs.Trees.{Tree}
-use Rattle.order.specs.Fits.{Fits, IsOrder}
-use Rattle.order.proofs.Fitting.{fits-order-of}
+use Rattle.trees.specs.Trees.{Tree}
+use Rattle.trees.specs.Fits.{Fits, IsOrder}
+use Rattle.trees.proofs.Fitting.{fits-order-of}
 use Rattle.book.specs.Book.{Book, used, live, lay, inForm}
 use Rattle.book.specs.Decoding.{byBook}
 use Rattle.book.specs.Taught.{taught, bookOf, teachingsIn, agreeing}
@@ -24,7 +24,7 @@ use Rattle.book.proofs.Sound.{sound-form}
 use Rattle.book.proofs.Taught.{sorted-some}
 use Rattle.effects.proofs.Calling.{number-is}
 use Rattle.effects.proofs.Agreeing.{TaughtOrders, form-orders, later-taught, first, taught-twice, agreeing-is}
-use Rattle.store.specs.Files.{readFileOf}
+use Rattle.files.specs.Files.{readFileOf}
 use Rattle.promises.specs.Remaining.{booked}
 use Rattle.promises.specs.Starts.{Start, opening, reading, startedBy, ordersIn, taughtFirst, startK}
 use Rattle.promises.specs.Agreement.{Agrees}

@@ -13,14 +13,14 @@ use Rattle.figures.specs.Limits.{greatest-depth, least-k}
 use Rattle.section.specs.Entries.{Entry, has, countsFor, countOf, total, Sorted, lower}
 use Rattle.section.proofs.Counts.{count-lower, total-lower, has-count, has-entry, entry-has, lacks-counts}
 use Rattle.section.proofs.Sorting.{sorted-lower}
-use Rattle.order.specs.Trees.{Tree, words}
-use Rattle.order.specs.Fits.{Fits}
+use Rattle.trees.specs.Trees.{Tree, words}
+use Rattle.trees.specs.Fits.{Fits}
 use Rattle.book.specs.Book.{Book, sectionOf, live, lay}
 use Rattle.book.specs.Sound.{SoundBook}
 use Rattle.book.specs.declared.Section.{Section}
 use Rattle.book.specs.declared.Section.the-variants.{Taught, Tops, Lows, Middles}
 use Rattle.book.proofs.Sound.{form-sound, sound-form}
-use Rattle.teach.proofs.Adds.{each-section, same-books}
+use Rattle.effects.proofs.Adds.{each-section, same-books}
 use Rattle.amend.proofs.Sections.{form-sorted}
 use Rattle.promises.specs.Remaining.{timesOf, booked, HowMany, none-left, one-more, not-this, ExactlyThese}
 use Rattle.promises.proofs.Orders.{Orders, booked-k, booked-form, counts-taught, counts-tops, counts-lows, counts-middles}

@@ -4,11 +4,11 @@ use Prim.Native.Nat.{ℕ}
 use mathlib.Core.List.{List, [], _∷_}
 use lib.ListN.{getD, replicate}
 use Rattle.figures.specs.Limits.{used-word}
-use Rattle.order.specs.Trees.{Tree, node, bare, cons, words}
-use Rattle.order.specs.Answers.{Writing}
+use Rattle.trees.specs.Trees.{Tree, node, bare, cons, words}
+use Rattle.trees.specs.Answers.{Writing}
 use Rattle.book.specs.Opening.{Outcome, outcome, openOf}
-use Rattle.judge.specs.Judging.{judgeOf}
-use Rattle.teach.specs.Calls.{teachOf, withdrawOf}
+use Rattle.verdicts.specs.Judging.{judgeOf}
+use Rattle.effects.specs.Calls.{teachOf, withdrawOf}
 
 -- ---- orders
 

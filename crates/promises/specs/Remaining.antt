@@ -9,15 +9,15 @@ use Rattle.words.specs.Base.{if_then_else_, sameWords, _∈_}
 use Rattle.figures.specs.Numbers.{done}
 use Rattle.figures.specs.Answers.{answered}
 use Rattle.section.specs.Entries.{countOf}
-use Rattle.order.specs.Trees.{Tree, words}
-use Rattle.order.specs.Reading.{byFound, treeOf}
-use Rattle.order.specs.Fits.{IsOrder}
-use Rattle.order.specs.Paper.{IsR, IsL, IsP}
+use Rattle.trees.specs.Trees.{Tree, words}
+use Rattle.trees.specs.Reading.{byFound, treeOf}
+use Rattle.trees.specs.Fits.{IsOrder}
+use Rattle.trees.specs.Paper.{IsR, IsL, IsP}
 use Rattle.book.specs.Book.{Book, live}
 use Rattle.book.specs.Sound.{IsBook}
 use Rattle.book.specs.Taught.{taught, bookOf}
 use Rattle.book.specs.Opening.{Outcome}
-use Rattle.teach.specs.Calls.{teachOf, withdrawOf}
+use Rattle.effects.specs.Calls.{teachOf, withdrawOf}
 
 -- ---- calls
 

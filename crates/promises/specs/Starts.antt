@@ -6,7 +6,7 @@ use lib.ListN.{drop, replicate}
 use Rattle.section.specs.Entries.{Entry}
 use Rattle.book.specs.Decoding.{byBook}
 use Rattle.book.specs.Opening.{Outcome, openOf}
-use Rattle.store.specs.Files.{front-bytes, storedIn, readFileOf}
+use Rattle.files.specs.Files.{front-bytes, storedIn, readFileOf}
 
 -- A run starts with an empty book of some k, or "by reading a file".
 pub data Start : Type 0 where

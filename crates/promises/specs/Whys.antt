@@ -1,6 +1,6 @@
 -- The rows of 01's table that numbering an order, handing out and writing its parts, asking for a k, opening, checking, and reading and
 -- writing a form or a file can answer, by trees, lines and sizes, apart from the tests of their definitions ("Numbers the desk hears"). Those of a
--- book's form are in book/specs/Sound.antt, of judging in judge/specs/Verdicts.antt, of teaching and withdrawing in effects/specs/Whys.antt.
+-- book's form are in book/specs/Sound.antt, of judging in verdicts/specs/Verdicts.antt, of teaching and withdrawing in effects/specs/Whys.antt.
 -- Assumes nothing: these are definitions.
 use Prim.Native.Nat.{ℕ, _+_, _-_, _*_, _≤_, _<_}
 use mathlib.Core.Path.{_≡_}
@@ -13,12 +13,12 @@ use Rattle.figures.specs.Answers.{answered, wrote, refusedAt}
 use Rattle.figures.specs.declared.Answer.{Answer}
 use Rattle.figures.specs.declared.depths.Asked.{Asked}
 use Rattle.figures.specs.declared.depths.Asked.the-variants.{Allowed, Outside}
-use Rattle.order.specs.Trees.{Tree, words, depth, cut, subtrees}
-use Rattle.order.specs.Reading.{found}
-use Rattle.order.specs.Causes.{Cause}
-use Rattle.order.specs.Fits.{IsOrder}
-use Rattle.order.specs.Answers.{lineOf, Writing, writing, refuse, PartWriting, partWriting, noPart, ofKind}
-use Rattle.order.specs.declared.Kind.the-variants.{Low, Middle}
+use Rattle.trees.specs.Trees.{Tree, words, depth, cut, subtrees}
+use Rattle.trees.specs.Reading.{found}
+use Rattle.trees.specs.Causes.{Cause}
+use Rattle.trees.specs.Fits.{IsOrder}
+use Rattle.trees.specs.Answers.{lineOf, Writing, writing, refuse, PartWriting, partWriting, noPart, ofKind}
+use Rattle.trees.specs.declared.Kind.the-variants.{Low, Middle}
 use Rattle.form.specs.Text.{textOf}
 use Rattle.form.specs.Faults.{FirstFault}
 use Rattle.book.specs.Book.{Book, used, encode}
@@ -27,7 +27,7 @@ use Rattle.book.specs.Taught.{emptyBook}
 use Rattle.book.specs.Opening.{Outcome, leave, writeBook}
 use Rattle.book.specs.declared.BookForm.the-variants.{Refused}
 use Rattle.octets.specs.Octets.{bytesOf}
-use Rattle.store.specs.Files.{mark, mark-bytes, version, front-bytes, fileOf}
+use Rattle.files.specs.Files.{mark, mark-bytes, version, front-bytes, fileOf}
 use Rattle.promises.specs.Agreement.{Agrees}
 
 -- ---- orders and their parts

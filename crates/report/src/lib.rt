@@ -1,10 +1,10 @@
-// What the programs that run cases share: what stands on a line of standard input, how a line is said, whether two slices are the same, slices that
-// are filled, what a call did with a lent output, a book that is kept from line to line, and input that is too long. Assumes nothing beyond each
-// function's `requires`.
-pub mod excess;
+// What the program that runs cases is made of, and knows no call: what stands on a line, how a line is said, words that are kept from line to line, what a
+// call did with a lent output, and words as bytes. Assumes nothing beyond each function's `requires`.
 pub mod fill;
 pub mod kept;
 pub mod lent;
 pub mod line;
+pub mod mark;
 pub mod same;
 pub mod say;
+pub mod wide;

@@ -1,4 +1,4 @@
-// What stands on a line of standard input: numbers, words and text, each behind one space.
+// What stands on a line of a file of cases: numbers, words and text, each behind one space. Assumes nothing beyond a function's `requires`.
 use crate::fill;
 ghost use Prim.Native.Nat.{_≤_};
 ghost use lib.ListN.{length};
@@ -46,30 +46,6 @@ pub fn number(digits: &[u8]) -> usize {
     n
 }
 
-// Reads a list of words, each behind one space, to the front of `words`, and answers how many they are, or NONE.
-pub fn words(list: &[u8], words: &mut [u16]) -> usize {
-    let mut at = 0;
-    let mut count = 0;
-    while at < list.len() {
-        if list[at] != b' ' {
-            return NONE;
-        }
-        if words.len() <= count {
-            return NONE;
-        }
-        let from = at + 1;
-        let end = find(list, b' ', from);
-        let word = number(&list[from..end]);
-        if GREATEST < word {
-            return NONE;
-        }
-        words[count] = word as u16;
-        count += 1;
-        at = end;
-    }
-    count
-}
-
 // Lets the last of the first `count` words stand so many times in all, and answers how many words there are then, or NONE.
 fn repeat(words: &mut [u16], count: usize, times: usize) -> usize {
     if count == 0 {
@@ -115,8 +91,9 @@ fn piece(spelt: &[u8], words: &mut [u16], count: usize) -> usize {
     put(spelt, words, count)
 }
 
-// Reads a list as `words` does, in which *N behind a word lets it stand N times in all.
-pub fn runs(list: &[u8], words: &mut [u16]) -> usize {
+// Reads a list of words, each behind one space, to the front of `words`, and answers how many they are, or NONE; *N behind a word lets it stand
+// N times in all.
+pub fn words(list: &[u8], words: &mut [u16]) -> usize {
     let mut at = 0;
     let mut count = 0;
     while at < list.len() {

@@ -1,4 +1,4 @@
-// Whether two lent slices hold the same.
+// Whether two lent slices hold the same. Assumes nothing.
 
 // Whether these are the same words.
 pub fn words(a: &[u16], b: &[u16]) -> bool {

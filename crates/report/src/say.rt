@@ -1,4 +1,5 @@
-// How a line is said on standard output: text, numbers, bytes, words, and trees in the notation of document 000.
+// How a line is said on standard output: text, numbers, bytes, words, and trees in the notation of document 000. Assumes nothing beyond a function's
+// `requires`.
 use figures::Answer;
 use libc::STDOUT_FILENO;
 ghost use Prim.Native.Nat.{_≤_};
@@ -52,12 +53,13 @@ pub fn not_understood() {
     text(b"not understood");
 }
 
-// Says a case and its answer's number, as one line.
-pub fn answer(name: &[u8], number: u16) {
-    text(name);
-    text(b": ");
-    word(number);
-    end();
+// Says whether what came back is the same.
+pub fn came_back(same: bool) {
+    if same {
+        text(b"the same");
+    } else {
+        text(b"not the same");
+    }
 }
 
 // Says an answer: its number and its line.
@@ -104,14 +106,6 @@ pub fn tree(words: &[u16]) {
     }
 }
 
-// Says words with a blank before each.
-pub fn words(words: &[u16]) {
-    for i in 0..words.len() {
-        text(b" ");
-        word(words[i]);
-    }
-}
-
 // The place of the first word other than `word`, at `from` or behind it; the length where there is none.
 fn other(words: &[u16], word: u16, from: usize) -> usize
     requires { ⌜ from ≤ length (now words) ⌝ }
@@ -137,7 +131,7 @@ fn run(n: u16, times: usize) {
     }
 }
 
-// Says words as `words` does, but each run of equal words as one of them and their number.
+// Says words with a blank before each, and each run of equal words as one of them and their number.
 pub fn runs(words: &[u16]) {
     let mut at = 0;
     while at < words.len() {
@@ -151,25 +145,7 @@ pub fn runs(words: &[u16]) {
 // Says every word of a slice as `runs` does, or that it has none.
 pub fn slice(words: &[u16]) {
     if words.len() == 0 {
-        text(b" no words");
+        text(b" none");
     }
     runs(words);
-}
-
-// Says the tree that a call wrote to the front of `out`, by the count that it answered.
-pub fn written(out: &[u16], count: usize) {
-    if out.len() < count {
-        text(b"more than was lent");
-        return;
-    }
-    tree(&out[0..count]);
-}
-
-// Says the words of `out` that stand behind those that a call wrote, if there are any.
-pub fn behind(out: &[u16], count: usize) {
-    if out.len() <= count {
-        return;
-    }
-    text(b", then");
-    words(&out[count..]);
 }

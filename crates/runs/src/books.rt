@@ -1,44 +1,22 @@
-// What `open`, `in_form` and `judge` of books answer to the case on a line of standard input:
-//   open ROOM K            a book of that k is opened in a slice of so many words
-//   form W W ..            the words are looked at as a book
-//   judge W W .. / W W ..  the order behind the stroke is judged by the book before it; more orders may stand behind strokes of their own
-// In the last two, *N behind a word lets it stand N times in all.
+// What comes of a case of books:
+//   form W W ..       the words are looked at as a book
+//   open ROOM K       a book of that k is opened in a slice of so many words, each 9 before, and is the kept book from now on
+//   lay W W ..        the kept book is these words from now on
+//   teach W W ..      the order of these words is taught to the kept book
+//   withdraw W W ..   the order of these words is withdrawn from it
+//   ask W W ..        the order of these words is judged by it
+//   agrees            it is checked to agree with itself
+//   show              says every word of it
+// Each call on the kept book says its answer, word 1 of the book and a mark of all the words of its slice.
 use book::BookForm;
 use book::Places;
+use figures::Answer;
+use report::fill;
 use report::kept;
-use report::kept::BEFORE;
-use report::kept::MOST_WORDS;
-use report::line;
+use report::mark;
 use report::same;
 use report::say;
-
-// Opens a book in a slice, and says the answer and every word of the slice.
-fn open_in(slice: &mut [u16], k: u16) {
-    say::heard(book::open(slice, k));
-    say::text(b":");
-    say::slice(slice);
-}
-
-// Runs a case of `open`, by its room and its k.
-fn open_room(room: u16, k: u16) {
-    let end = room as usize;
-    let mut slice = [BEFORE; MOST_WORDS];
-    if slice.len() < end {
-        say::not_understood();
-        return;
-    }
-    open_in(&mut slice[0..end], k);
-}
-
-// Runs a case of `open`, by the rest of its line.
-fn open(rest: &[u8]) {
-    let mut asked = [0u16; 2];
-    if line::words(rest, &mut asked) != 2 {
-        say::not_understood();
-        return;
-    }
-    open_room(asked[0], asked[1]);
-}
+use report::wide;
 
 // Says the k of a book, the places where its sections R, L and P start, and its words used.
 fn places(places: Places) {
@@ -56,7 +34,7 @@ fn places(places: Places) {
 }
 
 // Says what a look at a book's form gave.
-fn say_form(form: BookForm) {
+fn form(form: BookForm) {
     match form {
         BookForm::Refused(number) => {
             say::text(b"refused ");
@@ -66,89 +44,108 @@ fn say_form(form: BookForm) {
     }
 }
 
-// Runs a case of `form`, by the rest of its line.
-fn form(rest: &[u8]) {
-    let mut words = [0u16; MOST_WORDS];
-    let n = line::runs(rest, &mut words);
-    if words.len() < n {
+// Says word 1 of a book, which has its words used, or 0 where there is no such word, and the mark of all its words.
+fn state(book: &[u16]) {
+    let mut used = 0;
+    if 1 < book.len() {
+        used = book[1];
+    }
+    say::word(used);
+    say::text(b" used, mark ");
+    say::count(mark::of(book) as usize);
+}
+
+// Says what a call on a book answered, and how the book stands then.
+fn heard(answer: Answer, book: &[u16]) {
+    say::heard(answer);
+    say::text(b", ");
+    state(book);
+}
+
+// Opens a book in a slice of so many words, which is kept from now on, and says the answer and every word of the slice.
+fn open(given: &[u16], held: &mut [u16]) {
+    if given.len() != 2 {
         say::not_understood();
         return;
     }
-    say_form(look::in_form(&words[0..n]));
-}
-
-// A list without the space behind it, where there is one.
-fn trimmed(list: &[u8]) -> &[u8] {
-    let n = list.len();
-    if n == 0 {
-        return list;
-    }
-    let end = n - 1;
-    if list[end] == b' ' {
-        return &list[0..end];
-    }
-    list
-}
-
-// Judges an order by a book, and says the answer.
-fn judge_one(book: &[u16], list: &[u8]) {
-    let mut order = [0u16; kept::MOST_ORDER];
-    let n = line::runs(trimmed(list), &mut order);
-    if order.len() < n {
+    let room = given[0];
+    let end = 1 + wide::number(room);
+    if held.len() < end {
         say::not_understood();
         return;
     }
-    say::heard(judge::judge(book, &order[0..n]));
+    held[0] = room;
+    fill::words(&mut held[1..end], kept::BEFORE);
+    say::heard(book::open(&mut held[1..end], given[1]));
+    say::text(b":");
+    say::slice(&held[1..end]);
 }
 
-// Judges orders by a book, each behind a stroke.
-fn judge_each(book: &[u16], lists: &[u8]) {
-    let mut at = 0;
-    while at < lists.len() {
-        let from = at + 1;
-        let end = line::find(lists, b'/', from);
-        judge_one(book, &lists[from..end]);
-        if end < lists.len() {
-            say::text(b"; ");
-        }
-        at = end;
-    }
-}
-
-// Runs a case of `judge`, by the list of the book's words and what stands from the first stroke on.
-fn judge_by(list: &[u8], behind: &[u8]) {
-    let mut words = [0u16; MOST_WORDS];
-    let n = line::runs(trimmed(list), &mut words);
-    if words.len() < n {
+// Keeps words as a book, and says how many they are and how it stands.
+fn lay(given: &[u16], held: &mut [u16]) {
+    if !kept::put(given, 0, held) {
         say::not_understood();
         return;
     }
-    judge_each(&words[0..n], behind);
+    say::count(given.len());
+    say::text(b" words, ");
+    state(given);
 }
 
-// Runs a case of `judge`, by the rest of its line.
-fn judge(rest: &[u8]) {
-    let stroke = line::find(rest, b'/', 0);
-    if rest.len() <= stroke {
-        say::not_understood();
-        return;
+// Makes a call on a book, by its kind and the order that it is given, and answers whether it is one.
+fn call(kind: &[u8], order: &[u16], book: &mut [u16]) -> bool {
+    if same::bytes(kind, b"teach") {
+        heard(teach::teach(book, order), book);
+        return true;
     }
-    judge_by(&rest[0..stroke], &rest[stroke..]);
+    if same::bytes(kind, b"withdraw") {
+        heard(teach::withdraw(book, order), book);
+        return true;
+    }
+    if same::bytes(kind, b"ask") {
+        heard(judge::judge(book, order), book);
+        return true;
+    }
+    if order.len() != 0 {
+        return false;
+    }
+    if same::bytes(kind, b"agrees") {
+        heard(agree::check(book), book);
+        return true;
+    }
+    if same::bytes(kind, b"show") {
+        say::text(b"words:");
+        say::slice(book);
+        return true;
+    }
+    false
 }
 
-// Runs a case of books, by its kind and what stands behind that.
-pub fn case(kind: &[u8], behind: &[u8]) {
-    if same::bytes(kind, b"open") {
-        open(behind);
-        return;
+// Makes a call on the kept book, by what holds it, and answers whether it is one.
+fn on_kept(kind: &[u8], given: &[u16], held: &mut [u16]) -> bool {
+    if held.len() == 0 {
+        return false;
     }
+    let end = 1 + wide::number(held[0]);
+    if held.len() < end {
+        return false;
+    }
+    call(kind, given, &mut held[1..end])
+}
+
+// Runs a case of books, by its kind and what it is given, and answers whether it is one.
+pub fn case(kind: &[u8], given: &[u16], held: &mut [u16]) -> bool {
     if same::bytes(kind, b"form") {
-        form(behind);
-        return;
+        form(look::in_form(given));
+        return true;
     }
-    if same::bytes(kind, b"judge") {
-        judge(behind);
-        return;
+    if same::bytes(kind, b"open") {
+        open(given, held);
+        return true;
     }
-    say::not_understood();
+    if same::bytes(kind, b"lay") {
+        lay(given, held);
+        return true;
+    }
+    on_kept(kind, given, held)
 }

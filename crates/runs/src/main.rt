@@ -1,36 +1,16 @@
-// Runs the crates `order`, `cuts`, `parts`, `form`, `print`, `book`, `look`, `judge`, `teach` and `agree` on the cases that 01 wants run and
-// compared. The cases of orders are said in one line each; those of forms and books are lines of `stdin`, each said with what came of it behind
-// it. `stdout` has what is said.
+// Runs cases through the compiled code, and says what came of each. Cases are data: `args` names the files of the folder `data` that are run, one after the
+// other. A file of the folder `desk` is an input of the program `desk`, and is run as that program runs it; every other file has a case on each line. `stdout`
+// has what is said: the name of each file, and below it the desk's lines, or each line with what came of it. Assumes what the kit assumes of C's functions.
 mod books;
 mod cases;
-mod depths;
-mod examples;
 mod forms;
 mod input;
-mod subtrees;
-mod trees;
-mod trips;
+mod orders;
+mod stored;
 
-// Runs the groups of cases of orders in turn.
-fn orders() {
-    cases::depths();
-    cases::sizes();
-    cases::children();
-    cases::lengths();
-    cases::codes();
-    cases::shapes();
-    cases::ks();
-    examples::first();
-    examples::second();
-    examples::third();
-    subtrees::lines();
-    subtrees::refused();
-    depths::all();
-    depths::short();
-}
-
-// Runs the cases of orders, and then those of forms and books, which stand on standard input.
+// Runs each file that the arguments name.
 fn main() {
-    orders();
-    input::run();
+    for i in 1..os::arg_count() {
+        input::argument(i);
+    }
 }

@@ -3,7 +3,7 @@ ghost use mathlib.Core.Path.{_≡_};
 ghost use Prim.Native.Nat.{_≤_};
 ghost use lib.ListN.{length, drop};
 ghost use Rattle.figures.specs.Limits.{most-words};
-ghost use Rattle.order.specs.Answers.{writing};
+ghost use Rattle.trees.specs.Answers.{writing};
 ghost use Rattle.form.specs.Reading.{formOf, readOf};
 ghost use Rattle.form.specs.Turns.{follows, nextOf, Parent, mayAdopt, adopted, Parents, underParent, countedIn, Got};
 use figures::Written;

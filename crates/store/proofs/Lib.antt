@@ -1,5 +1,2 @@
--- What the proofs of several functions, and those of other crates, use.
-pub mod Stored
+-- What the proof of writing a file, and those of other crates, use.
 pub mod Writing
-pub mod Restoring
-pub mod Reading

@@ -14,7 +14,7 @@ use Rattle.figures.specs.declared.Answer.{Answer}
 use Rattle.figures.specs.declared.Written.{Written}
 use Rattle.octets.specs.Octets.{bytesOf}
 use Rattle.octets.proofs.Bytes.{bytes-long}
-use Rattle.order.specs.Answers.{writing, refuse, write}
+use Rattle.trees.specs.Answers.{writing, refuse, write}
 use Rattle.book.specs.Book.{Book, used, encode, lay}
 use Rattle.book.specs.Decoding.{bookFormOf}
 use Rattle.book.specs.Sound.{IsBook, WhyForm, shorter, longer, formless, book}
@@ -25,7 +25,7 @@ use Rattle.book.proofs.Holding.{refused-book}
 use Rattle.book.proofs.Sound.{on-any, why-is, head-says, encode-length}
 use Rattle.agree.specs.Checking.{checkOf}
 use Rattle.agree.proofs.Checking.{check-unheld, check-held}
-use Rattle.store.specs.Files.{mark, version, front-bytes, fileOf, writeFileOf}
+use Rattle.files.specs.Files.{mark, version, front-bytes, fileOf, writeFileOf}
 
 -- ---- the front of a file
 

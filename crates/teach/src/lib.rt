@@ -3,7 +3,7 @@
 ghost use mathlib.Core.Path.{_≡_};
 ghost use Rattle.book.specs.Holding.{Holds};
 ghost use Rattle.book.specs.Opening.{outcome};
-ghost use Rattle.teach.specs.Calls.{teachOf, withdrawOf};
+ghost use Rattle.effects.specs.Calls.{teachOf, withdrawOf};
 use amend::Change;
 use amend::Lacking;
 use book::BookForm;
@@ -25,7 +25,7 @@ fn teach_order(book: &mut [u16], places: Places, order: &[u16]) -> Answer
         return answered(number);
     }
     if book[limits::LIVE_WORD] == limits::GREATEST_COUNT {
-        return answered(numbers::TOO_MANY);
+        return answered(numbers::TOO_MANY); // one teaching more would pass 65,535
     }
     let mut own = [0u16; own::OWN_WORDS];
     let owns = own::list_own(order, &levels, places.k, &mut own);

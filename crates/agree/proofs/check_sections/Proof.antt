@@ -18,7 +18,7 @@ use Rattle.book.specs.declared.Section.the-variants.{Tops, Lows, Middles}
 use Rattle.book.specs.declared.Places.{Places}
 use Rattle.book.proofs.Sound.{held-book}
 use Rattle.own.specs.Own.{list-words}
-use Rattle.teach.proofs.Outcomes.{all-zeros}
+use Rattle.effects.proofs.Outcomes.{all-zeros}
 use Rattle.agree.specs.Checking.{checkOf}
 use Rattle.agree.specs.Tallies.{agreeingIn}
 use Rattle.agree.proofs.Checking.{check-held}

@@ -14,8 +14,8 @@ use Rattle.section.proofs.Words.{words-entries, words-span}
 use Rattle.changes.specs.Editing.{padded}
 use Rattle.changes.specs.declared.Size.{Size}
 use Rattle.tally.specs.Tallying.{listed, Few, hasAll, tallied}
-use Rattle.order.specs.Reading.{causeOf}
-use Rattle.order.specs.Levels.{LinesLevelled}
+use Rattle.trees.specs.Reading.{causeOf}
+use Rattle.trees.specs.Levels.{LinesLevelled}
 use Rattle.own.specs.Own.{sizeOf}
 use Rattle.agree.specs.Tallies.{partsIn}
 use Rattle.agree.proofs.Counting.{parts-sorted, parts-even}

@@ -15,14 +15,14 @@ use Rattle.section.specs.Entries.{Entry, width, firstEntry, entries, span}
 use Rattle.section.proofs.Words.{span-step, entries-step, past-at, span-at}
 use Rattle.tally.specs.Tallying.{listed, Few, hasAll, tallied}
 use Rattle.tally.proofs.Tallies.{tallied-least}
-use Rattle.order.specs.Reading.{causeOf}
+use Rattle.trees.specs.Reading.{causeOf}
 use Rattle.book.specs.Decoding.{bookIn}
 use Rattle.book.specs.Holding.{Holds}
 use Rattle.book.specs.declared.Section.{Section}
 use Rattle.book.specs.declared.Section.the-variants.{Taught}
 use Rattle.book.specs.declared.Places.{Places}
 use Rattle.own.specs.Own.{list-words}
-use Rattle.teach.proofs.Outcomes.{least}
+use Rattle.effects.proofs.Outcomes.{least}
 use Rattle.agree.specs.Tallies.{partsIn, allKnown, talliedAll}
 use Rattle.agree.proofs.Counting.{taught-cause}
 use Rattle.agree.proofs.tally_taught.Statement.{statement}

@@ -9,9 +9,9 @@ use borrow.Author.Needs.{needs}
 use borrow.Fn.Kinds.{In}
 use borrow.Fn.PlainCycle.{Measures, is, falls, and}
 use Rattle.words.specs.Base.{over}
-use Rattle.order.specs.Reading.{readTrees}
-use Rattle.order.specs.Walks.{walkOf, cutOf, Room, laidOf}
-use Rattle.order.proofs.Cuts.{Left, room-head, room-cut, put-zero, laid-zero, put-start, Child, child-room, child, put-done, over-set}
+use Rattle.trees.specs.Reading.{readTrees}
+use Rattle.trees.specs.Walks.{walkOf, cutOf, Room, laidOf}
+use Rattle.trees.proofs.Cuts.{Left, room-head, room-cut, put-zero, laid-zero, put-start, Child, child-room, child, put-done, over-set}
 use Rattle.cuts.proofs.put.Reads as put
 use Rattle.cuts.proofs.put.Kinds as put-kinds
 use Rattle.cuts.proofs.+put.Lts-put as lts

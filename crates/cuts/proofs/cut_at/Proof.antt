@@ -3,9 +3,9 @@ use mathlib.Core.Path.{sym, subst, _∙_}
 use native.Mathlib.Omega.{arith}
 use lib.ListN.{length}
 use borrow.Author.Needs.{needs}
-use Rattle.order.specs.Walks.{Room}
-use Rattle.order.specs.declared.Walked.{Walked}
-use Rattle.order.proofs.Cuts.{cut-length, no-words, no-output-room, has-room}
+use Rattle.trees.specs.Walks.{Room}
+use Rattle.trees.specs.declared.Walked.{Walked}
+use Rattle.trees.proofs.Cuts.{cut-length, no-words, no-output-room, has-room}
 use Rattle.cuts.proofs.cut_at.Statement.{statement}
 use Rattle.cuts.proofs.cut_at.Tie as tie
 

@@ -1,10 +1,10 @@
 -- `cuts::cut_into` meets its contract, by where the line stands. Assumes nothing.
 use mathlib.Core.Path.{ap, sym, _∙_}
 use borrow.Author.Needs.{needs}
-use Rattle.order.specs.Answers.{writing}
+use Rattle.trees.specs.Answers.{writing}
 use Rattle.figures.specs.declared.Written.{Written}
-use Rattle.order.proofs.Lines.{placed}
-use Rattle.order.proofs.Answers.{cut-refused, cut-lacks, cut-has}
+use Rattle.trees.proofs.Lines.{placed}
+use Rattle.trees.proofs.Answers.{cut-refused, cut-lacks, cut-has}
 use Rattle.cuts.proofs.cut_into.Statement.{statement}
 use Rattle.cuts.proofs.cut_into.Tie as tie
 

@@ -2,9 +2,9 @@
 use mathlib.Core.Path.{_≡_, ap, sym, _∙_}
 use borrow.Author.Needs.{needs}
 use Rattle.figures.specs.Numbers.{done}
-use Rattle.order.specs.Reading.{causeOf}
-use Rattle.order.specs.declared.Place.the-variants.{Refused}
-use Rattle.order.proofs.Lines.{place-refused, place-none, place-past, place-at}
+use Rattle.trees.specs.Reading.{causeOf}
+use Rattle.trees.specs.declared.Place.the-variants.{Refused}
+use Rattle.trees.proofs.Lines.{place-refused, place-none, place-past, place-at}
 use Rattle.cuts.proofs.find_line.Statement.{statement}
 use Rattle.cuts.proofs.find_line.Tie as tie
 

@@ -1,7 +1,7 @@
 -- `cuts::line_end` meets its contract: the walk's end. Assumes nothing.
 use mathlib.Core.Path.{ap, sym, _∙_}
 use borrow.Author.Needs.{needs}
-use Rattle.order.specs.Walks.{endOf}
+use Rattle.trees.specs.Walks.{endOf}
 use Rattle.cuts.proofs.line_end.Statement.{statement}
 use Rattle.cuts.proofs.line_end.Tie as tie
 

@@ -1,7 +1,7 @@
 -- `cuts::past` meets its contract: the walk's end, or 0 where it breaks. Assumes nothing.
 use mathlib.Core.Path.{ap, sym, _∙_}
 use borrow.Author.Needs.{needs}
-use Rattle.order.specs.Walks.{endOf}
+use Rattle.trees.specs.Walks.{endOf}
 use Rattle.cuts.proofs.past.Statement.{statement}
 use Rattle.cuts.proofs.past.Tie as tie
 

@@ -8,8 +8,8 @@ use native.Mathlib.Omega.{arith}
 use lib.ListN.{length, getD, set, length-set}
 use borrow.Author.Needs.{needs}
 use Rattle.words.specs.Base.{over}
-use Rattle.order.specs.Walks.{cutOf}
-use Rattle.order.proofs.Cuts.{over-set, room-cut}
+use Rattle.trees.specs.Walks.{cutOf}
+use Rattle.trees.proofs.Cuts.{over-set, room-cut}
 use Rattle.cuts.proofs.ByLevels.{Known, level-small}
 use Rattle.cuts.proofs.LinesPut.{Putting, top-room, put-start, next-room, put-within, put-gone, put-low, put-all, put-length}
 use Rattle.cuts.proofs.put_line.Statement.{statement}

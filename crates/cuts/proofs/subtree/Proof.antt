@@ -4,9 +4,9 @@ use mathlib.Core.Path.{_≡_, ap, sym, _∙_}
 use native.Mathlib.Omega.{arith}
 use lib.ListN.{length}
 use borrow.Author.Needs.{needs}
-use Rattle.order.specs.Walks.{walkOf, endOf}
-use Rattle.order.proofs.Lines.{HasLine, placed, StandsAt, stands-at}
-use Rattle.order.proofs.Answers.{subtree-refused, subtree-lacks, subtree-within, subtree-has}
+use Rattle.trees.specs.Walks.{walkOf, endOf}
+use Rattle.trees.proofs.Lines.{HasLine, placed, StandsAt, stands-at}
+use Rattle.trees.proofs.Answers.{subtree-refused, subtree-lacks, subtree-within, subtree-has}
 use Rattle.cuts.proofs.subtree.Statement.{statement}
 use Rattle.cuts.proofs.subtree.Tie as tie
 

@@ -6,7 +6,7 @@ use native.Mathlib.Omega.{arith}
 use borrow.Author.Needs.{needs}
 use lib.ListN.{length, take, drop}
 use Rattle.words.specs.Compare.{compareOf}
-use Rattle.judge.proofs.Spellings.{in-order, in-cut}
+use Rattle.verdicts.proofs.Spellings.{in-order, in-cut}
 use Rattle.judge.proofs.against.Statement.{statement}
 use Rattle.judge.proofs.against.Tie as tie
 

@@ -10,8 +10,8 @@ use Rattle.section.specs.Entries.{entries, span, has, Sorted}
 use Rattle.section.proofs.Words.{span-at}
 use Rattle.section.proofs.Searches.{sorted-past, has-past, has-here, has-not, has-none}
 use Rattle.book.specs.Decoding.{bookIn}
-use Rattle.judge.specs.Seeking.{lineUnknown, keyOf}
-use Rattle.judge.proofs.Rounds.{unknownFrom, from-first, from-last, from-known, from-unknown}
+use Rattle.verdicts.specs.Seeking.{lineUnknown, keyOf}
+use Rattle.verdicts.proofs.Rounds.{unknownFrom, from-first, from-last, from-known, from-unknown}
 use Rattle.judge.proofs.first_unknown.Statement.{statement}
 use Rattle.judge.proofs.first_unknown.Tie as tie
 

@@ -7,12 +7,12 @@ use lib.ListN.{length}
 use Rattle.figures.specs.Limits.{most-nodes}
 use Rattle.figures.specs.Numbers.{done}
 use Rattle.figures.specs.Answers.{answered}
-use Rattle.order.specs.Reading.{causeOf}
-use Rattle.order.specs.Levels.{LinesLevelled}
-use Rattle.order.proofs.Causes.{has-tree}
+use Rattle.trees.specs.Reading.{causeOf}
+use Rattle.trees.specs.Levels.{LinesLevelled}
+use Rattle.trees.proofs.Causes.{has-tree}
 use Rattle.book.specs.Decoding.{bookIn}
-use Rattle.judge.specs.Seeking.{lineAnswer}
-use Rattle.judge.proofs.Judgements.{line-within, judge-refused, judge-top, judge-lines}
+use Rattle.verdicts.specs.Seeking.{lineAnswer}
+use Rattle.verdicts.proofs.Judgements.{line-within, judge-refused, judge-top, judge-lines}
 use Rattle.judge.proofs.judge_order.Statement.{statement}
 use Rattle.judge.proofs.judge_order.Tie as tie
 

@@ -2,7 +2,7 @@
 use mathlib.Core.Path.{sym, _∙_}
 use native.Mathlib.Omega.{arith}
 use borrow.Author.Needs.{needs}
-use Rattle.judge.proofs.LineAnswers.{no-line, some-line}
+use Rattle.verdicts.proofs.LineAnswers.{no-line, some-line}
 use Rattle.judge.proofs.line_answer.Statement.{statement}
 use Rattle.judge.proofs.line_answer.Tie as tie
 

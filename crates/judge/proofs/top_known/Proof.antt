@@ -5,13 +5,13 @@ use native.Mathlib.Omega.{arith}
 use borrow.Author.Needs.{needs}
 use lib.ListN.{take, drop}
 use Rattle.figures.specs.Limits.{most-words}
-use Rattle.order.specs.Trees.{words}
-use Rattle.order.specs.Parts.{top}
-use Rattle.order.proofs.Causes.{HasTree, has-tree}
+use Rattle.trees.specs.Trees.{words}
+use Rattle.trees.specs.Parts.{top}
+use Rattle.trees.proofs.Causes.{HasTree, has-tree}
 use Rattle.book.specs.declared.Section.the-variants.{Tops}
-use Rattle.judge.proofs.Tops.{top-count, top-key, top-there, top-lacking}
-use Rattle.order.proofs.Orders.{some-lines}
-use Rattle.order.proofs.Spots.{two-words-a-line, top-room}
+use Rattle.verdicts.proofs.Tops.{top-count, top-key, top-there, top-lacking}
+use Rattle.trees.proofs.Orders.{some-lines}
+use Rattle.trees.proofs.Spots.{two-words-a-line, top-room}
 use Rattle.judge.proofs.top_known.Statement.{statement}
 use Rattle.judge.proofs.top_known.Tie as tie
 

@@ -4,7 +4,7 @@ use mathlib.Core.Path.{_≡_, sym, ap, _∙_}
 use native.Mathlib.Omega.{arith}
 use lib.ListN.{length}
 use Rattle.figures.specs.Limits.{most-words}
-use Rattle.order.specs.Answers.{subtreeOf}
+use Rattle.trees.specs.Answers.{subtreeOf}
 use Rattle.ofb.specs.declared.OfbPart.{OfbPart}
 use Rattle.ofb.proofs.Parts.{subtree-within, part-none, part-some}
 use borrow.Author.Needs.{needs}

@@ -8,17 +8,17 @@ use borrow.Author.Needs.{needs}
 use borrow.Author.Tests.{not-true, not-false}
 use borrow.Fn.Kinds.{In}
 use borrow.Fn.PlainCycle.{Measures, is, falls, and}
-use Rattle.order.specs.Reading.{readTrees}
-use Rattle.order.specs.Walks.{walkOf}
-use Rattle.order.specs.declared.Walked.the-variants.{Whole}
-use Rattle.order.proofs.Walks.{rest, short, no-node, start, Step, step-by, none-left}
+use Rattle.trees.specs.Reading.{readTrees}
+use Rattle.trees.specs.Walks.{walkOf}
+use Rattle.trees.specs.declared.Walked.the-variants.{Whole}
+use Rattle.trees.proofs.Walks.{rest, short, no-node, start, Step, step-by, none-left}
 use Rattle.order.proofs.walk.Reads as walk
 use Rattle.order.proofs.walk.Kinds as walk-kinds
 use Rattle.order.proofs.+walk.Lts-walk as lts
 use Rattle.order.proofs.below.Reads as below-reads
 use Rattle.order.proofs.deeper.Reads as deeper-reads
 use Rattle.order.proofs.kept.Reads as kept-reads
-use Rattle.order.proofs.node_ok.Reads as node-ok-reads
+use Rattle.figures.proofs.nodes.node_ok.Reads as node-ok-reads
 use Rattle.order.proofs.+walk.{statement}
 use Rattle.order.proofs.+walk.Tie.{close}
 

@@ -2,7 +2,7 @@
 use mathlib.Core.Path.{sym}
 use native.Mathlib.Omega.{arith}
 use borrow.Author.Needs.{needs}
-use Rattle.order.proofs.Orders.{Sized, cause-missing, cause-deep, cause-none, from-top}
+use Rattle.trees.proofs.Orders.{Sized, cause-missing, cause-deep, cause-none, from-top}
 use Rattle.order.proofs.cause_by_walk.Statement.{statement}
 use Rattle.order.proofs.cause_by_walk.Tie as tie
 

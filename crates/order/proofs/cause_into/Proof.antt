@@ -2,8 +2,8 @@
 use mathlib.Core.Path.{sym, _∙_}
 use native.Mathlib.Omega.{arith}
 use borrow.Author.Needs.{needs}
-use Rattle.order.proofs.Orders.{Sized, cause-empty, cause-odd, cause-long, cause-none}
-use Rattle.order.proofs.Deep.{deep-found, lines-levelled}
+use Rattle.trees.proofs.Orders.{Sized, cause-empty, cause-odd, cause-long, cause-none}
+use Rattle.trees.proofs.Deep.{deep-found, lines-levelled}
 use Rattle.order.proofs.cause_into.Statement.{statement}
 use Rattle.order.proofs.cause_into.Tie as tie
 

@@ -1,6 +1,6 @@
 -- `order::check` meets its contract: the cause, with line 0. Assumes nothing.
 use borrow.Author.Needs.{needs}
-use Rattle.order.specs.Answers.{checkOf}
+use Rattle.trees.specs.Answers.{checkOf}
 use Rattle.order.proofs.check.Statement.{statement}
 use Rattle.order.proofs.check.Tie as tie
 

@@ -1,7 +1,7 @@
 -- `order::ended` meets its contract: the test decides whether the lines are all of them. Assumes nothing.
 use borrow.Author.Tests.{le-leb, lt-leb}
 use Rattle.words.specs.Base.{if_then_else_}
-use Rattle.order.specs.Levels.{endedOf}
+use Rattle.trees.specs.Levels.{endedOf}
 use Rattle.order.proofs.ended.Statement.{statement}
 use Rattle.order.proofs.ended.Tie as tie
 

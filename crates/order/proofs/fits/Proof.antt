@@ -1,7 +1,7 @@
 -- `order::fits` meets its contract: the lines come to a tree within the greatest depth, of which the least depth decides. Assumes nothing.
 use mathlib.Core.Path.{refl, sym, _∙_}
 use borrow.Author.Needs.{needs}
-use Rattle.order.proofs.Fitting.{fits-long, fits-broken, fits-deep}
+use Rattle.trees.proofs.Fitting.{fits-long, fits-broken, fits-deep}
 use Rattle.order.proofs.fits.Statement.{statement}
 use Rattle.order.proofs.fits.Tie as tie
 

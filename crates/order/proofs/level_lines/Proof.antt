@@ -7,8 +7,8 @@ use lib.ListN.{length, getD, set, length-set}
 use borrow.Author.Needs.{needs}
 use borrow.Author.Tests.{not-true, not-false}
 use Rattle.figures.specs.Limits.{most-nodes, greatest-depth}
-use Rattle.order.proofs.Levelling.{Levelling, Behind, levelling-first, words-out, no-node-next, node-next, below-of, below-deep}
-use Rattle.order.proofs.Levelling.{leaf-beside, up-to, leaf-next, leaf-last, told-broken, told-none, told-last}
+use Rattle.trees.proofs.Levelling.{Levelling, Behind, levelling-first, words-out, no-node-next, node-next, below-of, below-deep}
+use Rattle.trees.proofs.Levelling.{leaf-beside, up-to, leaf-next, leaf-last, told-broken, told-none, told-last}
 use Rattle.order.proofs.level_lines.Statement.{statement}
 use Rattle.order.proofs.level_lines.Tie as tie
 

@@ -2,7 +2,7 @@
 use mathlib.Core.Path.{refl}
 use native.Mathlib.Omega.{arith}
 use borrow.Author.Needs.{needs}
-use Rattle.order.proofs.Rows.{Settling, some-left, settled-here, settling-up, settled-top}
+use Rattle.trees.proofs.Rows.{Settling, some-left, settled-here, settling-up, settled-top}
 use Rattle.order.proofs.settle.Statement.{statement}
 use Rattle.order.proofs.settle.Tie as tie
 

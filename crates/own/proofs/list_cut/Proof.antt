@@ -7,7 +7,7 @@ use borrow.Author.Needs.{needs}
 use Rattle.section.specs.Entries.{counted, entryWords}
 use Rattle.changes.specs.Editing.{padded}
 use Rattle.changes.specs.declared.Size.{Size}
-use Rattle.order.specs.Walks.{cutOf}
+use Rattle.trees.specs.Walks.{cutOf}
 use Rattle.own.proofs.Owning.{one-words, one-long, over-zeros, first-line, whole-short}
 use Rattle.own.proofs.list_cut.Statement.{statement}
 use Rattle.own.proofs.list_cut.Tie as tie

@@ -11,7 +11,7 @@ use Rattle.figures.specs.Limits.{greatest-depth, head-words}
 use Rattle.section.specs.Entries.{counted, entryWords, sectionWords}
 use Rattle.changes.specs.declared.Size.{Size}
 use Rattle.changes.proofs.Relaying.{length-size}
-use Rattle.order.specs.Walks.{cutOf}
+use Rattle.trees.specs.Walks.{cutOf}
 use Rattle.book.specs.Book.{lay}
 use Rattle.book.specs.Decoding.{placesOf}
 use Rattle.own.specs.Own.{entry-words, own-words, partLines, listOf}

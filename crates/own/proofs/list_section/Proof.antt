@@ -9,7 +9,7 @@ use borrow.Author.Needs.{needs}
 use Rattle.figures.specs.Limits.{greatest-depth}
 use Rattle.section.specs.Entries.{Entry, counted, sectionWords}
 use Rattle.changes.specs.Editing.{padded}
-use Rattle.order.specs.Walks.{cutOf}
+use Rattle.trees.specs.Walks.{cutOf}
 use Rattle.book.specs.Book.{Book, sectionOf}
 use Rattle.book.specs.declared.Section.{Section}
 use Rattle.book.specs.declared.Section.the-variants.{Taught, Tops, Lows, Middles}

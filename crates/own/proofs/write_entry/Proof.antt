@@ -9,12 +9,12 @@ use borrow.Author.Needs.{needs}
 use Rattle.words.specs.Base.{over}
 use Rattle.figures.specs.Limits.{most-words}
 use Rattle.section.specs.Entries.{counted, entryWords}
-use Rattle.order.specs.Walks.{walkOf, cutOf, Room, cutLength}
-use Rattle.order.specs.declared.Laid.{Laid}
-use Rattle.order.specs.declared.Walked.{Walked}
-use Rattle.order.specs.declared.Walked.the-variants.{Broken, Whole}
-use Rattle.order.proofs.Cuts.{room-cut, set-two, part-back}
-use Rattle.order.proofs.Spots.{line-at, short-order, cut-room}
+use Rattle.trees.specs.Walks.{walkOf, cutOf, Room, cutLength}
+use Rattle.trees.specs.declared.Laid.{Laid}
+use Rattle.trees.specs.declared.Walked.{Walked}
+use Rattle.trees.specs.declared.Walked.the-variants.{Broken, Whole}
+use Rattle.trees.proofs.Cuts.{room-cut, set-two, part-back}
+use Rattle.trees.proofs.Spots.{line-at, short-order, cut-room}
 use Rattle.own.proofs.write_entry.Statement.{statement}
 use Rattle.own.proofs.write_entry.Tie as tie
 

@@ -1,7 +1,7 @@
 -- `parts::kind_at` meets its contract, by the cases of the part. Assumes nothing.
 use mathlib.Core.Path.{ap, sym, _∙_}
 use borrow.Author.Needs.{needs}
-use Rattle.order.specs.Walks.{kindOf}
+use Rattle.trees.specs.Walks.{kindOf}
 use Rattle.parts.proofs.kind_at.Statement.{statement}
 use Rattle.parts.proofs.kind_at.Tie as tie
 

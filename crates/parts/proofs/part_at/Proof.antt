@@ -1,7 +1,7 @@
 -- `parts::part_at` meets its contract, by what the walk found and the test of its depth. Assumes nothing.
 use mathlib.Core.Path.{refl, sym}
 use borrow.Author.Needs.{needs}
-use Rattle.order.proofs.PartsAt.{part-long, part-broken, part-low, part-middle}
+use Rattle.trees.proofs.PartsAt.{part-long, part-broken, part-low, part-middle}
 use Rattle.parts.proofs.part_at.Statement.{statement}
 use Rattle.parts.proofs.part_at.Tie as tie
 

@@ -2,11 +2,11 @@
 use mathlib.Core.Path.{ap, ap₂, sym, _∙_}
 use Prim.Native.Nat.{ℕ}
 use borrow.Author.Needs.{needs}
-use Rattle.order.specs.Walks.{cutOf}
-use Rattle.order.specs.Answers.{write, partWriting, ofKind}
-use Rattle.order.specs.declared.PartWritten.{PartWritten}
-use Rattle.order.proofs.Lines.{placed}
-use Rattle.order.proofs.Answers.{part-refused, part-lacks, part-has}
+use Rattle.trees.specs.Walks.{cutOf}
+use Rattle.trees.specs.Answers.{write, partWriting, ofKind}
+use Rattle.trees.specs.declared.PartWritten.{PartWritten}
+use Rattle.trees.proofs.Lines.{placed}
+use Rattle.trees.proofs.Answers.{part-refused, part-lacks, part-has}
 use Rattle.parts.proofs.part_into.Statement.{statement}
 use Rattle.parts.proofs.part_into.Tie as tie
 

@@ -4,8 +4,8 @@ use mathlib.Core.Path.{refl, sym}
 use lib.ListN.{length}
 use borrow.Author.Needs.{needs}
 use Rattle.figures.specs.Limits.{most-words}
-use Rattle.order.proofs.Spots.{line-at, short-order}
-use Rattle.order.proofs.PartsAt.{part-broken, part-low, part-middle}
+use Rattle.trees.proofs.Spots.{line-at, short-order}
+use Rattle.trees.proofs.PartsAt.{part-broken, part-low, part-middle}
 use Rattle.parts.proofs.part_line.Statement.{statement}
 use Rattle.parts.proofs.part_line.Tie as tie
 

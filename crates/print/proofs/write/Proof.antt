@@ -4,8 +4,8 @@ use native.Mathlib.Omega.{arith}
 use lib.ListN.{length, take}
 use borrow.Author.Needs.{needs}
 use Rattle.figures.specs.Numbers.{done}
-use Rattle.order.specs.Reading.{causeOf}
-use Rattle.order.proofs.Cuts.{no-output-room, has-room}
+use Rattle.trees.specs.Reading.{causeOf}
+use Rattle.trees.proofs.Cuts.{no-output-room, has-room}
 use Rattle.form.specs.Turns.{linesIn, levelsOf}
 use Rattle.print.proofs.Written.{levels-listed, write-refused, write-lines}
 use Rattle.print.proofs.write.Statement.{statement}

@@ -4,7 +4,7 @@ use native.Mathlib.Omega.{arith}
 use borrow.Author.Tests.{eq-eqb, ne-eqb}
 use lib.ListN.{getD}
 use Rattle.words.proofs.Tests.{fails-left, fails-right}
-use Rattle.store.proofs.Reading.{mark-short, mark-by, mark-last}
+use Rattle.files.proofs.Reading.{mark-short, mark-by, mark-last}
 use borrow.Author.Needs.{needs}
 use Rattle.store.proofs.is_marked.Statement.{statement}
 use Rattle.store.proofs.is_marked.Tie as tie

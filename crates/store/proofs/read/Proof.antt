@@ -9,8 +9,8 @@ use lib.ListN.{length}
 use Rattle.words.proofs.Shifts.{tail-all}
 use Rattle.book.specs.Decoding.{sized}
 use Rattle.book.proofs.Heads.{sized-by}
-use Rattle.store.specs.Files.{front-bytes, isMarked, readRestOf}
-use Rattle.store.proofs.Reading.{marked-long, read-unsized, read-unmarked, read-other, read-rest}
+use Rattle.files.specs.Files.{front-bytes, isMarked, readRestOf}
+use Rattle.files.proofs.Reading.{marked-long, read-unsized, read-unmarked, read-other, read-rest}
 use borrow.Author.Needs.{needs}
 use Rattle.store.proofs.read.Statement.{statement}
 use Rattle.store.proofs.read.Tie as tie

@@ -10,9 +10,9 @@ use Rattle.figures.specs.Limits.{most-book-words}
 use Rattle.figures.specs.declared.Answer.{Answer}
 use Rattle.book.specs.Opening.{outcome}
 use Rattle.octets.specs.Octets.{bytesOf, wordsOf}
-use Rattle.store.specs.Files.{readRestOf}
+use Rattle.files.specs.Files.{readRestOf}
 use Rattle.octets.proofs.Bytes.{words-long, bytes-of-words}
-use Rattle.store.proofs.Restoring.{no-stored}
+use Rattle.files.proofs.Restoring.{no-stored}
 use borrow.Author.Needs.{needs}
 use Rattle.store.proofs.read_rest.Statement.{statement}
 use Rattle.store.proofs.read_rest.Tie as tie

@@ -10,7 +10,7 @@ use Rattle.book.specs.Opening.{outcome}
 use Rattle.book.specs.declared.Places.{Places}
 use Rattle.book.specs.declared.BookForm.the-variants.{InForm}
 use Rattle.book.proofs.Holding.{holds}
-use Rattle.store.proofs.Restoring.{restore-refused, restore-numbered, restore-short, restore-written}
+use Rattle.files.proofs.Restoring.{restore-refused, restore-numbered, restore-short, restore-written}
 use Rattle.store.proofs.read_words.Statement.{statement}
 use Rattle.store.proofs.read_words.Tie as tie
 

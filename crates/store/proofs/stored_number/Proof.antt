@@ -16,7 +16,7 @@ use Rattle.book.specs.declared.Places.{Places}
 use Rattle.book.proofs.Sound.{held-book}
 use Rattle.agree.specs.Checking.{checkOf}
 use Rattle.agree.proofs.Checking.{check-held}
-use Rattle.store.specs.Files.{storedNumber}
+use Rattle.files.specs.Files.{storedNumber}
 use Rattle.store.proofs.stored_number.Statement.{statement}
 use Rattle.store.proofs.stored_number.Tie as tie
 

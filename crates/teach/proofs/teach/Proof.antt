@@ -2,7 +2,7 @@
 use mathlib.Core.Path.{sym, _∙_}
 use borrow.Author.Needs.{needs}
 use Rattle.book.proofs.Holding.{holds}
-use Rattle.teach.proofs.Outcomes.{told, teach-unheld}
+use Rattle.effects.proofs.Outcomes.{told, teach-unheld}
 use Rattle.teach.proofs.teach.Statement.{statement}
 use Rattle.teach.proofs.teach.Tie as tie
 

@@ -4,12 +4,12 @@ use borrow.Author.Needs.{needs}
 use lib.ListN.{length}
 use Rattle.figures.specs.Limits.{most-nodes}
 use Rattle.figures.specs.Numbers.{done}
-use Rattle.order.specs.Reading.{causeOf}
-use Rattle.order.specs.Levels.{LinesLevelled}
+use Rattle.trees.specs.Reading.{causeOf}
+use Rattle.trees.specs.Levels.{LinesLevelled}
 use Rattle.book.specs.Holding.{Holds}
 use Rattle.own.specs.Own.{own-words}
 use Rattle.amend.specs.declared.BookWeighed.{BookWeighed}
-use Rattle.teach.proofs.Outcomes.{all-zeros, told, teach-refused, used-room, least, teach-full, own-holds, teach-overfull, teach-crowded, teach-ready, teach-done}
+use Rattle.effects.proofs.Outcomes.{all-zeros, told, teach-refused, used-room, least, teach-full, own-holds, teach-overfull, teach-crowded, teach-ready, teach-done}
 use Rattle.teach.proofs.teach_order.Statement.{statement}
 use Rattle.teach.proofs.teach_order.Tie as tie
 

@@ -4,11 +4,11 @@ use borrow.Author.Needs.{needs}
 use lib.ListN.{length}
 use Rattle.figures.specs.Limits.{most-nodes}
 use Rattle.figures.specs.Numbers.{done}
-use Rattle.order.specs.Reading.{causeOf}
-use Rattle.order.specs.Levels.{LinesLevelled}
+use Rattle.trees.specs.Reading.{causeOf}
+use Rattle.trees.specs.Levels.{LinesLevelled}
 use Rattle.book.specs.Holding.{Holds}
 use Rattle.own.specs.Own.{own-words}
-use Rattle.teach.proofs.Outcomes.{all-zeros, told, withdraw-refused, least, own-holds, withdraw-untaught, withdraw-ready, withdraw-disagrees, withdraw-done}
+use Rattle.effects.proofs.Outcomes.{all-zeros, told, withdraw-refused, least, own-holds, withdraw-untaught, withdraw-ready, withdraw-disagrees, withdraw-done}
 use Rattle.teach.proofs.withdraw_order.Statement.{statement}
 use Rattle.teach.proofs.withdraw_order.Tie as tie
 

@@ -1,5 +1,4 @@
--- `report::line::words` is safe and ends: each turn goes past a space, within the list, and the words read are never more than there is
--- room for. Assumes nothing.
+-- `report::line::words` is safe and ends: each turn goes past a space, within the list, and no word is added or lost. Assumes nothing.
 use mathlib.Core.Path.{_≡_}
 use Prim.Native.Nat.{_≤_, _-_}
 use lib.ListN.{length}
@@ -7,11 +6,11 @@ use borrow.Author.Needs.{needs}
 use Rattle.report.proofs.line.words.Statement.{statement}
 use Rattle.report.proofs.line.words.Tie as tie
 
--- The place is within the list, the count within the room, and there are as many words as there were.
+-- The place is within the list, and there are as many words as there were.
 abbrev Inv-loop : tie.InvT-loop
-Inv-loop list words₀ at₀ count₀ words at count = (at ≤ length list) × (count ≤ length words₀) × (length words ≡ length words₀)
+Inv-loop list words₀ at₀ count₀ words at count = (at ≤ length list) × (length words ≡ length words₀)
 
--- The bytes of the list from the place on, which are fewer behind each word.
+-- The bytes of the list from the place on, which are fewer behind each piece.
 abbrev μ-loop : tie.MeasureT-loop
 μ-loop list words₀ at₀ count₀ words at count = length list - at
 
@@ -27,47 +26,29 @@ same-length c = search needs
 returns : tie.Need-returns Inv-loop μ-loop
 returns c = search needs
 
-same-length-2 : tie.Need-same-length-2 Inv-loop μ-loop
-same-length-2 c = search needs
-
-returns-2 : tie.Need-returns-2 Inv-loop μ-loop
-returns-2 c = search needs
-
 add-from : tie.Need-add-from Inv-loop μ-loop
 add-from c = search needs
 
 find-requires : tie.Need-find-requires Inv-loop μ-loop
 find-requires c κs = search needs
 
-sub-number : tie.Need-sub-number Inv-loop μ-loop
-sub-number c = search needs
+sub-piece : tie.Need-sub-piece Inv-loop μ-loop
+sub-piece c = search needs
 
-part-number-start : tie.Need-part-number-start Inv-loop μ-loop
-part-number-start c = search needs
+part-piece-start : tie.Need-part-piece-start Inv-loop μ-loop
+part-piece-start c = search needs
 
-part-number-end : tie.Need-part-number-end Inv-loop μ-loop
-part-number-end c = search needs
+part-piece-end : tie.Need-part-piece-end Inv-loop μ-loop
+part-piece-end c = search needs
 
-number-requires : tie.Need-number-requires Inv-loop μ-loop
-number-requires c κs = search needs
+piece-requires : tie.Need-piece-requires Inv-loop μ-loop
+piece-requires c κs = search needs
 
-same-length-3 : tie.Need-same-length-3 Inv-loop μ-loop
-same-length-3 c = search needs
+same-length-2 : tie.Need-same-length-2 Inv-loop μ-loop
+same-length-2 c = search needs
 
-returns-3 : tie.Need-returns-3 Inv-loop μ-loop
-returns-3 c = search needs
-
-cast-words : tie.Need-cast-words Inv-loop μ-loop
-cast-words c = search needs
-
-mul-words : tie.Need-mul-words Inv-loop μ-loop
-mul-words c = search needs
-
-slice-write-words : tie.Need-slice-write-words Inv-loop μ-loop
-slice-write-words c = search needs
-
-add-count : tie.Need-add-count Inv-loop μ-loop
-add-count c = search needs
+returns-2 : tie.Need-returns-2 Inv-loop μ-loop
+returns-2 c = search needs
 
 loop-less : tie.Need-loop-less Inv-loop μ-loop
 loop-less c = search needs
@@ -75,11 +56,11 @@ loop-less c = search needs
 loop-again : tie.Need-loop-again Inv-loop μ-loop
 loop-again c = search needs
 
-same-length-4 : tie.Need-same-length-4 Inv-loop μ-loop
-same-length-4 c = search needs
+same-length-3 : tie.Need-same-length-3 Inv-loop μ-loop
+same-length-3 c = search needs
 
-returns-4 : tie.Need-returns-4 Inv-loop μ-loop
-returns-4 c = search needs
+returns-3 : tie.Need-returns-3 Inv-loop μ-loop
+returns-3 c = search needs
 
 pub words-spec : {M : Type 1} → statement M
 words-spec =
@@ -91,21 +72,15 @@ words-spec =
     shared-slice-read-if1
     same-length
     returns
-    same-length-2
-    returns-2
     add-from
     find-requires
-    sub-number
-    part-number-start
-    part-number-end
-    number-requires
-    same-length-3
-    returns-3
-    cast-words
-    mul-words
-    slice-write-words
-    add-count
+    sub-piece
+    part-piece-start
+    part-piece-end
+    piece-requires
+    same-length-2
+    returns-2
     loop-less
     loop-again
-    same-length-4
-    returns-4)
+    same-length-3
+    returns-3)

@@ -1,0 +1,103 @@
+// What comes of a case of orders:
+//   check W W ..             the words are checked to be an order
+//   k K                      whether a k is allowed
+//   subtree LINE W W ..      the subtree of a line of the order of these words
+//   cut LINE D ROOM W W ..   its cut at D, written to an output of so many words
+//   part LINE K ROOM W W ..  the part that the line stands for at K, likewise
+use figures::Asked;
+use figures::Depth;
+use report::lent;
+use report::same;
+use report::say;
+use report::wide;
+use trees::Kind;
+
+// Says the subtree of a line.
+fn subtree(given: &[u16]) {
+    if given.len() < 1 {
+        say::not_understood();
+        return;
+    }
+    let line = wide::number(given[0]);
+    say::tree(cuts::subtree(&given[1..], line));
+}
+
+// Writes the cut of a line, and says what came of it.
+fn cut(given: &[u16]) {
+    if given.len() < 3 {
+        say::not_understood();
+        return;
+    }
+    let line = wide::number(given[0]);
+    let d = wide::number(given[1]);
+    let room = wide::number(given[2]);
+    let mut out = [lent::HELD; lent::MOST];
+    if out.len() < room {
+        say::not_understood();
+        return;
+    }
+    let written = cuts::cut_into(&given[3..], line, d, &mut out[0..room]);
+    let count = written.count;
+    lent::answer(written);
+    lent::tree(&out[0..room], count);
+}
+
+// Says a kind of part.
+fn kind(kind: Kind) {
+    match kind {
+        Kind::Absent => say::text(b"absent, "),
+        Kind::Low => say::text(b"low, "),
+        Kind::Middle => say::text(b"middle, "),
+    }
+}
+
+// Writes the part of a line, and says what came of it.
+fn part(given: &[u16]) {
+    if given.len() < 3 {
+        say::not_understood();
+        return;
+    }
+    let Asked::Allowed(k) = Depth::new(given[1]) else {
+        say::not_understood();
+        return;
+    };
+    let line = wide::number(given[0]);
+    let room = wide::number(given[2]);
+    let mut out = [lent::HELD; lent::MOST];
+    if out.len() < room {
+        say::not_understood();
+        return;
+    }
+    let found = parts::part_into(&given[3..], line, k, &mut out[0..room]);
+    let sort = found.kind;
+    let written = found.written;
+    let count = written.count;
+    kind(sort);
+    lent::answer(written);
+    lent::tree(&out[0..room], count);
+}
+
+// Runs a case of orders, by its kind and what it is given, and answers whether it is one.
+pub fn case(kind: &[u8], given: &[u16]) -> bool {
+    if same::bytes(kind, b"check") {
+        say::heard(order::check(given));
+        return true;
+    }
+    if same::bytes(kind, b"k") && given.len() == 1 {
+        say::word(Depth::new(given[0]).number());
+        return true;
+    }
+    if same::bytes(kind, b"subtree") {
+        subtree(given);
+        return true;
+    }
+    if same::bytes(kind, b"cut") {
+        cut(given);
+        return true;
+    }
+    if same::bytes(kind, b"part") {
+        part(given);
+        return true;
+    }
+    false
+}

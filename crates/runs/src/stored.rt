@@ -1,0 +1,258 @@
+// What comes of a case of stored books, or of two books:
+//   file B B ..         the kept file is these bytes from now on
+//   more B B ..         these bytes are put behind those of the kept file
+//   put AT BYTE         the byte at place AT of the kept file, from 0 on, is this one from now on
+//   store ROOM          the file of the kept book is written to an output of so many bytes, each # before, and is the kept file from now on
+//   load ROOM           the kept file is read into a slice of so many words, each 9 before
+//   front N ROOM        so are its first N bytes
+//   with AT BYTE ROOM   so is that file with another byte at place AT
+//   start ROOM          it is read into the kept book's slice, which has so many words from now on, each 9 before
+//   trip                the file of the kept book is written, and read into a slice of as many words as the book's
+//   again               the kept file is read into a slice of 16,384 words, and what is read is written
+//   swap                the kept book and the other, of which there is none at first, change places
+use figures::limits::MOST_BOOK_WORDS;
+use figures::numbers::DONE;
+use report::fill;
+use report::kept;
+use report::kept::BEFORE;
+use report::kept::MOST_FILE;
+use report::lent;
+use report::lent::HELD_BYTE;
+use report::line;
+use report::same;
+use report::say;
+use report::wide;
+
+// Keeps bytes behind the first `had` of the kept file, and says how many it has then.
+fn lay(given: &[u16], had: usize, file: &mut [u16]) {
+    let mut bytes = [0u8; MOST_FILE];
+    if wide::narrow(given, &mut bytes) < given.len() || !kept::put(given, had, file) {
+        say::not_understood();
+        return;
+    }
+    say::count(kept::all(file).len());
+    say::text(b" bytes");
+}
+
+// Puts a byte at a place of the kept file, and answers the one that stood there; where there is no such place or no such byte, answers no byte, and
+// nothing is put.
+fn change(file: &mut [u16], at: u16, byte: u16) -> u16 {
+    let place = 1 + wide::number(at);
+    if wide::GREATEST < byte || kept::all(file).len() < place || file.len() <= place {
+        return 1 + wide::GREATEST;
+    }
+    let old = file[place];
+    file[place] = byte;
+    old
+}
+
+// Puts a byte at a place of the kept file, and says the one that stood there.
+fn put(given: &[u16], file: &mut [u16]) {
+    if given.len() != 2 {
+        say::not_understood();
+        return;
+    }
+    let old = change(file, given[0], given[1]);
+    if wide::GREATEST < old {
+        say::not_understood();
+        return;
+    }
+    say::text(b"was ");
+    say::word(old);
+}
+
+// Keeps bytes as the file, as far as there is room.
+fn keep(bytes: &[u8], file: &mut [u16]) {
+    if file.len() == 0 {
+        return;
+    }
+    let n = wide::widen(bytes, &mut file[1..]);
+    if n <= line::GREATEST {
+        file[0] = n as u16;
+    }
+}
+
+// Writes the file of a book to an output of so many bytes, and says what came of it; what was written is kept.
+fn store(given: &[u16], book: &[u16], file: &mut [u16]) {
+    if given.len() != 1 {
+        say::not_understood();
+        return;
+    }
+    let room = wide::number(given[0]);
+    let mut out = [HELD_BYTE; MOST_FILE];
+    if out.len() < room {
+        say::not_understood();
+        return;
+    }
+    let written = store::write(book, &mut out[0..room]);
+    let count = written.count;
+    lent::answer(written);
+    lent::bytes(&out[0..room], count);
+    if 0 < count && count <= room {
+        keep(&out[0..count], file);
+    }
+}
+
+// Reads bytes into the slice that holds a book, which has so many words from now on, and says the answer and every word of the slice.
+fn load(list: &[u16], room: u16, held: &mut [u16]) {
+    let mut bytes = [0u8; MOST_FILE];
+    let n = wide::narrow(list, &mut bytes);
+    let end = 1 + wide::number(room);
+    if held.len() < end {
+        say::not_understood();
+        return;
+    }
+    held[0] = room;
+    fill::words(&mut held[1..end], BEFORE);
+    say::heard(store::read(&bytes[0..n], &mut held[1..end]));
+    say::text(b":");
+    say::slice(&held[1..end]);
+}
+
+// Reads the first bytes of the kept file, so many, into a slice of so many words, and says what came of it.
+fn front(many: u16, room: u16, file: &[u16]) {
+    let list = kept::all(file);
+    let end = wide::number(many);
+    if list.len() < end {
+        say::not_understood();
+        return;
+    }
+    let mut held = [0u16; kept::BOOK];
+    load(&list[0..end], room, &mut held);
+}
+
+// Reads the kept file with another byte at a place, and says what came of it; the kept file stays.
+fn with(at: u16, byte: u16, room: u16, file: &mut [u16]) {
+    let old = change(file, at, byte);
+    if wide::GREATEST < old {
+        say::not_understood();
+        return;
+    }
+    let mut held = [0u16; kept::BOOK];
+    load(kept::all(file), room, &mut held);
+    change(file, at, old);
+}
+
+// Says that a call refused, and by which number.
+fn refused(call: &[u8], number: u16) {
+    say::text(call);
+    say::text(b" refused by ");
+    say::word(number);
+}
+
+// Says whether a book comes back from its file.
+fn trip(book: &[u16]) {
+    let mut out = [HELD_BYTE; MOST_FILE];
+    let written = store::write(book, &mut out);
+    let count = written.count;
+    let mut slice = [BEFORE; MOST_BOOK_WORDS];
+    let n = book.len();
+    if written.number != DONE || out.len() < count || slice.len() < n {
+        refused(b"writing", written.number);
+        return;
+    }
+    let number = store::read(&out[0..count], &mut slice[0..n]).number;
+    if number != DONE {
+        refused(b"reading", number);
+        return;
+    }
+    say::came_back(same::words(book, &slice[0..n]));
+}
+
+// Says whether a file comes back from its book.
+fn again(list: &[u16]) {
+    let mut bytes = [0u8; MOST_FILE];
+    let n = wide::narrow(list, &mut bytes);
+    let mut slice = [BEFORE; MOST_BOOK_WORDS];
+    let number = store::read(&bytes[0..n], &mut slice).number;
+    if number != DONE {
+        refused(b"reading", number);
+        return;
+    }
+    let mut out = [HELD_BYTE; MOST_FILE];
+    let written = store::write(&slice, &mut out);
+    let count = written.count;
+    if written.number != DONE || out.len() < count {
+        refused(b"writing", written.number);
+        return;
+    }
+    say::came_back(same::bytes(&bytes[0..n], &out[0..count]));
+}
+
+// Runs a case that changes the kept file, by its kind and what it is given, and answers whether it is one.
+fn changes(kind: &[u8], given: &[u16], book: &[u16], file: &mut [u16]) -> bool {
+    if same::bytes(kind, b"file") {
+        lay(given, 0, file);
+        return true;
+    }
+    if same::bytes(kind, b"more") {
+        let had = kept::all(file).len();
+        lay(given, had, file);
+        return true;
+    }
+    if same::bytes(kind, b"put") {
+        put(given, file);
+        return true;
+    }
+    if same::bytes(kind, b"store") {
+        store(given, kept::all(book), file);
+        return true;
+    }
+    false
+}
+
+// Runs a case that reads the kept file, by its kind and what it is given, and answers whether it is one.
+fn reads(kind: &[u8], given: &[u16], book: &mut [u16], file: &mut [u16]) -> bool {
+    let n = given.len();
+    if same::bytes(kind, b"load") && n == 1 {
+        let mut held = [0u16; kept::BOOK];
+        load(kept::all(file), given[0], &mut held);
+        return true;
+    }
+    if same::bytes(kind, b"start") && n == 1 {
+        load(kept::all(file), given[0], book);
+        return true;
+    }
+    if same::bytes(kind, b"front") && n == 2 {
+        front(given[0], given[1], file);
+        return true;
+    }
+    if same::bytes(kind, b"with") && n == 3 {
+        with(given[0], given[1], given[2], file);
+        return true;
+    }
+    false
+}
+
+// Runs a case of files or of two books, by its kind and what it is given, and answers whether it is one.
+pub fn case(
+    kind: &[u8],
+    given: &[u16],
+    book: &mut [u16],
+    other: &mut [u16],
+    file: &mut [u16],
+) -> bool {
+    if changes(kind, given, book, file) {
+        return true;
+    }
+    if reads(kind, given, book, file) {
+        return true;
+    }
+    if given.len() != 0 {
+        return false;
+    }
+    if same::bytes(kind, b"trip") {
+        trip(kept::all(book));
+        return true;
+    }
+    if same::bytes(kind, b"again") {
+        again(kept::all(file));
+        return true;
+    }
+    if same::bytes(kind, b"swap") {
+        kept::exchange(book, other);
+        say::text(b"done");
+        return true;
+    }
+    false
+}

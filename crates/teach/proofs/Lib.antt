@@ -1,4 +1,0 @@
--- What the proofs of several functions, and those of other crates, use.
-pub mod Adds
-pub mod Formed
-pub mod Outcomes

@@ -1,0 +1,105 @@
+-- What the public functions answer, by where the line stands. Assumes nothing.
+use mathlib.Core.Path.{_≡_, refl, ap, sym, _∙_}
+use mathlib.Core.Bool.{Bool, true, false}
+use mathlib.Core.List.{List, []}
+use Prim.Native.Nat.{ℕ, _-_, _≤_}
+use native.Mathlib.Omega.{arith}
+use borrow.Author.Tests.{leb-true}
+use lib.Dec.{leb}
+use lib.ListN.{length, take, drop}
+use Rattle.words.specs.Base.{if_then_else_}
+use Rattle.figures.specs.Numbers.{done}
+use Rattle.figures.specs.Answers.{wrote}
+use Rattle.trees.specs.Trees.{Tree, depth, cut}
+use Rattle.trees.specs.Reading.{byFound, refused, byOrder, orderOf}
+use Rattle.trees.specs.Parts.{isLow, middle, partOf}
+use Rattle.trees.specs.Walks.{walkOf, endOf, cutOf, partWalked, partAtOf, kindOf}
+use Rattle.trees.specs.Answers.{subtreeOf, refuse, write, cutIntoOf, partWriting, noPart, ofKind, partIntoOf}
+use Rattle.trees.specs.declared.Walked.the-variants.{Whole}
+use Rattle.trees.proofs.Cutting.{cut-shallow}
+use Rattle.trees.proofs.Cuts.{no-words}
+use Rattle.trees.proofs.PartsAt.{part-short}
+use Rattle.trees.proofs.Lines.{walk-spot, cut-spot, HasLine, LacksLine}
+use Rattle.trees.proofs.Spots.{spot-within, spot-words}
+
+-- ---- an order that is refused
+
+module _ (s : List ℕ) (line n : ℕ) (stop : orderOf s ≡ refused n) where
+  -- An empty part is handed out.
+  pub subtree-refused : subtreeOf s line ≡ []
+  unfolding subtreeOf byOrder
+  subtree-refused = rw stop
+
+  -- The number is handed on, and nothing is written.
+  pub cut-refused : (d : ℕ) (out : List ℕ) → cutIntoOf s line d out ≡ refuse n out
+  unfolding cutIntoOf byOrder
+  cut-refused d out = rw stop
+
+  -- The number is handed on, and there is no part.
+  pub part-refused : (k : ℕ) (out : List ℕ) → partIntoOf s line k out ≡ partWriting (noPart n) out
+  unfolding partIntoOf byOrder
+  part-refused k out = rw stop
+
+-- ---- a line that the order lacks
+
+module _ (s : List ℕ) (line : ℕ) (lack : LacksLine s line) where
+  -- An empty part is handed out.
+  pub subtree-lacks : subtreeOf s line ≡ []
+  unfolding subtreeOf byOrder byFound
+  subtree-lacks = rw (lack .is, lack .lacks)
+
+  -- Nothing is written.
+  pub cut-lacks : (d : ℕ) (out : List ℕ) → cutIntoOf s line d out ≡ refuse done out
+  unfolding cutIntoOf byOrder byFound
+  cut-lacks d out = rw (lack .is, lack .lacks) (sym (no-words [] out (wrote done 0) refl refl))
+
+  -- There is no part.
+  pub part-lacks : (k : ℕ) (out : List ℕ) → partIntoOf s line k out ≡ partWriting (noPart done) out
+  unfolding partIntoOf byOrder byFound
+  part-lacks k out = rw (lack .is, lack .lacks)
+
+-- ---- a line that stands at a word
+
+-- The part's words are the cut at k-1 for either kind.
+part-words : (k : ℕ) (t : Tree) → partOf k t .tree ≡ cut t (k - 1)
+unfolding partOf isLow middle if_then_else_
+part-words k t = go (isLow k t) refl
+  where
+    go : (b : Bool) → isLow k t ≡ b → partOf k t .tree ≡ cut t (k - 1)
+    go true e = rw e (sym (cut-shallow t (k - 1) (omega (arith, leb-true (depth t) (k - 2) e))))
+    go false e = rw e refl
+
+-- The kind of the part is what the walk of the subtree says.
+part-kind : (k : ℕ) (t : Tree) (e c : ℕ) → kindOf (partWalked k (Whole e (depth t) c)) ≡ partOf k t .kind
+unfolding partWalked partOf isLow if_then_else_
+part-kind k t e c = go (leb (depth t) (k - 2)) refl
+  where
+    go : (b : Bool) → leb (depth t) (k - 2) ≡ b → kindOf (partWalked k (Whole e (depth t) c)) ≡ partOf k t .kind
+    go true h = rw h refl
+    go false h = rw h refl
+
+module _ (s : List ℕ) (line at : ℕ) (has : HasLine s line at) where
+  -- The tree there ends within the order.
+  pub subtree-within : (e : ℕ) → at ≤ length s → e ≡ endOf (walkOf s at 0) → (at ≤ e) × (e ≤ length s)
+  subtree-within e h z =
+      let w = ap endOf (walk-spot s at _ (has .spot) 0) in
+      (omega arith, omega (arith, spot-within s at _ (has .spot) h))
+
+  -- The words up to where it ends are handed out.
+  pub subtree-has : (e : ℕ) → e ≡ endOf (walkOf s at 0) → subtreeOf s line ≡ take (e - at) (drop at s)
+  unfolding subtreeOf byOrder byFound
+  subtree-has e z =
+      let w = spot-words s at _ (has .spot) e (z ∙ ap endOf (walk-spot s at _ (has .spot) 0)) in
+      rw (has .is, has .spot .is, w) refl
+
+  -- The cut of the tree there is written.
+  pub cut-has : (d : ℕ) (out : List ℕ) → cutIntoOf s line d out ≡ write (cutOf s at d) out
+  unfolding cutIntoOf byOrder byFound
+  cut-has d out = rw (has .is, has .spot .is, cut-spot s at _ (has .spot) d) refl
+
+  -- The kind and the words are those of the tree there.
+  pub part-has : (k : ℕ) (out : List ℕ) → partIntoOf s line k out ≡ ofKind (kindOf (partAtOf s at k)) (write (cutOf s at (k - 1)) out)
+  unfolding partIntoOf byOrder byFound
+  part-has k out =
+      let t : Tree = has .spot .tree in
+      rw (has .is, has .spot .is, part-short s at k (has .short), walk-spot s at _ (has .spot) (k - 1), cut-spot s at _ (has .spot) (k - 1), part-kind k t, part-words k t) refl

@@ -1,0 +1,14 @@
+-- Where the words of a part are: those of a low part in the order, those of a middle part in its cut. Assumes nothing.
+use Prim.Native.Nat.{ℕ}
+use mathlib.Core.Path.{_≡_, ap}
+use mathlib.Core.Bool.{Bool, true, false}
+use mathlib.Core.List.{List}
+use Rattle.verdicts.specs.Seeking.{speltIn}
+
+-- A low part is in the order's words.
+pub in-order : (low : Bool) (os cut : List ℕ) → low ≡ true → speltIn low os cut ≡ os
+in-order low os cut e = ap (λ (b : Bool). speltIn b os cut) e
+
+-- Any other is in those of its cut.
+pub in-cut : (low : Bool) (os cut : List ℕ) → low ≡ false → speltIn low os cut ≡ cut
+in-cut low os cut e = ap (λ (b : Bool). speltIn b os cut) e

@@ -1,0 +1,71 @@
+-- What the inner functions look up in a book, by the trees that stand in the order's words. Assumes nothing: these are definitions.
+use Prim.Native.Nat.{ℕ, zero, suc, _+_, _*_, _-_, _≤_}
+use mathlib.Core.Bool.{Bool, true, false}
+use mathlib.Core.List.{List, [], _∷_}
+use mathlib.Core.Path.{_≡_}
+use lib.ListN.{length, take, drop}
+use Rattle.words.specs.Base.{if_then_else_}
+use Rattle.figures.specs.Numbers.{done, low-unknown, middle-unknown}
+use Rattle.figures.specs.Answers.{answered}
+use Rattle.figures.specs.declared.Answer.{Answer}
+use Rattle.section.specs.Entries.{Entry, entries, span, has, Sorted}
+use Rattle.trees.specs.Trees.{Tree, words, subtrees}
+use Rattle.trees.specs.Reading.{found, byOrder, orderOf}
+use Rattle.trees.specs.Parts.{top, isLow, partOf}
+use Rattle.trees.specs.Walks.{treeFrom, partAtOf}
+use Rattle.trees.specs.declared.PartAt.{PartAt}
+use Rattle.trees.specs.declared.PartAt.the-variants.{NoPart, LowTo, MiddleTo}
+use Rattle.book.specs.Book.{Book}
+use Rattle.verdicts.specs.Judging.{knows}
+use Rattle.verdicts.specs.declared.Sought.{Sought}
+
+-- The top of the order is in the book.
+unfoldable pub topKnown : Book → List ℕ → Bool
+topKnown b os = byOrder (orderOf os) (λ n. false) (λ t. has (words (top (b .k) t)) (b .R))
+
+-- "the least line whose subtree's part is unknown", of the subtrees from a line on; 0 where every part is known.
+unfoldable pub unknownLine : Book → ℕ → List Tree → ℕ
+unknownLine b line [] = 0
+unknownLine b line (s ∷ ss) = if knows b s then unknownLine b (suc line) ss else line
+
+-- The first line of the order whose part is unknown, or 0.
+unfoldable pub lineUnknown : Book → List ℕ → ℕ
+lineUnknown b os = byOrder (orderOf os) (λ n. 0) (λ t. unknownLine b 1 (subtrees t))
+
+-- The number for an unknown part by what stands at a word: 21 for a low part, 22 for a middle part; 21 where there is none, which no line of an
+-- order meets.
+abbrev pub unknownNumber : PartAt → ℕ
+unknownNumber NoPart = low-unknown
+unknownNumber (LowTo e) = low-unknown
+unknownNumber (MiddleTo e c) = middle-unknown
+
+-- The answer for the first unknown line of an order; 0 for line 0.
+unfoldable pub lineAnswer : ℕ → List ℕ → ℕ → Answer
+lineAnswer k os zero = answered done
+lineAnswer k os (suc i) = record { number = unknownNumber (partAtOf os (i * 2) k); line = suc i }
+
+-- The words that a part is in: a low part is in the order's own words, and a middle part in those of its cut.
+abbrev pub speltIn : Bool → List ℕ → List ℕ → List ℕ
+speltIn true os cut = os
+speltIn false os cut = cut
+
+-- The section that a part is looked up in.
+abbrev pub lookedUpIn : Bool → Book → List Entry
+lookedUpIn true b = b .L
+lookedUpIn false b = b .P
+
+-- The words of the part that is sought.
+abbrev pub keyOf : Sought → List ℕ → List ℕ → List ℕ
+keyOf r os cut = take (r .to - r .from) (drop (r .from) (speltIn (r .low) os cut))
+
+-- What is sought is the part of the tree at a word of the order, in the words of its section.
+pub record Seeks (b : Book) (ws os : List ℕ) (at : ℕ) (cut : List ℕ) (r : Sought) : Type 0 where
+  pub tree : Tree
+  pub here : treeFrom os at ≡ found tree
+  pub kind : r .low ≡ isLow (b .k) tree
+  pub key : keyOf r os cut ≡ words (partOf (b .k) tree .tree)
+  pub forward : r .from ≤ r .to
+  pub lies : r .to ≤ length (speltIn (r .low) os cut)
+  pub among : entries (r .many) (drop (r .at) ws) ≡ lookedUpIn (r .low) b
+  pub sorted : Sorted (entries (r .many) (drop (r .at) ws))
+  pub within : r .at + span (r .many) (drop (r .at) ws) ≤ length ws

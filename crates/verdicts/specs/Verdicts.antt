@@ -1,0 +1,96 @@
+-- The rows of 01's table that judging can answer, by document 000's r, l and p and by sound books, apart from the tests of `judgeOf`. That
+-- judging answers exactly by these rows is shown in proofs/Verdicts.antt. Assumes nothing: these are definitions.
+use Prim.Native.Nat.{ℕ, _-_, _≤_, _<_}
+use mathlib.Core.Path.{_≡_}
+use mathlib.Core.List.{List}
+use Rattle.words.specs.Base.{_∈_}
+use Rattle.figures.specs.Numbers.{done, top-unknown, low-unknown, middle-unknown}
+use Rattle.figures.specs.Answers.{answered}
+use Rattle.figures.specs.declared.Answer.{Answer}
+use Rattle.section.specs.Entries.{Entry}
+use Rattle.trees.specs.Trees.{Tree, words, depth, subtrees}
+use Rattle.trees.specs.Reading.{found}
+use Rattle.trees.specs.Causes.{Cause}
+use Rattle.trees.specs.Fits.{IsOrder}
+use Rattle.trees.specs.Answers.{lineOf}
+use Rattle.trees.specs.Paper.{IsR, IsL, IsP}
+use Rattle.book.specs.Book.{Book}
+use Rattle.book.specs.Sound.{IsBook, WhyForm}
+use Rattle.book.specs.declared.BookForm.the-variants.{Refused}
+
+-- A tree is in a section: some entry has its words.
+pub record In (es : List Entry) (t : Tree) : Type 0 where
+  pub entry : Entry
+  pub there : entry ∈ es
+  pub spelt : entry .key ≡ words t
+
+-- "An order passes when its top is in R, all its low parts are in L and all its middle parts are in P": as sets, by 000's r, l and p.
+pub record Passes (b : Book) (t : Tree) : Type 0 where
+  pub top : (u : Tree) → IsR (b .k - 1) t u → In (b .R) u
+  pub lows : (u : Tree) → IsL (b .k - 1) t u → In (b .L) u
+  pub middles : (u : Tree) → IsP (b .k) t u → In (b .P) u
+
+-- A subtree's part is in the book. "The depth of the uncut subtree decides between L and P."
+pub record Known (b : Book) (s : Tree) : Type 0 where
+  pub low : depth s ≤ b .k - 2 → In (b .L) s
+  pub middle : b .k - 1 ≤ depth s → (u : Tree) → IsR (b .k) s u → In (b .P) u
+
+-- The top is known, s is the subtree of the line, and on every line before it the part is known.
+pub record Reached (b : Book) (t : Tree) (line : ℕ) (s : Tree) : Type 0 where
+  pub top : (u : Tree) → IsR (b .k - 1) t u → In (b .R) u
+  pub on : lineOf line (subtrees t) ≡ found s
+  pub earlier : (j : ℕ) (u : Tree) → j < line → lineOf j (subtrees t) ≡ found u → Known b u
+
+-- Why a book answers an order by a.
+pub data Verdict (b : Book) (t : Tree) (a : Answer) : Type 0 where
+  -- 0: "passes"
+  passing : a ≡ answered done → Passes b t → Verdict b t a
+  -- 20: "top not in R", with line 1, whatever the lines say
+  no-top : a ≡ record { number = top-unknown; line = 1 } → ((u : Tree) → IsR (b .k - 1) t u → In (b .R) u → ⊥) → Verdict b t a
+  -- 21: "low part unknown", at "the least line whose subtree's part is unknown"
+  no-low : (line : ℕ) (s : Tree) → a ≡ record { number = low-unknown; line = line } → Reached b t line s → depth s ≤ b .k - 2 → (In (b .L) s → ⊥) → Verdict b t a
+  -- 22: "middle part unknown", at that line
+  no-middle : (line : ℕ) (s : Tree) → a ≡ record { number = middle-unknown; line = line } → Reached b t line s → b .k - 1 ≤ depth s → ((u : Tree) → IsR (b .k) s u → In (b .P) u → ⊥) → Verdict b t a
+
+-- Why judging answers a: "Judge: 4, 5, 1, 2, verdict."
+pub data Judged (ws os : List ℕ) (a : Answer) : Type 0 where
+  -- 4 and 5, by the book alone
+  no-book : (n : ℕ) → a ≡ answered n → WhyForm ws (Refused n) → Judged ws os a
+  -- 1 and 2, by the order
+  no-order : (b : Book) (n : ℕ) → a ≡ answered n → IsBook ws b → Cause os n → (n ≡ done → ⊥) → Judged ws os a
+  -- the verdict
+  judged : (b : Book) (t : Tree) → IsBook ws b → IsOrder os t → Verdict b t a → Judged ws os a
+
+-- What was lent is a book in form and an order within limits.
+pub record Lent (ws os : List ℕ) : Type 0 where
+  pub book : Book
+  pub tree : Tree
+  pub isBook : IsBook ws book
+  pub isOrder : IsOrder os tree
+
+-- What 0 says: the order passes by the book.
+pub record PassesBy (ws os : List ℕ) : Type 0 where
+  pub lent : Lent ws os
+  pub passes : Passes (lent .book) (lent .tree)
+
+-- What 20 with a line says: the line is 1, and the order's top is not in R.
+pub record TopUnknown (ws os : List ℕ) (line : ℕ) : Type 0 where
+  pub lent : Lent ws os
+  pub first : line ≡ 1
+  pub unknown : (u : Tree) → IsR (lent .book .k - 1) (lent .tree) u → In (lent .book .R) u → ⊥
+
+-- What 21 with a line says: it is the first line whose part is unknown, and its subtree is low and not in L.
+pub record LowUnknown (ws os : List ℕ) (line : ℕ) : Type 0 where
+  pub lent : Lent ws os
+  pub subtree : Tree
+  pub reached : Reached (lent .book) (lent .tree) line subtree
+  pub low : depth subtree ≤ lent .book .k - 2
+  pub unknown : In (lent .book .L) subtree → ⊥
+
+-- What 22 with a line says: it is the first line whose part is unknown, and its subtree is deeper and its r of index k not in P.
+pub record MiddleUnknown (ws os : List ℕ) (line : ℕ) : Type 0 where
+  pub lent : Lent ws os
+  pub subtree : Tree
+  pub reached : Reached (lent .book) (lent .tree) line subtree
+  pub deep : lent .book .k - 1 ≤ depth subtree
+  pub unknown : (u : Tree) → IsR (lent .book .k) subtree u → In (lent .book .P) u → ⊥
