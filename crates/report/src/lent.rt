@@ -28,12 +28,12 @@ pub fn answer(written: Written) {
     say::text(b" written:");
 }
 
-// How many words or bytes of an output are said as written, by its room and the count that a call answered: so many, or none where that is more
+// How many words or bytes of an output are said as written, by how many it has and the count that a call answered: so many, or none where that is more
 // than was lent. Where there are none, says why.
-fn front(room: usize, count: usize) -> usize
-    ensures { λ r. ⌜ r ≤ room ⌝ }
+fn front(lent: usize, count: usize) -> usize
+    ensures { λ r. ⌜ r ≤ lent ⌝ }
 {
-    if room < count {
+    if lent < count {
         say::text(b" more than was lent");
         return 0;
     }

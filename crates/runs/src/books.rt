@@ -62,7 +62,15 @@ fn heard(answer: Answer, book: &[u16]) {
     state(book);
 }
 
-// Opens a book in a slice of so many words, which is kept from now on, and says the answer and every word of the slice.
+// Opens a book in a slice, each of whose words is 9 before, and says the answer and every word of the slice.
+fn open_in(slice: &mut [u16], k: u16) {
+    fill::words(slice, kept::BEFORE);
+    say::heard(book::open(slice, k));
+    say::text(b":");
+    say::slice(slice);
+}
+
+// Runs a case of `open`.
 fn open(given: &[u16], held: &mut [u16]) {
     if given.len() != 2 {
         say::not_understood();
@@ -74,11 +82,8 @@ fn open(given: &[u16], held: &mut [u16]) {
         say::not_understood();
         return;
     }
+    open_in(&mut held[1..end], given[1]);
     held[0] = room;
-    fill::words(&mut held[1..end], kept::BEFORE);
-    say::heard(book::open(&mut held[1..end], given[1]));
-    say::text(b":");
-    say::slice(&held[1..end]);
 }
 
 // Keeps words as a book, and says how many they are and how it stands.

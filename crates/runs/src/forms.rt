@@ -13,7 +13,15 @@ use report::same;
 use report::say;
 use report::wide;
 
-// Reads a text, and says what came of it, by what stands behind the case's kind.
+// Reads a text to an output, and says what came of it.
+fn read_to(text: &[u8], out: &mut [u16]) {
+    let written = scan::read(text, out);
+    let count = written.count;
+    lent::answer(written);
+    lent::words(out, count);
+}
+
+// Runs a case of `read`, by what stands behind its kind.
 fn read(behind: &[u8]) {
     if behind.len() == 0 {
         say::not_understood();
@@ -24,14 +32,15 @@ fn read(behind: &[u8]) {
     let mut out = [HELD; MOST];
     let mut text = [0u8; MOST];
     let n = line::text(&behind[end..], &mut text);
-    if out.len() < room || text.len() < n {
+    if out.len() < room {
         say::not_understood();
         return;
     }
-    let written = scan::read(&text[0..n], &mut out[0..room]);
-    let count = written.count;
-    lent::answer(written);
-    lent::words(&out[0..room], count);
+    if text.len() < n {
+        say::not_understood();
+        return;
+    }
+    read_to(&text[0..n], &mut out[0..room]);
 }
 
 // Whether a text is read, and its words are written, to the same bytes.
@@ -39,19 +48,25 @@ fn is_back(text: &[u8]) -> bool {
     let mut words = [HELD; MOST];
     let read = scan::read(text, &mut words);
     let count = read.count;
-    if read.number != numbers::DONE || words.len() < count {
+    if read.number != numbers::DONE {
+        return false;
+    }
+    if words.len() < count {
         return false;
     }
     let mut bytes = [HELD_BYTE; MOST];
     let written = print::write(&words[0..count], &mut bytes);
     let size = written.count;
-    if written.number != numbers::DONE || bytes.len() < size {
+    if written.number != numbers::DONE {
+        return false;
+    }
+    if bytes.len() < size {
         return false;
     }
     same::bytes(text, &bytes[0..size])
 }
 
-// Says whether a text comes back, by what stands behind the case's kind.
+// Runs a case of `back`, by what stands behind its kind.
 fn back(behind: &[u8]) {
     let mut text = [0u8; MOST];
     let n = line::text(behind, &mut text);
@@ -75,7 +90,15 @@ pub fn with_text(kind: &[u8], behind: &[u8]) -> bool {
     false
 }
 
-// Writes an order, and says what came of it.
+// Writes an order to an output, and says what came of it.
+fn write_to(order: &[u16], out: &mut [u8]) {
+    let written = print::write(order, out);
+    let count = written.count;
+    lent::answer(written);
+    lent::text(out, count);
+}
+
+// Runs a case of `write`.
 fn write(given: &[u16]) {
     if given.len() == 0 {
         say::not_understood();
@@ -87,10 +110,7 @@ fn write(given: &[u16]) {
         say::not_understood();
         return;
     }
-    let written = print::write(&given[1..], &mut out[0..room]);
-    let count = written.count;
-    lent::answer(written);
-    lent::text(&out[0..room], count);
+    write_to(&given[1..], &mut out[0..room]);
 }
 
 // Whether an order is written, and its text is read, to the same words.
@@ -98,13 +118,19 @@ fn is_there(order: &[u16]) -> bool {
     let mut bytes = [HELD_BYTE; MOST];
     let written = print::write(order, &mut bytes);
     let size = written.count;
-    if written.number != numbers::DONE || bytes.len() < size {
+    if written.number != numbers::DONE {
+        return false;
+    }
+    if bytes.len() < size {
         return false;
     }
     let mut words = [HELD; MOST];
     let read = scan::read(&bytes[0..size], &mut words);
     let count = read.count;
-    if read.number != numbers::DONE || words.len() < count {
+    if read.number != numbers::DONE {
+        return false;
+    }
+    if words.len() < count {
         return false;
     }
     same::words(order, &words[0..count])

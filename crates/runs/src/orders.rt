@@ -22,7 +22,15 @@ fn subtree(given: &[u16]) {
     say::tree(cuts::subtree(&given[1..], line));
 }
 
-// Writes the cut of a line, and says what came of it.
+// Writes the cut at d of a line to an output, and says what came of it.
+fn cut_to(order: &[u16], line: usize, d: usize, out: &mut [u16]) {
+    let written = cuts::cut_into(order, line, d, out);
+    let count = written.count;
+    lent::answer(written);
+    lent::tree(out, count);
+}
+
+// Runs a case of `cut`.
 fn cut(given: &[u16]) {
     if given.len() < 3 {
         say::not_understood();
@@ -36,10 +44,7 @@ fn cut(given: &[u16]) {
         say::not_understood();
         return;
     }
-    let written = cuts::cut_into(&given[3..], line, d, &mut out[0..room]);
-    let count = written.count;
-    lent::answer(written);
-    lent::tree(&out[0..room], count);
+    cut_to(&given[3..], line, d, &mut out[0..room]);
 }
 
 // Says a kind of part.
@@ -51,7 +56,18 @@ fn kind(kind: Kind) {
     }
 }
 
-// Writes the part of a line, and says what came of it.
+// Writes the part of a line to an output, and says what came of it.
+fn part_to(order: &[u16], line: usize, k: Depth, out: &mut [u16]) {
+    let found = parts::part_into(order, line, k, out);
+    let sort = found.kind;
+    let written = found.written;
+    let count = written.count;
+    kind(sort);
+    lent::answer(written);
+    lent::tree(out, count);
+}
+
+// Runs a case of `part`.
 fn part(given: &[u16]) {
     if given.len() < 3 {
         say::not_understood();
@@ -68,13 +84,7 @@ fn part(given: &[u16]) {
         say::not_understood();
         return;
     }
-    let found = parts::part_into(&given[3..], line, k, &mut out[0..room]);
-    let sort = found.kind;
-    let written = found.written;
-    let count = written.count;
-    kind(sort);
-    lent::answer(written);
-    lent::tree(&out[0..room], count);
+    part_to(&given[3..], line, k, &mut out[0..room]);
 }
 
 // Runs a case of orders, by its kind and what it is given, and answers whether it is one.
@@ -83,7 +93,10 @@ pub fn case(kind: &[u8], given: &[u16]) -> bool {
         say::heard(order::check(given));
         return true;
     }
-    if same::bytes(kind, b"k") && given.len() == 1 {
+    if same::bytes(kind, b"k") {
+        if given.len() != 1 {
+            return false;
+        }
         say::word(Depth::new(given[0]).number());
         return true;
     }

@@ -26,7 +26,11 @@ use report::wide;
 // Keeps bytes behind the first `had` of the kept file, and says how many it has then.
 fn lay(given: &[u16], had: usize, file: &mut [u16]) {
     let mut bytes = [0u8; MOST_FILE];
-    if wide::narrow(given, &mut bytes) < given.len() || !kept::put(given, had, file) {
+    if wide::narrow(given, &mut bytes) < given.len() {
+        say::not_understood();
+        return;
+    }
+    if !kept::put(given, had, file) {
         say::not_understood();
         return;
     }
@@ -72,7 +76,22 @@ fn keep(bytes: &[u8], file: &mut [u16]) {
     }
 }
 
-// Writes the file of a book to an output of so many bytes, and says what came of it; what was written is kept.
+// Writes the file of a book to an output, and says what came of it; what was written is kept.
+fn store_to(book: &[u16], out: &mut [u8], file: &mut [u16]) {
+    let written = store::write(book, out);
+    let count = written.count;
+    lent::answer(written);
+    lent::bytes(out, count);
+    if count == 0 {
+        return;
+    }
+    if out.len() < count {
+        return;
+    }
+    keep(&out[0..count], file);
+}
+
+// Runs a case of `store`.
 fn store(given: &[u16], book: &[u16], file: &mut [u16]) {
     if given.len() != 1 {
         say::not_understood();
@@ -84,16 +103,18 @@ fn store(given: &[u16], book: &[u16], file: &mut [u16]) {
         say::not_understood();
         return;
     }
-    let written = store::write(book, &mut out[0..room]);
-    let count = written.count;
-    lent::answer(written);
-    lent::bytes(&out[0..room], count);
-    if 0 < count && count <= room {
-        keep(&out[0..count], file);
-    }
+    store_to(book, &mut out[0..room], file);
 }
 
-// Reads bytes into the slice that holds a book, which has so many words from now on, and says the answer and every word of the slice.
+// Reads a file into a slice, each of whose words is 9 before, and says the answer and every word of the slice.
+fn load_to(file: &[u8], slice: &mut [u16]) {
+    fill::words(slice, BEFORE);
+    say::heard(store::read(file, slice));
+    say::text(b":");
+    say::slice(slice);
+}
+
+// Reads the bytes of a list into the slice that holds a book, which has so many words from now on, and says what came of it.
 fn load(list: &[u16], room: u16, held: &mut [u16]) {
     let mut bytes = [0u8; MOST_FILE];
     let n = wide::narrow(list, &mut bytes);
@@ -102,11 +123,8 @@ fn load(list: &[u16], room: u16, held: &mut [u16]) {
         say::not_understood();
         return;
     }
+    load_to(&bytes[0..n], &mut held[1..end]);
     held[0] = room;
-    fill::words(&mut held[1..end], BEFORE);
-    say::heard(store::read(&bytes[0..n], &mut held[1..end]));
-    say::text(b":");
-    say::slice(&held[1..end]);
 }
 
 // Reads the first bytes of the kept file, so many, into a slice of so many words, and says what came of it.
@@ -140,23 +158,34 @@ fn refused(call: &[u8], number: u16) {
     say::word(number);
 }
 
+// Reads the file of a book into a slice, and says whether the slice is the book in every word.
+fn read_back(book: &[u16], file: &[u8], slice: &mut [u16]) {
+    let number = store::read(file, slice).number;
+    if number != DONE {
+        refused(b"reading", number);
+        return;
+    }
+    say::came_back(same::words(book, slice));
+}
+
 // Says whether a book comes back from its file.
 fn trip(book: &[u16]) {
     let mut out = [HELD_BYTE; MOST_FILE];
     let written = store::write(book, &mut out);
     let count = written.count;
-    let mut slice = [BEFORE; MOST_BOOK_WORDS];
-    let n = book.len();
-    if written.number != DONE || out.len() < count || slice.len() < n {
+    if written.number != DONE {
         refused(b"writing", written.number);
         return;
     }
-    let number = store::read(&out[0..count], &mut slice[0..n]).number;
-    if number != DONE {
-        refused(b"reading", number);
+    let n = book.len();
+    let mut slice = [BEFORE; MOST_BOOK_WORDS];
+    if out.len() < count {
         return;
     }
-    say::came_back(same::words(book, &slice[0..n]));
+    if slice.len() < n {
+        return;
+    }
+    read_back(book, &out[0..count], &mut slice[0..n]);
 }
 
 // Says whether a file comes back from its book.
@@ -172,8 +201,11 @@ fn again(list: &[u16]) {
     let mut out = [HELD_BYTE; MOST_FILE];
     let written = store::write(&slice, &mut out);
     let count = written.count;
-    if written.number != DONE || out.len() < count {
+    if written.number != DONE {
         refused(b"writing", written.number);
+        return;
+    }
+    if out.len() < count {
         return;
     }
     say::came_back(same::bytes(&bytes[0..n], &out[0..count]));
@@ -201,24 +233,47 @@ fn changes(kind: &[u8], given: &[u16], book: &[u16], file: &mut [u16]) -> bool {
     false
 }
 
-// Runs a case that reads the kept file, by its kind and what it is given, and answers whether it is one.
-fn reads(kind: &[u8], given: &[u16], book: &mut [u16], file: &mut [u16]) -> bool {
-    let n = given.len();
-    if same::bytes(kind, b"load") && n == 1 {
-        let mut held = [0u16; kept::BOOK];
-        load(kept::all(file), given[0], &mut held);
-        return true;
+// Runs a case that reads the kept file into a slice of its own, by its kind and what it is given, and answers whether it is one.
+fn reads(kind: &[u8], given: &[u16], file: &mut [u16]) -> bool {
+    if given.len() == 1 {
+        if same::bytes(kind, b"load") {
+            let mut held = [0u16; kept::BOOK];
+            load(kept::all(file), given[0], &mut held);
+            return true;
+        }
+        return false;
     }
-    if same::bytes(kind, b"start") && n == 1 {
+    if given.len() == 2 {
+        if same::bytes(kind, b"front") {
+            front(given[0], given[1], file);
+            return true;
+        }
+        return false;
+    }
+    if given.len() == 3 {
+        if same::bytes(kind, b"with") {
+            with(given[0], given[1], given[2], file);
+            return true;
+        }
+    }
+    false
+}
+
+// Runs a case that changes the kept book, or the two, by its kind and what it is given, and answers whether it is one.
+fn begins(kind: &[u8], given: &[u16], book: &mut [u16], other: &mut [u16], file: &[u16]) -> bool {
+    if same::bytes(kind, b"start") {
+        if given.len() != 1 {
+            return false;
+        }
         load(kept::all(file), given[0], book);
         return true;
     }
-    if same::bytes(kind, b"front") && n == 2 {
-        front(given[0], given[1], file);
-        return true;
+    if given.len() != 0 {
+        return false;
     }
-    if same::bytes(kind, b"with") && n == 3 {
-        with(given[0], given[1], given[2], file);
+    if same::bytes(kind, b"swap") {
+        kept::exchange(book, other);
+        say::text(b"done");
         return true;
     }
     false
@@ -235,7 +290,10 @@ pub fn case(
     if changes(kind, given, book, file) {
         return true;
     }
-    if reads(kind, given, book, file) {
+    if reads(kind, given, file) {
+        return true;
+    }
+    if begins(kind, given, book, other, file) {
         return true;
     }
     if given.len() != 0 {
@@ -247,11 +305,6 @@ pub fn case(
     }
     if same::bytes(kind, b"again") {
         again(kept::all(file));
-        return true;
-    }
-    if same::bytes(kind, b"swap") {
-        kept::exchange(book, other);
-        say::text(b"done");
         return true;
     }
     false
