@@ -1,3 +1,2 @@
 -- The definitions of the crate.
-pub mod Checking
 pub mod Tallies

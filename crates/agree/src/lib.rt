@@ -12,7 +12,7 @@ ghost use Rattle.trees.specs.Reading.{causeOf};
 ghost use Rattle.book.specs.Decoding.{bookIn};
 ghost use Rattle.book.specs.Holding.{Holds};
 ghost use Rattle.own.specs.Own.{list-words};
-ghost use Rattle.agree.specs.Checking.{checkOf};
+ghost use Rattle.book.specs.Checking.{checkOf};
 ghost use Rattle.agree.specs.Tallies.{most-entries, partsIn, allKnown, talliedAll, agreeingIn};
 use book::BookForm;
 use book::Places;

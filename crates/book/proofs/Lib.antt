@@ -8,3 +8,4 @@ pub mod Holding
 pub mod Openings
 pub mod Sound
 pub mod Taught
+pub mod Checking

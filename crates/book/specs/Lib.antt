@@ -6,3 +6,4 @@ pub mod Holding
 pub mod Passes
 pub mod Taught
 pub mod Opening
+pub mod Checking

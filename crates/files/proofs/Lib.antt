@@ -2,3 +2,4 @@
 pub mod Stored
 pub mod Restoring
 pub mod Reading
+pub mod Writing

@@ -38,9 +38,9 @@ use Rattle.book.proofs.Meaning.{used-fits}
 use Rattle.book.proofs.Holding.{refused-book}
 use Rattle.book.proofs.Sound.{on-any, why-is}
 use Rattle.verdicts.specs.Judging.{knows, firstUnknown, verdict, judgeOf}
-use Rattle.agree.specs.Checking.{checkOf}
+use Rattle.book.specs.Checking.{checkOf}
 use Rattle.files.specs.Files.{front-bytes, fileOf, writeFileOf, storedIn, readBookOf, readRestOf, isMarked, readFileOf}
-use Rattle.store.proofs.Writing.{file-long}
+use Rattle.files.proofs.Writing.{file-long}
 
 -- ---- whatever is answered
 

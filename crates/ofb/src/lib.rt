@@ -5,7 +5,7 @@ ghost use Prim.Native.Nat.{_^_, _<_};
 ghost use Rattle.book.specs.Opening.{openOf};
 ghost use Rattle.verdicts.specs.Judging.{judgeOf};
 ghost use Rattle.effects.specs.Calls.{teachOf, withdrawOf};
-ghost use Rattle.agree.specs.Checking.{checkOf};
+ghost use Rattle.book.specs.Checking.{checkOf};
 ghost use Rattle.files.specs.Files.{writeFileOf, readFileOf};
 ghost use Rattle.form.specs.Reading.{readOf};
 ghost use Rattle.form.specs.Writing.{writeOf};

@@ -15,8 +15,8 @@ use Rattle.book.specs.Sound.{IsBook, WhyForm, shorter, longer, formless, book}
 use Rattle.book.specs.Taught.{agreeing}
 use Rattle.book.specs.declared.BookForm.the-variants.{Refused}
 use Rattle.book.proofs.Sound.{why-is, why-only}
-use Rattle.agree.specs.Checking.{checkOf}
-use Rattle.agree.proofs.Checking.{check-unheld, check-held}
+use Rattle.book.specs.Checking.{checkOf}
+use Rattle.book.proofs.Checking.{check-unheld, check-held}
 use Rattle.effects.specs.Conditions.{_exactly-when_}
 use Rattle.promises.specs.Remaining.{Call, after, remaining, booked}
 use Rattle.promises.specs.Agreement.{Agrees}

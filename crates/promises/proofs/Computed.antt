@@ -17,7 +17,7 @@ use Rattle.book.specs.Taught.{addEach, taught, bookOf, teachingsIn, sameSection
 use Rattle.book.specs.Opening.{openOf}
 use Rattle.verdicts.specs.Judging.{knows, firstUnknown, verdict, judgeOf}
 use Rattle.effects.specs.Calls.{onOrder, withinCounts, teachTree, teachOf, lowerEach, withdrawn, hasEach, hasParts, withdrawTree, withdrawOf}
-use Rattle.agree.specs.Checking.{checkOf}
+use Rattle.book.specs.Checking.{checkOf}
 use Rattle.form.specs.Text.{linesOf, levelText, codeText, lineText, spell, textOf}
 use Rattle.reply.specs.Replies.{lastDigits, withoutZeros, decimal, field, reply}
 use Rattle.sheet.specs.Sheets.{letterOf, withByte, inputLines, kindOf, withLine, callsOf, sheetOf, firstLine, handedBy, byFirst, handedIn}

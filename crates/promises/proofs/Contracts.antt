@@ -24,7 +24,7 @@ use Rattle.book.specs.Decoding.{bookFormOf}
 use Rattle.book.specs.Opening.{outcome, openOf}
 use Rattle.verdicts.specs.Judging.{judgeOf}
 use Rattle.effects.specs.Calls.{teachOf, withdrawOf}
-use Rattle.agree.specs.Checking.{checkOf as agreesOf}
+use Rattle.book.specs.Checking.{checkOf as agreesOf}
 use Rattle.files.specs.Files.{writeFileOf, readFileOf}
 use Rattle.sheet.specs.Sheets.{letterByte, openingOf}
 use Rattle.calls.specs.Steps.{stepping, beginOf, stepOf}

@@ -35,7 +35,7 @@ use Rattle.effects.specs.Calls.{teachOf, withdrawOf}
 use Rattle.effects.specs.Whys.{WhyTaught, WhyWithdrawn}
 use Rattle.effects.proofs.Whys.{teach-why, teach-only, withdraw-why, withdraw-only}
 use Rattle.effects.proofs.Conditions.{teach-refusal-leaves, withdraw-refusal-leaves, teach-line, withdraw-line}
-use Rattle.agree.specs.Checking.{checkOf as agreesOf}
+use Rattle.book.specs.Checking.{checkOf as agreesOf}
 use Rattle.files.specs.Files.{writeFileOf, readFileOf}
 use Rattle.ofb.proofs.Figures.{open-line, check-line as agrees-line, print-line, filed-line, restored-line}
 use Rattle.reply.specs.Replies.{reply-room}

@@ -17,7 +17,7 @@ use Rattle.book.proofs.Meaning.{lay-long, used-fits}
 use Rattle.book.proofs.Sound.{head-says}
 use Rattle.effects.proofs.Calling.{number-is, words-are}
 use Rattle.files.specs.Files.{front-bytes, fileOf, writeFileOf, readFileOf}
-use Rattle.store.proofs.Writing.{file-long}
+use Rattle.files.proofs.Writing.{file-long}
 use Rattle.promises.specs.Agreement.{Agrees}
 use Rattle.promises.specs.Whys.{IsFile, WhyFiled, file-no-book, file-disagrees, file-short, filed}
 use Rattle.promises.specs.Whys.{BookSized, WhyRestored, restore-shorter, restore-longer, few-bytes, wrong-mark, wrong-version, no-used-words, restore-disagrees, restore-no-room, restores}

@@ -27,7 +27,7 @@ use Rattle.book.proofs.Sound.{form-sound, sound-form, why-is, why-only}
 use Rattle.octets.specs.Octets.{bytesOf}
 use Rattle.files.specs.Files.{mark, mark-bytes, version, front-bytes, fileOf, writeFileOf, isMarked, storedIn, readBookOf, readRestOf, readFileOf}
 use Rattle.files.proofs.Stored.{Stored, stored-some, stored-is, stored-none}
-use Rattle.store.proofs.Writing.{file-unheld, file-by}
+use Rattle.files.proofs.Writing.{file-unheld, file-by}
 use Rattle.files.proofs.Reading.{mark-short, marked-long, read-unsized, read-unmarked, read-other, read-rest}
 use Rattle.files.proofs.Restoring.{restore-none, restore-some, restored-disagreeing, restored-short, restored-written}
 use Rattle.promises.specs.Agreement.{Agrees}

@@ -23,7 +23,7 @@ use Rattle.form.specs.Writing.{writeOf}
 use Rattle.book.specs.Opening.{Outcome, openOf}
 use Rattle.verdicts.specs.Judging.{judgeOf}
 use Rattle.effects.specs.Calls.{teachOf, withdrawOf}
-use Rattle.agree.specs.Checking.{checkOf}
+use Rattle.book.specs.Checking.{checkOf}
 use Rattle.files.specs.Files.{writeFileOf, readFileOf}
 use Rattle.ofb.specs.Interface.{toldOf, toldWrittenOf, Handed, handed, outcomeInC, writingInC, partInC}
 use Rattle.ofb.specs.declared.OfbAnswer.{OfbAnswer}

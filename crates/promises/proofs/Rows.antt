@@ -12,7 +12,7 @@ use Rattle.book.specs.Decoding.{formed}
 use Rattle.book.specs.Taught.{Teaching, bookOf, agreeing}
 use Rattle.effects.specs.Calls.{hasParts}
 use Rattle.figures.specs.Answers.{answered}
-use Rattle.agree.specs.Checking.{checkOf}
+use Rattle.book.specs.Checking.{checkOf}
 use Rattle.promises.specs.Heard.{A, B, C, single, opens, teaches, withdraws, slice, heard}
 use Rattle.promises.proofs.Computed.{computes}
 

@@ -46,6 +46,28 @@ pub fn number(digits: &[u8]) -> usize {
     n
 }
 
+// A kind of cases has at most eight letters; this is the greatest number of seven.
+const SEVEN_LETTERS: u64 = 26_26_26_26_26_26_26;
+
+// The number of a kind of cases by its name: two digits for each letter, a being 01 and z 26; 0 where it is no name of small letters, at most eight.
+pub fn kind(name: &[u8]) -> u64 {
+    let mut kind: u64 = 0;
+    for i in 0..name.len() {
+        let letter = name[i];
+        if letter < b'a' {
+            return 0;
+        }
+        if b'z' < letter {
+            return 0;
+        }
+        if SEVEN_LETTERS < kind {
+            return 0;
+        }
+        kind = kind * 100 + (letter - b'a' + 1) as u64;
+    }
+    kind
+}
+
 // Lets the last of the first `count` words stand so many times in all, and answers how many words there are then, or NONE.
 fn repeat(words: &mut [u16], count: usize, times: usize) -> usize {
     if count == 0 {

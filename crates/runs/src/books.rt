@@ -8,13 +8,13 @@
 //   agrees            it is checked to agree with itself
 //   show              says every word of it
 // Each call on the kept book says its answer, word 1 of the book and a mark of all the words of its slice.
+use crate::kinds;
 use book::BookForm;
 use book::Places;
 use figures::Answer;
 use report::fill;
 use report::kept;
 use report::mark;
-use report::same;
 use report::say;
 use report::wide;
 
@@ -34,7 +34,7 @@ fn places(places: Places) {
 }
 
 // Says what a look at a book's form gave.
-fn form(form: BookForm) {
+pub fn form(form: BookForm) {
     match form {
         BookForm::Refused(number) => {
             say::text(b"refused ");
@@ -71,7 +71,7 @@ fn open_in(slice: &mut [u16], k: u16) {
 }
 
 // Runs a case of `open`.
-fn open(given: &[u16], held: &mut [u16]) {
+pub fn open(given: &[u16], held: &mut [u16]) {
     if given.len() != 2 {
         say::not_understood();
         return;
@@ -87,7 +87,7 @@ fn open(given: &[u16], held: &mut [u16]) {
 }
 
 // Keeps words as a book, and says how many they are and how it stands.
-fn lay(given: &[u16], held: &mut [u16]) {
+pub fn lay(given: &[u16], held: &mut [u16]) {
     if !kept::put(given, 0, held) {
         say::not_understood();
         return;
@@ -97,60 +97,46 @@ fn lay(given: &[u16], held: &mut [u16]) {
     state(given);
 }
 
-// Makes a call on a book, by its kind and the order that it is given, and answers whether it is one.
-fn call(kind: &[u8], order: &[u16], book: &mut [u16]) -> bool {
-    if same::bytes(kind, b"teach") {
-        heard(teach::teach(book, order), book);
-        return true;
+// Runs a case of `show`.
+pub fn show(given: &[u16], held: &[u16]) {
+    if given.len() != 0 {
+        say::not_understood();
+        return;
     }
-    if same::bytes(kind, b"withdraw") {
-        heard(teach::withdraw(book, order), book);
-        return true;
-    }
-    if same::bytes(kind, b"ask") {
-        heard(judge::judge(book, order), book);
-        return true;
-    }
-    if order.len() != 0 {
-        return false;
-    }
-    if same::bytes(kind, b"agrees") {
-        heard(agree::check(book), book);
-        return true;
-    }
-    if same::bytes(kind, b"show") {
-        say::text(b"words:");
-        say::slice(book);
-        return true;
-    }
-    false
+    say::text(b"words:");
+    say::slice(kept::all(held));
 }
 
-// Makes a call on the kept book, by what holds it, and answers whether it is one.
-fn on_kept(kind: &[u8], given: &[u16], held: &mut [u16]) -> bool {
+// Makes a call on a book, by its kind: one of the four.
+fn made(kind: u64, order: &[u16], book: &mut [u16]) -> Answer {
+    match kind {
+        kinds::TEACH => teach::teach(book, order),
+        kinds::WITHDRAW => teach::withdraw(book, order),
+        kinds::ASK => judge::judge(book, order),
+        _ => agree::check(book),
+    }
+}
+
+// Makes a call on the kept book, by its kind and the order that it is given, and says what it answered and how the book stands then.
+fn on_kept(kind: u64, order: &[u16], held: &mut [u16]) {
     if held.len() == 0 {
-        return false;
+        return;
     }
     let end = 1 + wide::number(held[0]);
     if held.len() < end {
-        return false;
+        return;
     }
-    call(kind, given, &mut held[1..end])
+    let answer = made(kind, order, &mut held[1..end]);
+    heard(answer, kept::all(held));
 }
 
-// Runs a case of books, by its kind and what it is given, and answers whether it is one.
-pub fn case(kind: &[u8], given: &[u16], held: &mut [u16]) -> bool {
-    if same::bytes(kind, b"form") {
-        form(look::in_form(given));
-        return true;
+// Runs a case of `teach`, `withdraw`, `ask` or `agrees`, of which the last has no order.
+pub fn call(kind: u64, given: &[u16], held: &mut [u16]) {
+    if kind == kinds::AGREES {
+        if given.len() != 0 {
+            say::not_understood();
+            return;
+        }
     }
-    if same::bytes(kind, b"open") {
-        open(given, held);
-        return true;
-    }
-    if same::bytes(kind, b"lay") {
-        lay(given, held);
-        return true;
-    }
-    on_kept(kind, given, held)
+    on_kept(kind, given, held);
 }

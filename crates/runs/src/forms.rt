@@ -22,7 +22,7 @@ fn read_to(text: &[u8], out: &mut [u16]) {
 }
 
 // Runs a case of `read`, by what stands behind its kind.
-fn read(behind: &[u8]) {
+pub fn read(behind: &[u8]) {
     if behind.len() == 0 {
         say::not_understood();
         return;
@@ -67,7 +67,7 @@ fn is_back(text: &[u8]) -> bool {
 }
 
 // Runs a case of `back`, by what stands behind its kind.
-fn back(behind: &[u8]) {
+pub fn back(behind: &[u8]) {
     let mut text = [0u8; MOST];
     let n = line::text(behind, &mut text);
     if text.len() < n {
@@ -75,19 +75,6 @@ fn back(behind: &[u8]) {
         return;
     }
     say::came_back(is_back(&text[0..n]));
-}
-
-// Runs a case that has a text, by its kind and what stands behind that, and answers whether it is one.
-pub fn with_text(kind: &[u8], behind: &[u8]) -> bool {
-    if same::bytes(kind, b"read") {
-        read(behind);
-        return true;
-    }
-    if same::bytes(kind, b"back") {
-        back(behind);
-        return true;
-    }
-    false
 }
 
 // Writes an order to an output, and says what came of it.
@@ -99,7 +86,7 @@ fn write_to(order: &[u16], out: &mut [u8]) {
 }
 
 // Runs a case of `write`.
-fn write(given: &[u16]) {
+pub fn write(given: &[u16]) {
     if given.len() == 0 {
         say::not_understood();
         return;
@@ -136,15 +123,7 @@ fn is_there(order: &[u16]) -> bool {
     same::words(order, &words[0..count])
 }
 
-// Runs a case that has words, by its kind and what it is given, and answers whether it is one.
-pub fn case(kind: &[u8], given: &[u16]) -> bool {
-    if same::bytes(kind, b"write") {
-        write(given);
-        return true;
-    }
-    if same::bytes(kind, b"there") {
-        say::came_back(is_there(given));
-        return true;
-    }
-    false
+// Runs a case of `there`.
+pub fn there(order: &[u16]) {
+    say::came_back(is_there(order));
 }

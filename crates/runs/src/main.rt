@@ -5,6 +5,7 @@ mod books;
 mod cases;
 mod forms;
 mod input;
+mod kinds;
 mod orders;
 mod stored;
 

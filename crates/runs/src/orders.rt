@@ -7,13 +7,21 @@
 use figures::Asked;
 use figures::Depth;
 use report::lent;
-use report::same;
 use report::say;
 use report::wide;
 use trees::Kind;
 
-// Says the subtree of a line.
-fn subtree(given: &[u16]) {
+// Runs a case of `k`.
+pub fn k(given: &[u16]) {
+    if given.len() != 1 {
+        say::not_understood();
+        return;
+    }
+    say::word(Depth::new(given[0]).number());
+}
+
+// Runs a case of `subtree`.
+pub fn subtree(given: &[u16]) {
     if given.len() < 1 {
         say::not_understood();
         return;
@@ -31,7 +39,7 @@ fn cut_to(order: &[u16], line: usize, d: usize, out: &mut [u16]) {
 }
 
 // Runs a case of `cut`.
-fn cut(given: &[u16]) {
+pub fn cut(given: &[u16]) {
     if given.len() < 3 {
         say::not_understood();
         return;
@@ -68,7 +76,7 @@ fn part_to(order: &[u16], line: usize, k: Depth, out: &mut [u16]) {
 }
 
 // Runs a case of `part`.
-fn part(given: &[u16]) {
+pub fn part(given: &[u16]) {
     if given.len() < 3 {
         say::not_understood();
         return;
@@ -85,32 +93,4 @@ fn part(given: &[u16]) {
         return;
     }
     part_to(&given[3..], line, k, &mut out[0..room]);
-}
-
-// Runs a case of orders, by its kind and what it is given, and answers whether it is one.
-pub fn case(kind: &[u8], given: &[u16]) -> bool {
-    if same::bytes(kind, b"check") {
-        say::heard(order::check(given));
-        return true;
-    }
-    if same::bytes(kind, b"k") {
-        if given.len() != 1 {
-            return false;
-        }
-        say::word(Depth::new(given[0]).number());
-        return true;
-    }
-    if same::bytes(kind, b"subtree") {
-        subtree(given);
-        return true;
-    }
-    if same::bytes(kind, b"cut") {
-        cut(given);
-        return true;
-    }
-    if same::bytes(kind, b"part") {
-        part(given);
-        return true;
-    }
-    false
 }

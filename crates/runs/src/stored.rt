@@ -10,6 +10,8 @@
 //   trip                the file of the kept book is written, and read into a slice of as many words as the book's
 //   again               the kept file is read into a slice of 16,384 words, and what is read is written
 //   swap                the kept book and the other, of which there is none at first, change places
+ghost use Prim.Native.Nat.{_≤_};
+ghost use lib.ListN.{length};
 use figures::limits::MOST_BOOK_WORDS;
 use figures::numbers::DONE;
 use report::fill;
@@ -24,7 +26,7 @@ use report::say;
 use report::wide;
 
 // Keeps bytes behind the first `had` of the kept file, and says how many it has then.
-fn lay(given: &[u16], had: usize, file: &mut [u16]) {
+pub fn lay(given: &[u16], had: usize, file: &mut [u16]) {
     let mut bytes = [0u8; MOST_FILE];
     if wide::narrow(given, &mut bytes) < given.len() {
         say::not_understood();
@@ -36,6 +38,12 @@ fn lay(given: &[u16], had: usize, file: &mut [u16]) {
     }
     say::count(kept::all(file).len());
     say::text(b" bytes");
+}
+
+// Runs a case of `more`.
+pub fn more(given: &[u16], file: &mut [u16]) {
+    let had = kept::all(file).len();
+    lay(given, had, file);
 }
 
 // Puts a byte at a place of the kept file, and answers the one that stood there; where there is no such place or no such byte, answers no byte, and
@@ -50,8 +58,8 @@ fn change(file: &mut [u16], at: u16, byte: u16) -> u16 {
     old
 }
 
-// Puts a byte at a place of the kept file, and says the one that stood there.
-fn put(given: &[u16], file: &mut [u16]) {
+// Runs a case of `put`, and says the byte that stood there.
+pub fn put(given: &[u16], file: &mut [u16]) {
     if given.len() != 2 {
         say::not_understood();
         return;
@@ -92,7 +100,7 @@ fn store_to(book: &[u16], out: &mut [u8], file: &mut [u16]) {
 }
 
 // Runs a case of `store`.
-fn store(given: &[u16], book: &[u16], file: &mut [u16]) {
+pub fn store(given: &[u16], book: &[u16], file: &mut [u16]) {
     if given.len() != 1 {
         say::not_understood();
         return;
@@ -103,7 +111,7 @@ fn store(given: &[u16], book: &[u16], file: &mut [u16]) {
         say::not_understood();
         return;
     }
-    store_to(book, &mut out[0..room], file);
+    store_to(kept::all(book), &mut out[0..room], file);
 }
 
 // Reads a file into a slice, each of whose words is 9 before, and says the answer and every word of the slice.
@@ -115,7 +123,7 @@ fn load_to(file: &[u8], slice: &mut [u16]) {
 }
 
 // Reads the bytes of a list into the slice that holds a book, which has so many words from now on, and says what came of it.
-fn load(list: &[u16], room: u16, held: &mut [u16]) {
+fn load_in(list: &[u16], room: u16, held: &mut [u16]) {
     let mut bytes = [0u8; MOST_FILE];
     let n = wide::narrow(list, &mut bytes);
     let end = 1 + wide::number(room);
@@ -127,27 +135,58 @@ fn load(list: &[u16], room: u16, held: &mut [u16]) {
     held[0] = room;
 }
 
-// Reads the first bytes of the kept file, so many, into a slice of so many words, and says what came of it.
-fn front(many: u16, room: u16, file: &[u16]) {
+// Reads the bytes of a list into a slice of so many words, and says what came of it.
+fn load_fresh(list: &[u16], room: u16) {
+    let mut held = [0u16; kept::BOOK];
+    load_in(list, room, &mut held);
+}
+
+// Runs a case of `load`.
+pub fn load(given: &[u16], file: &[u16]) {
+    if given.len() != 1 {
+        say::not_understood();
+        return;
+    }
+    load_fresh(kept::all(file), given[0]);
+}
+
+// Runs a case of `start`.
+pub fn start(given: &[u16], file: &[u16], book: &mut [u16]) {
+    if given.len() != 1 {
+        say::not_understood();
+        return;
+    }
+    load_in(kept::all(file), given[0], book);
+}
+
+// Runs a case of `front`.
+pub fn front(given: &[u16], file: &[u16]) {
+    if given.len() != 2 {
+        say::not_understood();
+        return;
+    }
     let list = kept::all(file);
-    let end = wide::number(many);
+    let end = wide::number(given[0]);
     if list.len() < end {
         say::not_understood();
         return;
     }
-    let mut held = [0u16; kept::BOOK];
-    load(&list[0..end], room, &mut held);
+    load_fresh(&list[0..end], given[1]);
 }
 
-// Reads the kept file with another byte at a place, and says what came of it; the kept file stays.
-fn with(at: u16, byte: u16, room: u16, file: &mut [u16]) {
-    let old = change(file, at, byte);
+// Runs a case of `with`; the kept file stays.
+pub fn with(given: &[u16], file: &mut [u16]) {
+    if given.len() != 3 {
+        say::not_understood();
+        return;
+    }
+    let at = given[0];
+    let old = change(file, at, given[1]);
     if wide::GREATEST < old {
         say::not_understood();
         return;
     }
-    let mut held = [0u16; kept::BOOK];
-    load(kept::all(file), room, &mut held);
+    load_fresh(kept::all(file), given[2]);
     change(file, at, old);
 }
 
@@ -156,6 +195,23 @@ fn refused(call: &[u8], number: u16) {
     say::text(call);
     say::text(b" refused by ");
     say::word(number);
+}
+
+// Writes the file of a book to an output, and answers how many bytes it has. Where it is not written, says why and answers 0: a file has a byte at least.
+fn written(book: &[u16], out: &mut [u8]) -> usize
+    ensures { λ r. ⌜ r ≤ length (now (out .entry)) ⌝ }
+{
+    let written = store::write(book, out);
+    let count = written.count;
+    if written.number != DONE {
+        refused(b"writing", written.number);
+        return 0;
+    }
+    if out.len() < count {
+        say::text(b"more than was lent");
+        return 0;
+    }
+    count
 }
 
 // Reads the file of a book into a slice, and says whether the slice is the book in every word.
@@ -169,17 +225,12 @@ fn read_back(book: &[u16], file: &[u8], slice: &mut [u16]) {
 }
 
 // Says whether a book comes back from its file.
-fn trip(book: &[u16]) {
+fn is_back(book: &[u16]) {
     let mut out = [HELD_BYTE; MOST_FILE];
-    let written = store::write(book, &mut out);
-    let count = written.count;
-    if written.number != DONE {
-        refused(b"writing", written.number);
-        return;
-    }
+    let count = written(book, &mut out);
     let n = book.len();
     let mut slice = [BEFORE; MOST_BOOK_WORDS];
-    if out.len() < count {
+    if count == 0 {
         return;
     }
     if slice.len() < n {
@@ -188,124 +239,48 @@ fn trip(book: &[u16]) {
     read_back(book, &out[0..count], &mut slice[0..n]);
 }
 
-// Says whether a file comes back from its book.
-fn again(list: &[u16]) {
+// Runs a case of `trip`.
+pub fn trip(given: &[u16], book: &[u16]) {
+    if given.len() != 0 {
+        say::not_understood();
+        return;
+    }
+    is_back(kept::all(book));
+}
+
+// Writes what was read of a file, and says whether the bytes are the file's.
+fn write_back(file: &[u8], book: &[u16]) {
+    let mut out = [HELD_BYTE; MOST_FILE];
+    let count = written(book, &mut out);
+    if count == 0 {
+        return;
+    }
+    say::came_back(same::bytes(file, &out[0..count]));
+}
+
+// Runs a case of `again`.
+pub fn again(given: &[u16], file: &[u16]) {
+    if given.len() != 0 {
+        say::not_understood();
+        return;
+    }
     let mut bytes = [0u8; MOST_FILE];
-    let n = wide::narrow(list, &mut bytes);
+    let n = wide::narrow(kept::all(file), &mut bytes);
     let mut slice = [BEFORE; MOST_BOOK_WORDS];
     let number = store::read(&bytes[0..n], &mut slice).number;
     if number != DONE {
         refused(b"reading", number);
         return;
     }
-    let mut out = [HELD_BYTE; MOST_FILE];
-    let written = store::write(&slice, &mut out);
-    let count = written.count;
-    if written.number != DONE {
-        refused(b"writing", written.number);
+    write_back(&bytes[0..n], &slice);
+}
+
+// Runs a case of `swap`.
+pub fn swap(given: &[u16], book: &mut [u16], other: &mut [u16]) {
+    if given.len() != 0 {
+        say::not_understood();
         return;
     }
-    if out.len() < count {
-        return;
-    }
-    say::came_back(same::bytes(&bytes[0..n], &out[0..count]));
-}
-
-// Runs a case that changes the kept file, by its kind and what it is given, and answers whether it is one.
-fn changes(kind: &[u8], given: &[u16], book: &[u16], file: &mut [u16]) -> bool {
-    if same::bytes(kind, b"file") {
-        lay(given, 0, file);
-        return true;
-    }
-    if same::bytes(kind, b"more") {
-        let had = kept::all(file).len();
-        lay(given, had, file);
-        return true;
-    }
-    if same::bytes(kind, b"put") {
-        put(given, file);
-        return true;
-    }
-    if same::bytes(kind, b"store") {
-        store(given, kept::all(book), file);
-        return true;
-    }
-    false
-}
-
-// Runs a case that reads the kept file into a slice of its own, by its kind and what it is given, and answers whether it is one.
-fn reads(kind: &[u8], given: &[u16], file: &mut [u16]) -> bool {
-    if given.len() == 1 {
-        if same::bytes(kind, b"load") {
-            let mut held = [0u16; kept::BOOK];
-            load(kept::all(file), given[0], &mut held);
-            return true;
-        }
-        return false;
-    }
-    if given.len() == 2 {
-        if same::bytes(kind, b"front") {
-            front(given[0], given[1], file);
-            return true;
-        }
-        return false;
-    }
-    if given.len() == 3 {
-        if same::bytes(kind, b"with") {
-            with(given[0], given[1], given[2], file);
-            return true;
-        }
-    }
-    false
-}
-
-// Runs a case that changes the kept book, or the two, by its kind and what it is given, and answers whether it is one.
-fn begins(kind: &[u8], given: &[u16], book: &mut [u16], other: &mut [u16], file: &[u16]) -> bool {
-    if same::bytes(kind, b"start") {
-        if given.len() != 1 {
-            return false;
-        }
-        load(kept::all(file), given[0], book);
-        return true;
-    }
-    if given.len() != 0 {
-        return false;
-    }
-    if same::bytes(kind, b"swap") {
-        kept::exchange(book, other);
-        say::text(b"done");
-        return true;
-    }
-    false
-}
-
-// Runs a case of files or of two books, by its kind and what it is given, and answers whether it is one.
-pub fn case(
-    kind: &[u8],
-    given: &[u16],
-    book: &mut [u16],
-    other: &mut [u16],
-    file: &mut [u16],
-) -> bool {
-    if changes(kind, given, book, file) {
-        return true;
-    }
-    if reads(kind, given, file) {
-        return true;
-    }
-    if begins(kind, given, book, other, file) {
-        return true;
-    }
-    if given.len() != 0 {
-        return false;
-    }
-    if same::bytes(kind, b"trip") {
-        trip(kept::all(book));
-        return true;
-    }
-    if same::bytes(kind, b"again") {
-        again(kept::all(file));
-        return true;
-    }
-    false
+    kept::exchange(book, other);
+    say::text(b"done");
 }

@@ -2,7 +2,7 @@
 use mathlib.Core.Path.{sym, _∙_}
 use borrow.Author.Needs.{needs}
 use Rattle.book.proofs.Holding.{holds}
-use Rattle.agree.proofs.Checking.{check-unheld}
+use Rattle.book.proofs.Checking.{check-unheld}
 use Rattle.agree.proofs.check.Statement.{statement}
 use Rattle.agree.proofs.check.Tie as tie
 

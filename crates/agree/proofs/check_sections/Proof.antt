@@ -19,9 +19,9 @@ use Rattle.book.specs.declared.Places.{Places}
 use Rattle.book.proofs.Sound.{held-book}
 use Rattle.own.specs.Own.{list-words}
 use Rattle.effects.proofs.Outcomes.{all-zeros}
-use Rattle.agree.specs.Checking.{checkOf}
+use Rattle.book.specs.Checking.{checkOf}
 use Rattle.agree.specs.Tallies.{agreeingIn}
-use Rattle.agree.proofs.Checking.{check-held}
+use Rattle.book.proofs.Checking.{check-held}
 use Rattle.agree.proofs.check_sections.Statement.{statement}
 use Rattle.agree.proofs.check_sections.Tie as tie
 

@@ -2,7 +2,7 @@
 use mathlib.Core.Path.{ap, _∙_}
 use lib.ListN.{length, length-set}
 use borrow.Author.Needs.{needs}
-use Rattle.store.proofs.Writing.{front-stores}
+use Rattle.files.proofs.Writing.{front-stores}
 use Rattle.store.proofs.put_front.Statement.{statement}
 use Rattle.store.proofs.put_front.Tie as tie
 

@@ -14,8 +14,8 @@ use Rattle.book.specs.Holding.{Holds}
 use Rattle.book.specs.Taught.{agreeing}
 use Rattle.book.specs.declared.Places.{Places}
 use Rattle.book.proofs.Sound.{held-book}
-use Rattle.agree.specs.Checking.{checkOf}
-use Rattle.agree.proofs.Checking.{check-held}
+use Rattle.book.specs.Checking.{checkOf}
+use Rattle.book.proofs.Checking.{check-held}
 use Rattle.files.specs.Files.{storedNumber}
 use Rattle.store.proofs.stored_number.Statement.{statement}
 use Rattle.store.proofs.stored_number.Tie as tie

@@ -5,14 +5,14 @@ use mathlib.Core.List.{List}
 use Rattle.words.specs.Base.{if_then_else_}
 use Rattle.figures.specs.Numbers.{done, not-agreeing}
 use Rattle.figures.specs.Answers.{answered}
 use Rattle.book.specs.Book.{Book}
 use Rattle.book.specs.Decoding.{bookFormOf}
 use Rattle.book.specs.Sound.{IsBook}
 use Rattle.book.specs.Taught.{agreeing}
 use Rattle.book.specs.declared.BookForm.the-variants.{Refused}
 use Rattle.book.proofs.Holding.{refused-book}
 use Rattle.book.proofs.Sound.{on-any}
-use Rattle.agree.specs.Checking.{checkOf}
+use Rattle.book.specs.Checking.{checkOf}
 
 -- A slice that is no book in form is answered by 4 or 5.
 pub check-unheld : (ws : List ℕ) (n : ℕ) → bookFormOf ws ≡ Refused n → checkOf ws ≡ answered n

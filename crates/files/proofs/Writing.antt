@@ -23,9 +23,9 @@ use Rattle.book.specs.declared.BookForm.the-variants.{Refused}
 use Rattle.book.proofs.Meaning.{used-fits}
 use Rattle.book.proofs.Holding.{refused-book}
 use Rattle.book.proofs.Sound.{on-any, why-is, head-says, encode-length}
-use Rattle.agree.specs.Checking.{checkOf}
-use Rattle.agree.proofs.Checking.{check-unheld, check-held}
+use Rattle.book.specs.Checking.{checkOf}
+use Rattle.book.proofs.Checking.{check-unheld, check-held}
 use Rattle.files.specs.Files.{mark, version, front-bytes, fileOf, writeFileOf}
 
 -- ---- the front of a file
 
