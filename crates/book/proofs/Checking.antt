@@ -1,4 +1,4 @@
--- What `check` answers, by what the words are. Assumes nothing.
+-- What `agree::check` answers, by what the words are. Assumes nothing.
 use Prim.Native.Nat.{ℕ}
 use mathlib.Core.Path.{_≡_}
 use mathlib.Core.List.{List}

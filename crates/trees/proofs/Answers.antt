@@ -1,4 +1,4 @@
--- What the public functions answer, by where the line stands. Assumes nothing.
+-- What the public functions of `order`, `cuts` and `parts` answer, by where the line stands. Assumes nothing.
 use mathlib.Core.Path.{_≡_, refl, ap, sym, _∙_}
 use mathlib.Core.Bool.{Bool, true, false}
 use mathlib.Core.List.{List, []}

@@ -1,4 +1,4 @@
--- What the public functions answer, for all inputs. Assumes nothing: these are definitions.
+-- What the public functions of `order`, `cuts` and `parts` answer, for all inputs. Assumes nothing: these are definitions.
 use mathlib.Core.List.{List, [], _∷_}
 use Prim.Native.Nat.{ℕ, zero, suc}
 use lib.Dec.{leb}

@@ -1,4 +1,4 @@
--- What the crate's inner functions find in an order's words, by the trees. Assumes nothing: these are definitions.
+-- What the inner functions of `order`, `cuts` and `parts` find in an order's words, by the trees. Assumes nothing: these are definitions.
 use mathlib.Core.List.{List, []}
 use Prim.Native.Nat.{ℕ, zero, suc, _+_, _-_, _*_, _≤_}
 use lib.Dec.{leb, ltb}

@@ -1,4 +1,4 @@
--- What the proofs of several functions, and those of other crates, use.
+-- The laws of the crate, which the proofs of functions in other crates, and other laws, cite.
 pub mod Seekings
 pub mod Spellings
 pub mod Tops

@@ -1,4 +1,4 @@
--- The definitions of the crate: what is answered, the rows of the rules' table that say so by document 000, and what the inner functions find.
+-- The definitions of the crate: what is answered, the rows of the rules' table that say so by document 000, and what the inner functions of `judge` find.
 pub mod Judging
 pub mod Verdicts
 pub mod Seeking

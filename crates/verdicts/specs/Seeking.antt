@@ -1,4 +1,4 @@
--- What the inner functions look up in a book, by the trees that stand in the order's words. Assumes nothing: these are definitions.
+-- What the inner functions of `judge` look up in a book, by the trees that stand in the order's words. Assumes nothing: these are definitions.
 use Prim.Native.Nat.{ℕ, zero, suc, _+_, _*_, _-_, _≤_}
 use mathlib.Core.Bool.{Bool, true, false}
 use mathlib.Core.List.{List, [], _∷_}
