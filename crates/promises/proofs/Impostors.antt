@@ -2,7 +2,8 @@
 -- refusing everything by `Accepts`, the exact conditions of 6 and 7, and of judging by `Judging`, demand 2;
 -- passing everything, or one verdict for all, by `Judging`;
 -- teaching that writes nothing, learning the first order and nodding at the rest, and word 2 or a count invented, by `Keeps`, demand 3;
--- and all of them by demand 1's rows, `Teaches` and `Judges`. Assumes nothing.
+-- and all of them by demand 1's rows, `Teaches` and `Judges`. A sixth, which teaches rightly and never forgets, is shut out by `Releases`, the exact
+-- condition of withdrawing. Assumes nothing.
 use Prim.Native.Nat.{ℕ, _≤_, _<_}
 use mathlib.Core.Path.{_≡_, refl, sym, ap, ap₂, subst, _∙_}
 use mathlib.Core.List.{List, [], _∷_, _++_}
@@ -29,11 +30,11 @@ use Rattle.effects.specs.Conditions.{_exactly-when_}
 use Rattle.effects.specs.Whys.{WhyTaught}
 use Rattle.effects.proofs.Whys.{teach-only}
 use Rattle.promises.specs.Heard.{single, pair}
-use Rattle.promises.specs.Remaining.{Call, teach, outcomeOf, afterBy, remainBy, remainingBy, booked, ExactlyThese}
+use Rattle.promises.specs.Remaining.{Call, teach, withdraw, timesOf, outcomeOf, afterBy, remainBy, remainingBy, booked, ExactlyThese}
 use Rattle.promises.specs.Starts.{Start, opening, startedBy, taughtFirst, startK}
 use Rattle.promises.proofs.Computed.{computes}
 use Rattle.promises.proofs.Demand2.{passes-exactly}
-use Rattle.promises.proofs.Demand3.{opening-done, parts-and-counts, same-length, taught-exactly}
+use Rattle.promises.proofs.Demand3.{opening-done, parts-and-counts, same-length, taught-exactly, withdrawn-exactly}
 use Rattle.promises.proofs.Uniqueness.{booked-is}
 use Rattle.promises.proofs.Wordings.{after-last, remaining-last}
 
@@ -301,3 +302,34 @@ refusing-calls answers accepts none =
     let opens : openOf blank 2 .answer .number ≡ done = ap (λ (a : Answer). a .number) (opening-done blank 2 (omega arith) (omega arith) (omega arith) (omega arith)) in
     let first = accepts blank opens [] (words single) single single-order in
     none (words single) (openOf blank 2 .words) (first .1 (omega arith, omega (arith, node-needs)))
+
+-- ---- by the exact condition of withdrawing
+
+-- What answers calls so that, after any of them on a book that a run starts with, a withdrawal of an order within limits is done exactly if such an order remains.
+abbrev pub Releases : Start → (Call → List ℕ → Outcome) → Type 0
+Releases start answers =
+    (slice : List ℕ) → startedBy start slice .answer .number ≡ done
+    → (cs : List Call) (os : List ℕ) (t : Tree) → IsOrder os t
+    → (answers (withdraw os) (afterBy answers cs (startedBy start slice .words)) .answer .number ≡ done) exactly-when
+    (1 ≤ timesOf os (remainingBy answers cs (startedBy start slice .words) (taughtFirst start)))
+
+-- The teaching and withdrawing here do.
+pub releasing-here : (start : Start) → Releases start outcomeOf
+releasing-here = withdrawn-exactly
+
+-- The node stands once among itself.
+node-once : timesOf (words single) (words single ∷ []) ≡ 1
+unfolding computes timesOf
+node-once = refl
+
+-- "When a taught order proves bad it is withdrawn, and the book must forget it": some withdrawal is done, that of the node, from a book just opened in
+-- which it was taught. So a book that teaches rightly and refuses every withdrawal is shut out.
+pub never-forgetting : (answers : Call → List ℕ → Outcome) → Accepts (opening 2) answers → Releases (opening 2) answers
+    → ((os ws : List ℕ) → answers (withdraw os) ws .answer .number ≡ done → ⊥) → ⊥
+unfolding afterBy remainingBy
+never-forgetting answers accepts releases none =
+    let opens : openOf blank 2 .answer .number ≡ done = ap (λ (a : Answer). a .number) (opening-done blank 2 (omega arith) (omega arith) (omega arith) (omega arith)) in
+    let taught : answers (teach (words single)) (openOf blank 2 .words) .answer .number ≡ done = accepts blank opens [] (words single) single single-order .1 (omega arith, omega (arith, node-needs)) in
+    let left : remainBy (teach (words single)) (answers (teach (words single)) (openOf blank 2 .words) .answer .number) [] ≡ words single ∷ [] = done-one-more (words single) _ [] taught in
+    let once : timesOf (words single) (remainBy (teach (words single)) (answers (teach (words single)) (openOf blank 2 .words) .answer .number) []) ≡ 1 = ap (timesOf (words single)) left ∙ node-once in
+    none (words single) _ (releases blank opens (teach (words single) ∷ []) (words single) single single-order .1 (omega (arith, once)))
