@@ -23,7 +23,7 @@ use Rattle.calls.specs.Lines.{feeds, EndsLine, linesDue}
 -- ---- bytes
 
 -- A byte that is no LF adds none.
-no-feed : (b : ℕ) (bs : List ℕ) → (b ≡ line-feed → ⊥) → feeds (b ∷ bs) ≡ feeds bs
+pub no-feed : (b : ℕ) (bs : List ℕ) → (b ≡ line-feed → ⊥) → feeds (b ∷ bs) ≡ feeds bs
 unfolding feeds if_then_else_
 no-feed b bs n = rw (ne-eqb b line-feed n)
 
@@ -38,7 +38,7 @@ feeds-on b bs = go (eqb b line-feed)
     go false = omega arith
 
 -- Two texts have as many as both.
-feeds-append : (xs ys : List ℕ) → feeds (xs ++ ys) ≡ feeds xs + feeds ys
+pub feeds-append : (xs ys : List ℕ) → feeds (xs ++ ys) ≡ feeds xs + feeds ys
 unfolding feeds if_then_else_
 feeds-append [] ys = omega arith
 feeds-append (x ∷ xs) ys = go (eqb x line-feed) (feeds-append xs ys)
@@ -50,12 +50,12 @@ feeds-append (x ∷ xs) ys = go (eqb x line-feed) (feeds-append xs ys)
     go false h = h
 
 -- LF alone is one.
-one-feed : feeds (line-feed ∷ []) ≡ 1
+pub one-feed : feeds (line-feed ∷ []) ≡ 1
 unfolding feeds if_then_else_
 one-feed = refl
 
 -- No byte is none.
-feeds-none : feeds [] ≡ 0
+pub feeds-none : feeds [] ≡ 0
 unfolding feeds
 feeds-none = refl
 
@@ -128,7 +128,7 @@ letter-no-feed Withdraw e = omega arith
 letter-no-feed Judge e = omega arith
 
 -- The line of an outcome has one.
-line-feeds : (letter : ℕ) (o : Outcome) → (letter ≡ line-feed → ⊥) → feeds (lineFor letter o) ≡ 1
+pub line-feeds : (letter : ℕ) (o : Outcome) → (letter ≡ line-feed → ⊥) → feeds (lineFor letter o) ≡ 1
 unfolding lineFor
 line-feeds letter o n = reply-feeds letter (o .answer) _ n
 
@@ -138,7 +138,7 @@ unfolding lineFor
 line-ends letter o = reply-ends letter (o .answer) _
 
 -- Calls have a line each.
-calls-feeds : (cs : List Call) (book : List ℕ) → feeds (linesFor cs book) ≡ length cs
+pub calls-feeds : (cs : List Call) (book : List ℕ) → feeds (linesFor cs book) ≡ length cs
 unfolding linesFor
 calls-feeds [] book = feeds-none
 calls-feeds (c ∷ cs) book =

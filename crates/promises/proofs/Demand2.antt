@@ -1,5 +1,5 @@
 -- Demand 2: "An order passes exactly when its top, its low parts and its middle parts are all in the book, as García's paper (document 000) defines
--- them. Codes are decimal. A sound form goes to text and back unchanged; so does a book that agrees with itself, to file and back into a slice of its own
+-- them. Codes are read as decimal. A sound form goes to text and back unchanged; so does a book that agrees with itself, to file and back into a slice of its own
 -- length."
 --
 -- Document 000's r, l and p are `IsR`, `IsL` and `IsP` (trees/specs/Paper.antt), said by positions and labels. A tree is in a section if one of its
@@ -25,9 +25,11 @@ use Rattle.form.specs.Reading.{isDigit, speltOf, form, readLines, readOf}
 use Rattle.form.specs.Faults.{greatest-level}
 use Rattle.form.specs.Writing.{writeOf}
 use Rattle.form.specs.declared.reading.LineRead.the-variants.{Node}
-use Rattle.form.proofs.Digits.{value-digits}
+use Rattle.form.proofs.Digits.{value-digits, line-read}
+use Rattle.form.proofs.LineBytes.{line-size}
 use Rattle.form.proofs.Letters.{NotFour, NotRead, decimal, code-decimal, decimal-read, code-refused, byte-refused}
 use Rattle.form.proofs.TreeLines.{topCode, lines-subtrees}
+use Rattle.form.proofs.Unique.{form-text}
 use Rattle.form.proofs.Trips.{order-text, order-write, form-write, written-read, read-written}
 use Rattle.book.specs.Book.{Book}
 use Rattle.book.specs.Sound.{IsBook}
@@ -38,6 +40,9 @@ use Rattle.verdicts.proofs.Answers.{answered-passes, passes-answered}
 use Rattle.effects.specs.Conditions.{_exactly-when_}
 use Rattle.files.specs.Files.{front-bytes, fileOf, writeFileOf, readFileOf}
 use Rattle.promises.specs.Agreement.{Agrees}
+use Rattle.promises.specs.Forms.{LevelInTens, InTens, Stands, ComesBack}
+use Rattle.promises.proofs.FormLines.{level-tens, tens-level, tens-most, legal-shallow}
+use Rattle.promises.proofs.LineNumbers.{unpassed}
 use Rattle.promises.proofs.FileWhys.{agrees-filed}
 use Rattle.promises.proofs.FileTrips.{file-back, filed-back, filed-bytes, read-back-filed, read-alike}
 use Rattle.promises.proofs.Refusals.{write-writes}
@@ -54,19 +59,14 @@ passes-exactly ws os = (answered-passes ws os, λ p. ap (λ (a : Answer). a .num
 pub passing-line : (ws os : List ℕ) → judgeOf ws os .number ≡ done → judgeOf ws os ≡ answered done
 passing-line ws os e = passes-answered ws os (answered-passes ws os e)
 
--- ---- "Codes are decimal."
+-- "any other comes back to the order clerk with a number and a line": an order within limits that does not pass by a book in form is answered by 20, 21
+-- or 22, and the line is one of the order's form, with the code at the top of that line's subtree.
+pub comes-back : (ws os : List ℕ) (b : Book) (t : Tree) → IsBook ws b → IsOrder os t → (judgeOf ws os .number ≡ done → ⊥) → ComesBack t (judgeOf ws os)
+comes-back ws os b t = unpassed ws os b t
 
--- What stands behind a level on a line is a space, the four digits of a code in tens, and LF.
-pub record InTens (code : ℕ) (text : List ℕ) : Type 0 where
-  pub a : ℕ
-  pub b : ℕ
-  pub c : ℕ
-  pub d : ℕ
-  pub digits : (a < 10) × (b < 10) × (c < 10) × (d < 10)
-  pub text-is : text ≡ space ∷ (digit-0 + a) ∷ (digit-0 + b) ∷ (digit-0 + c) ∷ (digit-0 + d) ∷ line-feed ∷ []
-  pub code-is : code ≡ a * 1000 + b * 100 + c * 10 + d
+-- ---- "Codes are read as decimal.", and so are levels
 
--- Such are the bytes that are written behind a level, for every code up to 9999.
+-- What is written behind a level is the code in tens, for every code up to 9999.
 pub written-in-tens : (code : ℕ) → code ≤ greatest-code → InTens code (codeText code)
 unfolding codeText
 written-in-tens code most = record {
@@ -84,12 +84,6 @@ top-code : (s : Tree) → Good s → topCode s ≤ greatest-code
 unfolding topCode Good
 top-code (node c f) g = g .0 .1
 
--- A line stands in a text: behind some bytes its level, and behind that its code.
-pub record Stands (text : List ℕ) (x : Line) : Type 0 where
-  pub front : List ℕ
-  pub rest : List ℕ
-  pub is : text ≡ front ++ (levelText (x .level) ++ (codeText (x .code) ++ rest))
-
 -- Each of some lines stands in their text.
 spelt-stands : (xs : List Line) (x : Line) → x ∈ xs → Stands (spell xs) x
 unfolding spell lineText
@@ -99,16 +93,35 @@ spelt-stands (y ∷ ys) x (there m) =
     let later : List ℕ = levelText (x .level) ++ (codeText (x .code) ++ s .rest) in
     record { front = lineText y ++ s .front; rest = s .rest; is = ap (λ (r : List ℕ). lineText y ++ r) (s .is) ∙ sym (append-assoc (lineText y) (s .front) later) }
 
--- Such they are on every line of the text that is written of an order, and, since a text is read exactly if it is the text of an order
--- (`read-rows`), on every line that is read: each line stands in the order's text, and its code is in tens there. The text is that of its lines
--- (`textOf`), line i having the code of the top of the subtree of line i (`lines-subtrees`, form/proofs/TreeLines.antt).
-pub every-line-in-tens : (os : List ℕ) (t : Tree) → IsOrder os t → (x : Line) → x ∈ linesOf t 0 → Stands (textOf t) x × InTens (x .code) (codeText (x .code))
+-- "Level is one digit, or two of which the first is not 0": what is written for a level is the level in tens, for every level up to 99, and no other
+-- bytes are,
+pub levels-in-tens : (l : ℕ) → l ≤ greatest-level → LevelInTens l (levelText l) × ((text : List ℕ) → LevelInTens l text → text ≡ levelText l)
+levels-in-tens l most = (level-tens l most, tens-level l)
+
+-- and a level in tens is read as that level, before any code.
+pub levels-read-in-tens : (l : ℕ) (text : List ℕ) → LevelInTens l text → (c : ℕ) → c ≤ greatest-code → (rest : List ℕ)
+    → speltOf (text ++ (codeText c ++ rest)) ≡ Node l c (length text + code-size)
+unfolding lineText
+levels-read-in-tens l text tens c most rest =
+    let x : Line = record { level = l; code = c } in
+    let is : text ++ (codeText c ++ rest) ≡ lineText x ++ rest =
+    ap (λ (s : List ℕ). s ++ (codeText c ++ rest)) (tens-level l text tens) ∙ sym (append-assoc (levelText l) (codeText c) rest) in
+    ap speltOf is ∙ line-read x rest (tens-most l text tens) most
+    ∙ ap (Node l c) (line-size x ∙ ap (λ (s : List ℕ). length s + code-size) (sym (tens-level l text tens)))
+
+-- So it is on every line of the text that is written of an order, and, since a text is read exactly if it is the text of an order (`read-rows`), on
+-- every line that is read: each line stands in the order's text, with its level and its code in tens. The text is that of its lines (`textOf`), line i
+-- having the code of the top of the subtree of line i (`lines-subtrees`, form/proofs/TreeLines.antt).
+pub every-line-in-tens : (os : List ℕ) (t : Tree) → IsOrder os t → (x : Line) → x ∈ linesOf t 0
+    → Stands (textOf t) x × LevelInTens (x .level) (levelText (x .level)) × InTens (x .code) (codeText (x .code))
 unfolding textOf
 every-line-in-tens os t o x m =
     let n : x .code ∈ map topCode (subtrees t) = subst (λ (cs : List ℕ). x .code ∈ cs) (lines-subtrees t 0) (Memᴰ·map (λ (y : Line). y .code) m) in
     let q = Memᴰ·of-map topCode (subtrees t) n in
     let most : x .code ≤ greatest-code = subst (λ (c : ℕ). c ≤ greatest-code) (q .2) (top-code (q .0) (subtree-good t (q .1) (o .good))) in
-    (spelt-stands (linesOf t 0) x m, written-in-tens (x .code) most)
+    let f = form-text (textOf t) (linesOf t 0) (order-text os t (order-read os t o) .0) in
+    let shallow : x .level ≤ greatest-level = omega (arith, legal-shallow [] (linesOf t 0) (f .1) x m) in
+    (spelt-stands (linesOf t 0) x m, level-tens (x .level) shallow, written-in-tens (x .code) most)
 
 -- On a line of any level four digits are read as the number that they are in tens.
 pub read-in-tens : (l a b c d : ℕ) (rest : List ℕ) → l ≤ greatest-level → a < 10 → b < 10 → c < 10 → d < 10

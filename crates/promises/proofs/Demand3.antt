@@ -8,6 +8,7 @@ use Prim.Native.Nat.{ℕ, _≤_, _<_}
 use mathlib.Core.Path.{_≡_, refl, ap}
 use mathlib.Core.List.{List, [], _∷_}
 use lib.ListN.{length}
+use Rattle.words.specs.Base.{_∈_}
 use Rattle.figures.specs.Limits.{head-words, most-book-words, least-k, greatest-k, greatest-count}
 use Rattle.figures.specs.Numbers.{done, no-room, too-many, not-taught}
 use Rattle.figures.specs.Answers.{answered}
@@ -26,12 +27,13 @@ use Rattle.files.specs.Files.{fileOf, writeFileOf, readFileOf}
 use Rattle.promises.specs.Remaining.{Call, afterBy, after, remainingBy, remaining, timesOf, SameOrders, taughtAll, NoneRefused, booked, ExactlyThese, MadeOf}
 use Rattle.promises.specs.Starts.{Start, opening, reading, startedBy, taughtFirst, startK}
 use Rattle.promises.specs.Whys.{IsFile}
-use Rattle.promises.proofs.Remaining.{after-long, holds-exactly, taught-alone}
+use Rattle.promises.proofs.Remaining.{after-kept, after-long, holds-exactly, taught-alone}
 use Rattle.promises.proofs.Starting.{opens, begins, first-k}
 use Rattle.promises.proofs.GoingOn.{first-counts, stores, goes-back, same-k, same-first}
-use Rattle.promises.proofs.Passing.{passes-made}
+use Rattle.promises.proofs.Passing.{passes-made, among-passes}
 use Rattle.promises.proofs.Conditions.{teaching-7, teaching-6, teaching-0, withdrawing-8, withdrawing-0}
 use Rattle.promises.proofs.Checks.{grown-agrees}
+use Rattle.promises.proofs.Demand2.{passing-line}
 
 -- "Open an empty book of an allowed k and size": it is done.
 pub opening-done : (slice : List ℕ) (k : ℕ) → head-words ≤ length slice → length slice ≤ most-book-words → least-k ≤ k → k ≤ greatest-k → openOf slice k .answer ≡ answered done
@@ -78,6 +80,12 @@ module _ (start : Start) (slice : List ℕ) (started : startedBy start slice .an
     -- order's r is the r of an order that remains, each of its l an l of one, and each of its p a p of one.
     pub passes-by-remaining : (os : List ℕ) (t : Tree) → IsOrder os t → (judgeOf book os .number ≡ done) exactly-when MadeOf k orders t
     passes-by-remaining os t = passes-made k orders book os t parts-and-counts
+
+    -- Every order that remains is an order within limits, and passes, with line 0.
+    pub remaining-passes : (os : List ℕ) → os ∈ orders → (t : Tree) × IsOrder os t × (judgeOf book os ≡ answered done)
+    remaining-passes os m =
+        let f = after-kept slice k (taughtFirst start) (startedBy start slice .words) (begins start slice started) cs .limits os m in
+        (f .tree, f .isOrder, passing-line book os (among-passes k orders book os (f .tree) parts-and-counts m (f .isOrder)))
 
     -- Not all of this could be met by refusing everything: an order within limits is refused by 7 exactly if 65,535 orders remain,
     pub refused-by-7 : (os : List ℕ) (t : Tree) → IsOrder os t → (teachOf book os .answer .number ≡ too-many) exactly-when (length orders ≡ greatest-count)

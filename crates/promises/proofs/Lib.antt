@@ -14,6 +14,7 @@ pub mod FileTrips
 pub mod Wordings
 pub mod GoingOn
 pub mod LineNumbers
+pub mod FormLines
 pub mod Contracts
 pub mod InC
 pub mod Handing

@@ -1,21 +1,32 @@
--- The line of an answer, for all inputs: it is 0 for an order and its parts, for a judgement unless its verdict names a line, and for a text unless
--- a line of it is at fault. That of the other calls, always 0, is in ofb/proofs/Figures.antt. Assumes nothing.
-use Prim.Native.Nat.{ℕ, _≤_, _<_}
-use mathlib.Core.Path.{_≡_, ap, _∙_}
-use mathlib.Core.List.{List}
+-- The line of an answer, for all inputs: it is 0 for an order and its parts, for a judgement unless its verdict names a line, which is then one of the
+-- order's form, and for a text unless a line of it is at fault. That of the other calls, always 0, is in ofb/proofs/Figures.antt. Assumes nothing.
+use Prim.Native.Nat.{ℕ, zero, suc, _≤_, _<_}
+use mathlib.Core.Path.{_≡_, refl, sym, ap, subst, _∙_}
+use mathlib.Core.List.{List, [], _∷_}
 use native.Mathlib.Omega.{arith}
-use Rattle.figures.specs.Numbers.{too-large, no-form, top-unknown}
+use lib.ListN.{length}
+use Rattle.figures.specs.Numbers.{done, too-large, no-form, top-unknown, middle-unknown}
 use Rattle.figures.specs.declared.Answer.{Answer}
-use Rattle.trees.specs.Answers.{checkOf, Writing, cutIntoOf, PartWriting, partIntoOf}
-use Rattle.form.specs.Text.{Line}
+use Rattle.trees.specs.Trees.{Tree, node, subtrees}
+use Rattle.trees.specs.Reading.{found}
+use Rattle.trees.specs.Fits.{IsOrder}
+use Rattle.trees.specs.Answers.{checkOf, treeAt, lineOf, Writing, cutIntoOf, PartWriting, partIntoOf}
+use Rattle.trees.proofs.Fitting.{order-read}
+use Rattle.form.specs.Text.{Line, textOf}
 use Rattle.form.specs.Reading.{readOf}
 use Rattle.form.specs.Faults.{Why, past, misspelt, no-option, not-allowed, too-deep, ninth-child}
+use Rattle.book.specs.Book.{Book}
+use Rattle.book.specs.Sound.{IsBook}
 use Rattle.verdicts.specs.Judging.{judgeOf}
-use Rattle.verdicts.specs.Verdicts.{passing, no-top, no-low, no-middle, Judged, no-book, no-order, judged}
+use Rattle.verdicts.specs.Verdicts.{Verdict, passing, no-top, no-low, no-middle, Judged, no-book, no-order, judged}
 use Rattle.verdicts.proofs.Answers.{judged-is}
+use Rattle.verdicts.proofs.Judgements.{by-verdict}
+use Rattle.verdicts.proofs.Verdicts.{verdict-is}
+use Rattle.promises.specs.Forms.{LineOfText, ComesBack}
 use Rattle.promises.specs.Whys.{WhyNumbered, numbered, WhyCut, cut-no-order, cut-lacks, cut-short, cut-written}
 use Rattle.promises.specs.Whys.{WhyPart, part-no-order, part-lacks, low-short, low-written, middle-short, middle-written}
 use Rattle.promises.specs.Whys.{WhyRead, no-bytes, at-fault, read-short, read}
+use Rattle.promises.proofs.FormLines.{line-of-subtree}
 use Rattle.promises.proofs.Whys.{read-why}
 use Rattle.promises.proofs.Refusals.{writing-number}
 use Rattle.promises.proofs.PartWhys.{numbered-why, cut-why, part-why}
@@ -86,6 +97,55 @@ judge-line ws os low = go (judged-is ws os)
     go (judged b t i q (no-top e u)) = none e (omega arith)
     go (judged b t i q (no-low line s e r l u)) = none e (omega arith)
     go (judged b t i q (no-middle line s e r l u)) = none e (omega arith)
+
+-- The subtree of line 1 is the whole tree.
+first-subtree : (t : Tree) → lineOf 1 (subtrees t) ≡ found t
+unfolding lineOf treeAt subtrees
+first-subtree (node c f) = refl
+
+-- A tree that stands at a place of a list stands before its end.
+place-within : (ts : List Tree) (i : ℕ) (s : Tree) → treeAt ts i ≡ found s → suc i ≤ length ts
+unfolding treeAt
+place-within [] i s q = absurd (let y : _≡_ {A = ℕ} 0 1 = cc in omega arith)
+place-within (t ∷ ts) zero s q = omega arith
+place-within (t ∷ ts) (suc i) s q = omega (arith, place-within ts i s q)
+
+-- A line that has a subtree is one of the order's.
+line-within : (t : Tree) (line : ℕ) (s : Tree) → lineOf line (subtrees t) ≡ found s → (1 ≤ line) × (line ≤ length (subtrees t))
+unfolding lineOf
+line-within t zero s q = absurd (let y : _≡_ {A = ℕ} 0 1 = cc in omega arith)
+line-within t (suc i) s q = (omega arith, place-within (subtrees t) i s q)
+
+-- An order within limits that does not pass by a book in form comes back with 20, 21 or 22 and a line of its form.
+pub unpassed : (ws os : List ℕ) (b : Book) (t : Tree) → IsBook ws b → IsOrder os t → (judgeOf ws os .number ≡ done → ⊥) → ComesBack t (judgeOf ws os)
+unpassed ws os b t is o not = go (subst (Verdict b t) (sym (by-verdict ws os b is t (order-read os t o))) (verdict-is b (is .sound .least) t))
+  where
+    -- An answer with a number from 20 to 22 at a line whose subtree is known to be s comes back so.
+    at-line : (s : Tree) {n line : ℕ} → judgeOf ws os ≡ record { number = n; line = line } → top-unknown ≤ n → n ≤ middle-unknown
+        → lineOf line (subtrees t) ≡ found s → ComesBack t (judgeOf ws os)
+    at-line s {n} {line} e low high q =
+        let r = line-of-subtree t line s q in
+        let l : judgeOf ws os .line ≡ line = line-of e in
+        let m : judgeOf ws os .number ≡ n = ap (λ (a : Answer). a .number) e in
+        let bounds = line-within t line s q in
+        record {
+          least = omega (arith, m, low);
+          greatest = omega (arith, m, high);
+          first = omega (arith, l, bounds .0);
+          last = omega (arith, l, bounds .1);
+          subtree = s;
+          on = ap (λ (i : ℕ). lineOf i (subtrees t)) l ∙ q;
+          read-aloud = r .0;
+          stands = subst (λ (i : ℕ). LineOfText (textOf t) i (r .0)) (sym l) (r .1);
+          its-code = r .2;
+        }
+
+    -- By the verdict.
+    go : Verdict b t (judgeOf ws os) → ComesBack t (judgeOf ws os)
+    go (passing e p) = absurd (not (ap (λ (a : Answer). a .number) e))
+    go (no-top e x) = at-line t e (omega arith) (omega arith) (first-subtree t)
+    go (no-low line s e r l x) = at-line s e (omega arith) (omega arith) (r .on)
+    go (no-middle line s e r l x) = at-line s e (omega arith) (omega arith) (r .on)
 
 -- ---- forms
 

@@ -1,4 +1,5 @@
--- By a book of exactly the orders that remain, judging answers 0 for an order exactly if it is made only of parts of these. Assumes nothing.
+-- By a book of exactly the orders that remain, judging answers 0 for an order exactly if it is made only of parts of these; so each of them passes.
+-- Assumes nothing.
 use Prim.Native.Nat.{ℕ, _-_, _≤_}
 use mathlib.Core.Path.{_≡_, refl, sym, ap, subst}
 use mathlib.Core.List.{List, List·Memᴰ·head as here, List·Memᴰ·tail as there}
@@ -121,3 +122,15 @@ passes-made k orders ws os t x o = (from, to)
     to g =
         let p : PassesBy ws os = record { lent = record { book = x .book; tree = t; isBook = x .isBook; isOrder = o }; passes = made-passes k orders ws x t g } in
         ap (λ (a : Answer). a .number) (passes-answered ws os p)
+
+-- An order is made of its own parts, so each of the orders passes by their book.
+pub among-passes : (k : ℕ) (orders : List (List ℕ)) (ws os : List ℕ) (t : Tree) → ExactlyThese k orders ws → os ∈ orders → IsOrder os t → judgeOf ws os .number ≡ done
+among-passes k orders ws os t x m o = passes-made k orders ws os t x o .1 (record {
+  top = λ u r. own (IsR (k - 1)) u r;
+  lows = λ u l. own (IsL (k - 1)) u l;
+  middles = λ u p. own (IsP k) u p;
+})
+  where
+    -- The order itself is one that has its part.
+    own : (Part : Tree → Tree → Type 0) (u : Tree) → Part t u → SomeHas Part u orders
+    own Part u p = record { one = os; among = m; has = record { tree = t; isOrder = o; part = p } }

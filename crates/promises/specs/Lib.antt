@@ -5,3 +5,4 @@ pub mod Heard
 pub mod Agreement
 pub mod Whys
 pub mod AtTheDesk
+pub mod Forms

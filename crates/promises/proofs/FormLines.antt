@@ -1,0 +1,134 @@
+-- The lines of an order's form: each stands in its text behind as many LF as there are lines before it, with the code at the top of the subtree of the
+-- same line; its level is in tens, and so are two digits that are read as one. Assumes nothing.
+use Prim.Native.Nat.{ℕ, zero, suc, _+_, _/_, _%_, _≤_}
+use mathlib.Core.Path.{_≡_, refl, sym, ap, ap₂, _∙_}
+use mathlib.Core.List.{List, [], _∷_, _++_, map, List·Memᴰ·head as here, List·Memᴰ·tail as there}
+use native.Mathlib.Decide.{decLt}
+use native.Mathlib.Omega.{arith}
+use lib.ListN.{length, getD}
+use Rattle.words.specs.Base.{_∈_}
+use Rattle.figures.specs.Limits.{greatest-depth}
+use Rattle.trees.specs.Trees.{Tree, node, words, subtrees}
+use Rattle.trees.specs.Reading.{found, missing}
+use Rattle.trees.specs.Answers.{treeAt, lineOf}
+use Rattle.form.specs.Text.{Line, digit-0, digit, levelText, codeText, lineText, spell, linesOf, textOf}
+use Rattle.form.specs.Faults.{Legal, greatest-level}
+use Rattle.form.proofs.LineBytes.{one-digit, two-digits, spell-append}
+use Rattle.form.proofs.TreeLines.{codes, topCode, lines-subtrees}
+use Rattle.calls.specs.Lines.{feeds}
+use Rattle.calls.proofs.Lines.{no-feed, feeds-append, feeds-none, one-feed}
+use Rattle.promises.specs.Forms.{LevelInTens, one-figure, two-figures, LineOfText}
+
+-- ---- levels
+
+-- The text of a level up to 99 is the level in tens.
+pub level-tens : (l : ℕ) → l ≤ greatest-level → LevelInTens l (levelText l)
+level-tens l most = elim (decLt l 10) [
+  | yes h ↦ one-figure (l % 10) (omega arith) (one-digit l h) (omega arith)
+  | no h ↦ two-figures (l / 10 % 10) (l % 10) (omega arith) (omega arith) (omega arith) (two-digits l (omega arith)) (omega arith)
+]
+
+-- Bytes that are a level in tens are its text.
+pub tens-level : (l : ℕ) (text : List ℕ) → LevelInTens l text → text ≡ levelText l
+tens-level l text (one-figure a h e q) =
+    let z : digit-0 + a ≡ digit l = omega arith in
+    e ∙ ap (λ (b : ℕ). b ∷ []) z ∙ sym (one-digit l (omega arith))
+tens-level l text (two-figures a b p h k e q) =
+    let y : digit-0 + a ≡ digit (l / 10) = omega arith in
+    let z : digit-0 + b ≡ digit l = omega arith in
+    e ∙ ap₂ (λ (v w : ℕ). v ∷ w ∷ []) y z ∙ sym (two-digits l (omega arith))
+
+-- A level in tens is at most 99.
+pub tens-most : (l : ℕ) (text : List ℕ) → LevelInTens l text → l ≤ greatest-level
+tens-most l text (one-figure a h e q) = omega arith
+tens-most l text (two-figures a b p h k e q) = omega arith
+
+-- A line that may stand in a form is at most 12 deep.
+pub legal-shallow : (before xs : List Line) → Legal before xs → (x : Line) → x ∈ xs → x .level ≤ greatest-depth
+legal-shallow before (y ∷ ys) g x (here e) = rw e (g .1 .shallow)
+legal-shallow before (y ∷ ys) g x (there m) = legal-shallow (y ∷ before) ys (g .2) x m
+
+-- ---- LF
+
+-- A level has no LF.
+level-feeds : (l : ℕ) → feeds (levelText l) ≡ 0
+level-feeds l = elim (decLt l 10) [
+  | yes h ↦ ap feeds (one-digit l h) ∙ no-feed (digit l) [] (λ e. omega arith) ∙ feeds-none
+  | no h ↦ ap feeds (two-digits l (omega arith)) ∙ no-feed (digit (l / 10)) (digit l ∷ []) (λ e. omega arith) ∙ no-feed (digit l) [] (λ e. omega arith) ∙ feeds-none
+]
+
+-- What follows a level has one, at the end.
+code-feeds : (c : ℕ) → feeds (codeText c) ≡ 1
+unfolding codeText
+code-feeds c =
+    no-feed _ _ (λ e. omega arith) ∙ no-feed _ _ (λ e. omega arith) ∙ no-feed _ _ (λ e. omega arith) ∙ no-feed _ _ (λ e. omega arith)
+    ∙ no-feed _ _ (λ e. omega arith) ∙ one-feed
+
+-- Lines have one each.
+pub spell-feeds : (xs : List Line) → feeds (spell xs) ≡ length xs
+unfolding spell lineText
+spell-feeds [] = feeds-none
+spell-feeds (x ∷ xs) =
+    omega (
+      arith,
+      feeds-append (levelText (x .level) ++ codeText (x .code)) (spell xs),
+      feeds-append (levelText (x .level)) (codeText (x .code)),
+      level-feeds (x .level),
+      code-feeds (x .code),
+      spell-feeds xs,
+    )
+
+-- ---- the line of a subtree
+
+-- A line among lines, at a place counted from 0.
+record Among (xs : List Line) (i c : ℕ) : Type 0 where
+  before : List Line
+  this : Line
+  behind : List Line
+  is : xs ≡ before ++ (this ∷ behind)
+  place : length before ≡ i
+  code : this .code ≡ c
+
+-- Where the codes of lines are those at the tops of trees, the tree at a place has its line there.
+line-among : (xs : List Line) (ts : List Tree) (i : ℕ) (s : Tree) → codes xs ≡ map topCode ts → treeAt ts i ≡ found s → Among xs i (topCode s)
+unfolding treeAt
+line-among xs [] i s e q = absurd (let z : missing ≡ found s = q in let y : _≡_ {A = ℕ} 0 1 = cc in omega arith)
+line-among [] (t ∷ ts) i s e q = absurd (let y : _≡_ {A = ℕ} 0 1 = cc in omega arith)
+line-among (x ∷ xs) (t ∷ ts) zero s e q =
+    let same : t ≡ s = cc in
+    let c : x .code ≡ topCode t = cc in
+    record { before = []; this = x; behind = xs; is = refl; place = refl; code = c ∙ ap topCode same }
+line-among (x ∷ xs) (t ∷ ts) (suc i) s e q =
+    let rest : codes xs ≡ map topCode ts = cc in
+    let a = line-among xs ts i s rest q in
+    record {
+      before = x ∷ a .before;
+      this = a .this;
+      behind = a .behind;
+      is = ap (λ (l : List Line). x ∷ l) (a .is);
+      place = omega (arith, a .place);
+      code = a .code;
+    }
+
+-- The code at the top of a tree is its first word.
+top-first : (s : Tree) → topCode s ≡ getD (words s) 0 0
+unfolding topCode words
+top-first (node c f) = refl
+
+-- The subtree of a line of an order has that line in the order's form, with the code at its top.
+pub line-of-subtree : (t : Tree) (line : ℕ) (s : Tree) → lineOf line (subtrees t) ≡ found s
+    → (x : Line) × LineOfText (textOf t) line x × (x .code ≡ getD (words s) 0 0)
+unfolding lineOf textOf spell
+line-of-subtree t zero s q = absurd (let y : _≡_ {A = ℕ} 0 1 = cc in omega arith)
+line-of-subtree t (suc i) s q =
+    let a = line-among (linesOf t 0) (subtrees t) i s (lines-subtrees t 0) q in (
+      a .this,
+      record {
+        before = a .before;
+        behind = a .behind;
+        text-is = ap spell (a .is) ∙ spell-append (a .before) (a .this ∷ a .behind);
+        place = ap suc (sym (a .place));
+        feeds-before = ap suc (sym (a .place) ∙ sym (spell-feeds (a .before)));
+      },
+      a .code ∙ top-first s,
+    )

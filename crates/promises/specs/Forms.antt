@@ -1,0 +1,59 @@
+-- What stands on a line of a form and which line it is, by its bytes: levels and codes in tens, and lines counted by their LF (01, "Order form text").
+-- Assumes nothing: these are definitions.
+use Prim.Native.Nat.{ℕ, suc, _+_, _*_, _≤_, _<_}
+use mathlib.Core.Path.{_≡_}
+use mathlib.Core.List.{List, [], _∷_, _++_}
+use lib.ListN.{length, getD}
+use Rattle.figures.specs.Numbers.{top-unknown, middle-unknown}
+use Rattle.figures.specs.declared.Answer.{Answer}
+use Rattle.trees.specs.Trees.{Tree, words, subtrees}
+use Rattle.trees.specs.Reading.{found}
+use Rattle.trees.specs.Answers.{lineOf}
+use Rattle.form.specs.Text.{Line, digit-0, space, line-feed, levelText, codeText, lineText, spell, textOf}
+use Rattle.calls.specs.Lines.{feeds}
+
+-- ---- in tens
+
+-- "Level is one digit, or two of which the first is not 0": what stands before the space of a line is its level in tens.
+pub data LevelInTens (level : ℕ) (text : List ℕ) : Type 0 where
+  one-figure : (a : ℕ) → a < 10 → text ≡ (digit-0 + a) ∷ [] → level ≡ a → LevelInTens level text
+  two-figures : (a b : ℕ) → 1 ≤ a → a < 10 → b < 10 → text ≡ (digit-0 + a) ∷ (digit-0 + b) ∷ [] → level ≡ a * 10 + b → LevelInTens level text
+
+-- "one space, exactly four decimal digits, LF": what stands behind a level on a line is a space, the four digits of a code in tens, and LF.
+pub record InTens (code : ℕ) (text : List ℕ) : Type 0 where
+  pub a : ℕ
+  pub b : ℕ
+  pub c : ℕ
+  pub d : ℕ
+  pub digits : (a < 10) × (b < 10) × (c < 10) × (d < 10)
+  pub text-is : text ≡ space ∷ (digit-0 + a) ∷ (digit-0 + b) ∷ (digit-0 + c) ∷ (digit-0 + d) ∷ line-feed ∷ []
+  pub code-is : code ≡ a * 1000 + b * 100 + c * 10 + d
+
+-- A line stands in a text: behind some bytes its level, and behind that its code.
+pub record Stands (text : List ℕ) (x : Line) : Type 0 where
+  pub front : List ℕ
+  pub rest : List ℕ
+  pub is : text ≡ front ++ (levelText (x .level) ++ (codeText (x .code) ++ rest))
+
+-- ---- which line it is
+
+-- "counted from 1": the line with that number of a form's text, behind the lines before it, each of which ends in LF.
+pub record LineOfText (text : List ℕ) (line : ℕ) (x : Line) : Type 0 where
+  pub before : List Line
+  pub behind : List Line
+  pub text-is : text ≡ spell before ++ (lineText x ++ spell behind)
+  pub place : line ≡ suc (length before)
+  pub feeds-before : line ≡ suc (feeds (spell before))
+
+-- "any other comes back to the order clerk with a number and a line": the number is 20, 21 or 22; the line is one of the order's lines, and stands in
+-- its form with the code at the top of the line's subtree.
+pub record ComesBack (t : Tree) (a : Answer) : Type 0 where
+  pub least : top-unknown ≤ a .number
+  pub greatest : a .number ≤ middle-unknown
+  pub first : 1 ≤ a .line
+  pub last : a .line ≤ length (subtrees t)
+  pub subtree : Tree
+  pub on : lineOf (a .line) (subtrees t) ≡ found subtree
+  pub read-aloud : Line
+  pub stands : LineOfText (textOf t) (a .line) read-aloud
+  pub its-code : read-aloud .code ≡ getD (words subtree) 0 0
