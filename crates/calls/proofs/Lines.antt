@@ -122,7 +122,7 @@ module _ (letter : ℕ) (a : Answer) (used : ℕ) where
       }
 
 -- No letter is LF.
-letter-no-feed : (x : Letter) → letterByte x ≡ line-feed → ⊥
+pub letter-no-feed : (x : Letter) → letterByte x ≡ line-feed → ⊥
 letter-no-feed Teach e = omega arith
 letter-no-feed Withdraw e = omega arith
 letter-no-feed Judge e = omega arith

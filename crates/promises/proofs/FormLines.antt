@@ -89,6 +89,17 @@ record Among (xs : List Line) (i c : ℕ) : Type 0 where
   place : length before ≡ i
   code : this .code ≡ c
 
+-- With a line before the others it stands a place on.
+one-before : (x : Line) {xs : List Line} {i c : ℕ} → Among xs i c → Among (x ∷ xs) (suc i) c
+one-before x a = record {
+  before = x ∷ a .before;
+  this = a .this;
+  behind = a .behind;
+  is = ap (λ (l : List Line). x ∷ l) (a .is);
+  place = ap suc (a .place);
+  code = a .code;
+}
+
 -- Where the codes of lines are those at the tops of trees, the tree at a place has its line there.
 line-among : (xs : List Line) (ts : List Tree) (i : ℕ) (s : Tree) → codes xs ≡ map topCode ts → treeAt ts i ≡ found s → Among xs i (topCode s)
 unfolding treeAt
@@ -100,15 +111,7 @@ line-among (x ∷ xs) (t ∷ ts) zero s e q =
     record { before = []; this = x; behind = xs; is = refl; place = refl; code = c ∙ ap topCode same }
 line-among (x ∷ xs) (t ∷ ts) (suc i) s e q =
     let rest : codes xs ≡ map topCode ts = cc in
-    let a = line-among xs ts i s rest q in
-    record {
-      before = x ∷ a .before;
-      this = a .this;
-      behind = a .behind;
-      is = ap (λ (l : List Line). x ∷ l) (a .is);
-      place = omega (arith, a .place);
-      code = a .code;
-    }
+    one-before x (line-among xs ts i s rest q)
 
 -- The code at the top of a tree is its first word.
 top-first : (s : Tree) → topCode s ≡ getD (words s) 0 0

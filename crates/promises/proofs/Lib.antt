@@ -25,8 +25,10 @@ pub mod Demand2
 pub mod Demand3
 pub mod AtTheDesk
 pub mod DeskFigures
+pub mod DeskLine
 pub mod Uniqueness
 pub mod Impostors
 mod Rows
 mod FileRows
+pub mod Numerals
 pub mod DeskRows

@@ -17,11 +17,11 @@ use Rattle.promises.specs.Heard.{A, B, C, single, opens, teaches, withdr
 use Rattle.promises.proofs.Computed.{computes}
 
 -- An order taught so many times.
-abbrev times : ℕ → Tree → Teaching
+abbrev pub times : ℕ → Tree → Teaching
 times n t = record { order = t; times = n }
 
 -- A taught, k = 3: the words of the head, T, R, L and P, in a slice of 60 words.
-abbrev taughtA : List ℕ
+abbrev pub taughtA : List ℕ
 taughtA =
     3 ∷ 59 ∷ 1 ∷ 1 ∷ 1 ∷ 4 ∷ 1
     ∷ 5 ∷ 1 ∷ 1000 ∷ 2 ∷ 2000 ∷ 1 ∷ 10 ∷ 0 ∷ 3000 ∷ 1 ∷ 3001 ∷ 0
@@ -136,7 +136,7 @@ unfolding computes
 count-full = refl
 
 -- The book of A, k = 3, without its middle part.
-abbrev lacksMiddle : Book
+abbrev pub lacksMiddle : Book
 lacksMiddle = withP (bookOf 3 (times 1 A ∷ [])) []
 
 -- It is in form and does not agree with itself, so that checking it answers 9, and withdrawing A is refused by 9.

@@ -1,14 +1,29 @@
--- What the forms handed in at the desk do to its book, in the terms of demand 3, and the numbers that the desk prints. Assumes nothing: these are definitions.
+-- What the forms handed in at the desk do to its book, in the terms of demand 3, why each is answered as it is, and what is printed for it. Assumes
+-- nothing: these are definitions.
 use Prim.Native.Nat.{ℕ}
 use mathlib.Core.Path.{_≡_}
+use mathlib.Core.Bool.{true}
 use mathlib.Core.List.{List, [], _∷_, _++_}
+use lib.ListN.{getD}
+use Rattle.figures.specs.Limits.{used-word}
 use Rattle.figures.specs.Numbers.{done, too-large, no-room, not-taught, no-form, top-unknown, low-unknown, middle-unknown}
+use Rattle.trees.specs.Trees.{Tree, words}
+use Rattle.trees.specs.Fits.{IsOrder}
+use Rattle.form.specs.Text.{space, line-feed, textOf}
 use Rattle.form.specs.Reading.{byForm, formOf, wordsOf}
-use Rattle.sheet.specs.Sheets.{Call as Asking}
+use Rattle.form.specs.Faults.{FirstFault}
+use Rattle.book.specs.Opening.{Outcome, outcome}
+use Rattle.verdicts.specs.Verdicts.{Judged}
+use Rattle.effects.specs.Whys.{WhyTaught, WhyWithdrawn}
+use Rattle.reply.specs.Meaning.{allDigits, noLeadingZero, valueOf}
+use Rattle.sheet.specs.Sheets.{letterByte, Call as Asking}
 use Rattle.sheet.specs.declared.Letter.{Letter}
 use Rattle.sheet.specs.declared.Letter.the-variants.{Teach, Withdraw, Judge}
 use Rattle.ask.specs.Asking.{callOf}
+use Rattle.calls.specs.Lines.{feeds}
 use Rattle.promises.specs.Remaining.{Call, teach, withdraw}
+
+-- ---- the calls that forms make
 
 -- The call on the book that a letter makes with an order; judging makes none that could change it.
 abbrev pub callFor : Letter → List ℕ → List Call
@@ -29,6 +44,53 @@ madeBy (c ∷ cs) = madeOf c ++ madeBy cs
 unfoldable pub bookAfter : List Asking → List ℕ → List ℕ
 bookAfter [] book = book
 bookAfter (c ∷ cs) book = bookAfter cs (callOf c book .words)
+
+-- ---- the answer of a form
+
+-- Why a form below a letter is answered on a book by o: by its text, and then by the row of the call that its letter names, of demand 1.
+pub data WhyAnswered (x : Letter) (text book : List ℕ) (o : Outcome) : Type 0 where
+  -- "A form's text is read first and its refusal printed": "No bytes is line 1."
+  no-text : text ≡ [] → o ≡ outcome (record { number = no-form; line = 1 }) book → WhyAnswered x text book o
+  -- the number and the line of "the first line at fault"
+  text-at-fault : (n line : ℕ) → FirstFault text n line → o ≡ outcome (record { number = n; line = line }) book → WhyAnswered x text book o
+  -- T: the order is taught, or refused by its row
+  teaches : (t : Tree) → x ≡ Teach → text ≡ textOf t → IsOrder (words t) t → WhyTaught book (words t) o → WhyAnswered x text book o
+  -- W: it is withdrawn, or refused by its row
+  withdraws : (t : Tree) → x ≡ Withdraw → text ≡ textOf t → IsOrder (words t) t → WhyWithdrawn book (words t) o → WhyAnswered x text book o
+  -- J: it is judged by its row, and the book stays
+  judges : (t : Tree) → x ≡ Judge → text ≡ textOf t → IsOrder (words t) t → Judged book (words t) (o .answer) → o .words ≡ book → WhyAnswered x text book o
+
+-- ---- the line of a form
+
+-- "in decimal without leading zeros": digits that stand for the number, the first of which is 0 only where it is alone.
+pub record InDecimal (n : ℕ) (bytes : List ℕ) : Type 0 where
+  pub digits : allDigits bytes ≡ true
+  pub bare : noLeadingZero bytes ≡ true
+  pub stands-for : valueOf bytes ≡ n
+
+-- "letter, answer, line, words used, in decimal without leading zeros, one space between, LF at the end"
+pub record Says (letter number line used : ℕ) (bytes : List ℕ) : Type 0 where
+  pub number-digits : List ℕ
+  pub line-digits : List ℕ
+  pub used-digits : List ℕ
+  pub bytes-are : bytes ≡ letter ∷ space ∷ (number-digits ++ (space ∷ (line-digits ++ (space ∷ (used-digits ++ (line-feed ∷ []))))))
+  pub number-is : InDecimal number number-digits
+  pub line-is : InDecimal line line-digits
+  pub used-is : InDecimal used used-digits
+
+-- Of all that is printed, the line of a form that so many lines stand before: it says the letter, the number, the line and the words used of an answer
+-- that the form's rows allow on the book, and that answer's words are the book from then on.
+pub record PrintedFor (printed : List ℕ) (place : ℕ) (x : Letter) (text book later : List ℕ) : Type 0 where
+  pub before : List ℕ
+  pub line : List ℕ
+  pub behind : List ℕ
+  pub all : printed ≡ before ++ (line ++ behind)
+  pub lines-before : feeds before ≡ place
+  pub one-line : feeds line ≡ 1
+  pub result : Outcome
+  pub why : WhyAnswered x text book result
+  pub says : Says (letterByte x) (result .answer .number) (result .answer .line) (getD (result .words) used-word 0) line
+  pub leaves : later ≡ result .words
 
 -- The numbers that the desk prints for a form below a letter.
 pub data DeskNumber (x : Letter) (n : ℕ) : Type 0 where
