@@ -1,4 +1,4 @@
--- A spelt line is read back, and so are spelt lines, each of which may stand behind those before it. Assumes nothing.
+-- A spelt line is read back, and so are spelt lines, each of which passes behind those before it. Assumes nothing.
 use mathlib.Core.Path.{_≡_, refl, ap, sym, _∙_}
 use mathlib.Core.List.{List, [], _∷_, _++_, append-assoc, reverseAux}
 use mathlib.Core.Bool.{Bool, true, false}
@@ -13,8 +13,9 @@ use Rattle.words.specs.Base.{_and_, if_then_else_}
 use Rattle.figures.specs.Limits.{greatest-code}
 use Rattle.form.specs.Text.{digit-0, digit-9, space, line-feed, digit, code-size, Line, levelText, codeText, lineText, spell}
 use Rattle.form.specs.Reading.{isDigit, figure, value, isCode, codeBehind, speltOf, readLines}
-use Rattle.form.specs.Faults.{Legal, greatest-level}
+use Rattle.form.specs.Faults.{greatest-level}
 use Rattle.form.specs.declared.reading.LineRead.the-variants.{Node}
+use Rattle.form.proofs.Tests.{AllPass}
 use Rattle.form.proofs.LineBytes.{one-digit, two-digits, line-size}
 use Rattle.form.proofs.Faults.{fine-line, read-on}
 
@@ -106,8 +107,8 @@ line-read x r h k =
     ∙ code-read (x .level) (length (levelText (x .level))) (x .code) r k
     ∙ ap (Node (x .level) (x .code)) (sym (line-size x))
 
--- Lines that may stand there are read, and then the rest decides.
-pub read-spelt : (room : ℕ) (xs before : List Line) (rest : List ℕ) → Legal before xs → length xs ≤ room → readLines room before (spell xs ++ rest) ≡ readLines (room - length xs) (reverseAux xs before) rest
+-- Lines that pass are read, and then the rest decides.
+pub read-spelt : (room : ℕ) (xs before : List Line) (rest : List ℕ) → AllPass before xs → length xs ≤ room → readLines room before (spell xs ++ rest) ≡ readLines (room - length xs) (reverseAux xs before) rest
 unfolding spell
 read-spelt room [] before rest g h = let z : room ≡ room - 0 = omega arith in ap (λ (n : ℕ). readLines n before rest) z
 read-spelt zero (x ∷ xs) before rest g h = absurd (omega arith)

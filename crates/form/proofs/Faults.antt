@@ -13,11 +13,11 @@ use Rattle.figures.specs.Limits.{least-code, most-nodes, most-children, greates
 use Rattle.figures.specs.Numbers.{done}
 use Rattle.form.specs.Text.{Line}
 use Rattle.form.specs.Reading.{faultNumber, speltOf, byLine, allowed, siblings, lineOf, fault, form, readLines, formOf}
-use Rattle.form.specs.Faults.{Fine}
 use Rattle.form.specs.declared.reading.Fault.{Fault}
 use Rattle.form.specs.declared.reading.Fault.the-variants.{PastLast, Misspelt, NoOption, LevelNotAllowed, TooDeep, NinthChild}
 use Rattle.form.specs.declared.reading.LineRead.{LineRead}
 use Rattle.form.specs.declared.reading.LineRead.the-variants.{Node, Refused}
+use Rattle.form.proofs.Tests.{Passes}
 
 -- ---- a node or a refusal
 
@@ -40,8 +40,8 @@ fault-number NinthChild e = omega arith
 pub within-both : (least greatest n : ℕ) → within least greatest n ≡ true → (least ≤ n) × (n ≤ greatest)
 within-both least greatest n e = (leb-true _ _ (and-left (leb least n) (leb n greatest) e), leb-true _ _ (and-right (leb least n) (leb n greatest) e))
 
--- A spelt line that may stand there is read.
-pub fine-line : (before : List Line) (s : List ℕ) {l c w : ℕ} → speltOf s ≡ Node l c w → Fine before l c → lineOf before s ≡ Node l c w
+-- A spelt line that passes is read.
+pub fine-line : (before : List Line) (s : List ℕ) {l c w : ℕ} → speltOf s ≡ Node l c w → Passes before l c → lineOf before s ≡ Node l c w
 unfolding lineOf byLine if_then_else_
 fine-line before s {l} {c} {w} e f =
     rw (e, ne-eqb c 0 (let h = f .option in λ z. omega arith), f .follows, le-ltb greatest-depth l (f .shallow), lt-leb most-children (siblings l before) (f .child)) refl
@@ -83,7 +83,7 @@ pub data Seen (before : List Line) (s : List ℕ) : LineRead → Type 0 where
   bad-level : {l c w : ℕ} → speltOf s ≡ Node l c w → least-code ≤ c → allowed l before ≡ false → Seen before s (Refused LevelNotAllowed)
   deep : {l c w : ℕ} → speltOf s ≡ Node l c w → least-code ≤ c → allowed l before ≡ true → greatest-depth < l → Seen before s (Refused TooDeep)
   ninth : {l c w : ℕ} → speltOf s ≡ Node l c w → least-code ≤ c → allowed l before ≡ true → l ≤ greatest-depth → most-children ≤ siblings l before → Seen before s (Refused NinthChild)
-  fine : {l c w : ℕ} → speltOf s ≡ Node l c w → Fine before l c → Seen before s (Node l c w)
+  fine : {l c w : ℕ} → speltOf s ≡ Node l c w → Passes before l c → Seen before s (Node l c w)
 
 -- `Seen` holds of whatever the tests give.
 seen-of : (before : List Line) (s : List ℕ) (r : LineRead) → speltOf s ≡ r
@@ -113,11 +113,11 @@ pub seen : (before : List Line) (s : List ℕ) {r : LineRead} → lineOf before 
 unfolding lineOf
 seen before s e = subst (Seen before s) e (seen-of before s (speltOf s) refl)
 
--- A line that is read is spelt so, and may stand behind those before it.
-pub node-seen : (before : List Line) (s : List ℕ) {l c w : ℕ} → lineOf before s ≡ Node l c w → (speltOf s ≡ Node l c w) × Fine before l c
+-- A line that is read is spelt so, and passes behind those before it.
+pub node-seen : (before : List Line) (s : List ℕ) {l c w : ℕ} → lineOf before s ≡ Node l c w → (speltOf s ≡ Node l c w) × Passes before l c
 node-seen before s {l} {c} {w} e = go (seen before s e)
   where
-    go : Seen before s (Node l c w) → (speltOf s ≡ Node l c w) × Fine before l c
+    go : Seen before s (Node l c w) → (speltOf s ≡ Node l c w) × Passes before l c
     go (fine q f) = (q, f)
 
 -- ---- the whole text, by its next line

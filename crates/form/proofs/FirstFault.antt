@@ -19,9 +19,11 @@ use Rattle.form.specs.declared.reading.Fault.{Fault}
 use Rattle.form.specs.declared.reading.Fault.the-variants.{PastLast, Misspelt, NoOption, LevelNotAllowed, TooDeep, NinthChild}
 use Rattle.form.specs.declared.reading.LineRead.{LineRead}
 use Rattle.form.specs.declared.reading.LineRead.the-variants.{Node, Refused}
+use Rattle.form.proofs.Tests.{Passes, Passed}
 use Rattle.form.proofs.Faults.{no-node, misspelt-line, zero-line, level-line, deep-line, ninth-line, Seen, unspelt, zero-code, bad-level, deep, ninth, seen, node-seen, read-past, read-fault, some-bytes}
 use Rattle.form.proofs.Digits.{line-read, read-spelt}
 use Rattle.form.proofs.Unique.{line-back, not-read}
+use Rattle.form.proofs.Rows.{follow-test, test-follow, no-follow, follow-none, pass-fine, legal-pass, siblings-test, siblings-full}
 
 -- ---- spelling
 
@@ -75,13 +77,15 @@ no-spelling s h = go (speltOf s) refl
 
 -- ---- a refused text has a first line at fault
 
--- A line that is refused, and for which there is room, is so by the row of its fault.
-line-why : (before : List Line) (s : List ℕ) (f : Fault) → length before < most-nodes → Seen before s (Refused f) → Why before s (faultNumber f)
-line-why before s f h (unspelt e) = misspelt (ap faultNumber (spelt-only s e)) h (no-text s e)
-line-why before s f h (zero-code {l = l} {c = c} e o) = no-option refl h (record { level = l; code = c }) (read-spelling s e) o
-line-why before s f h (bad-level {l = l} {c = c} e o a) = not-allowed refl h (record { level = l; code = c }) (read-spelling s e) o a
-line-why before s f h (deep {l = l} {c = c} e o a d) = too-deep refl h (record { level = l; code = c }) (read-spelling s e) o a d
-line-why before s f h (ninth {l = l} {c = c} e o a d n) = ninth-child refl h (record { level = l; code = c }) (read-spelling s e) o a d n
+-- A line that is refused behind lines that pass, and for which there is room, is so by the row of its fault.
+line-why : (before : List Line) (s : List ℕ) (f : Fault) → Passed before → length before < most-nodes → Seen before s (Refused f) → Why before s (faultNumber f)
+line-why before s f w h (unspelt e) = misspelt (ap faultNumber (spelt-only s e)) h (no-text s e)
+line-why before s f w h (zero-code {l = l} {c = c} e o) = no-option refl h (record { level = l; code = c }) (read-spelling s e) o
+line-why before s f w h (bad-level {l = l} {c = c} e o a) = not-allowed refl h (record { level = l; code = c }) (read-spelling s e) o (follow-none l before a)
+line-why before s f w h (deep {l = l} {c = c} e o a d) = too-deep refl h (record { level = l; code = c }) (read-spelling s e) o (test-follow l before a) d
+line-why before s f w h (ninth {l = l} {c = c} e o a d n) =
+    let m = test-follow l before a in
+    ninth-child refl h (record { level = l; code = c }) (read-spelling s e) o m d (siblings-full before w l m n)
 
 -- What was read up to the fault: lines behind those before, whose text the bytes begin with, and the line refused behind them all.
 record Stopped (before : List Line) (s : List ℕ) (n line : ℕ) : Type 0 where
@@ -101,10 +105,10 @@ stopped-here before s m {n} {line} o y e =
     let q : m ≡ n = cc in
     record { lines = []; rest = s; text = refl; legal = tt; some = o; place = p; why = subst (Why before s) q y }
 
--- It holds of a line that is read, if it holds behind it.
-stopped-line : (before : List Line) (s : List ℕ) {l c w n line : ℕ} → lineOf before s ≡ Node l c w → Stopped (record { level = l; code = c } ∷ before) (drop w s) n line → Stopped before s n line
+-- It holds of a line that is read behind lines that pass, if it holds behind it.
+stopped-line : (before : List Line) (s : List ℕ) {l c w n line : ℕ} → Passed before → lineOf before s ≡ Node l c w → Stopped (record { level = l; code = c } ∷ before) (drop w s) n line → Stopped before s n line
 unfolding spell
-stopped-line before s {l} {c} {w} e a =
+stopped-line before s {l} {c} {w} p e a =
     let m = node-seen before s e in
     let k = line-back s (m .0) in
     let x : Line = record { level = l; code = c } in
@@ -112,29 +116,29 @@ stopped-line before s {l} {c} {w} e a =
       lines = x ∷ a .lines;
       rest = a .rest;
       text = k .is ∙ ap (λ (t : List ℕ). lineText x ++ t) (sym (k .left) ∙ a .text) ∙ sym (append-assoc (lineText x) (spell (a .lines)) (a .rest));
-      legal = (k .small, m .1, a .legal);
+      legal = (k .small, pass-fine before p (m .1), a .legal);
       some = a .some;
       place = a .place;
       why = a .why;
     }
 
--- `Stopped` holds of whatever is refused, if the room and the lines before are the most lines together.
-stopped : (room : ℕ) (before : List Line) (s : List ℕ) (n line : ℕ) → room + length before ≡ most-nodes → readLines room before s ≡ fault n line → Stopped before s n line
+-- `Stopped` holds of whatever is refused behind lines that pass, if the room and these lines are the most lines together.
+stopped : (room : ℕ) (before : List Line) (s : List ℕ) (n line : ℕ) → Passed before → room + length before ≡ most-nodes → readLines room before s ≡ fault n line → Stopped before s n line
 unfolding readLines byLine
-stopped zero before [] n line h e = not-read (sym e)
-stopped zero before (b ∷ bs) n line h e = stopped-here before (b ∷ bs) (faultNumber PastLast) (omega arith) (past refl (omega arith)) e
-stopped (suc room) before [] n line h e = not-read (sym e)
-stopped (suc room) before (b ∷ bs) n line h e = go (lineOf before (b ∷ bs)) refl (λ x t. stopped room (x ∷ before) t n line (omega arith)) e
+stopped zero before [] n line p h e = not-read (sym e)
+stopped zero before (b ∷ bs) n line p h e = stopped-here before (b ∷ bs) (faultNumber PastLast) (omega arith) (past refl (omega arith)) e
+stopped (suc room) before [] n line p h e = not-read (sym e)
+stopped (suc room) before (b ∷ bs) n line p h e = go (lineOf before (b ∷ bs)) refl (λ x t o. stopped room (x ∷ before) t n line (o, p) (omega arith)) e
   where
-    go : (r : LineRead) → lineOf before (b ∷ bs) ≡ r → ((x : Line) (t : List ℕ) → readLines room (x ∷ before) t ≡ fault n line → Stopped (x ∷ before) t n line)
+    go : (r : LineRead) → lineOf before (b ∷ bs) ≡ r → ((x : Line) (t : List ℕ) → Passes before (x .level) (x .code) → readLines room (x ∷ before) t ≡ fault n line → Stopped (x ∷ before) t n line)
         → byLine r (λ level code size. readLines room (record { level = level; code = code } ∷ before) (drop size (b ∷ bs))) (λ f. fault (faultNumber f) (suc (length before))) ≡ fault n line → Stopped before (b ∷ bs) n line
-    go (Refused f) q ih e = stopped-here before (b ∷ bs) (faultNumber f) (omega arith) (line-why before (b ∷ bs) f (omega arith) (seen before (b ∷ bs) q)) e
-    go (Node l c w) q ih e = stopped-line before (b ∷ bs) q (ih (record { level = l; code = c }) (drop w (b ∷ bs)) e)
+    go (Refused f) q ih e = stopped-here before (b ∷ bs) (faultNumber f) (omega arith) (line-why before (b ∷ bs) f p (omega arith) (seen before (b ∷ bs) q)) e
+    go (Node l c w) q ih e = stopped-line before (b ∷ bs) p q (ih (record { level = l; code = c }) (drop w (b ∷ bs)) (node-seen before (b ∷ bs) q .1) e)
 
 -- A text of some bytes that is refused is refused at its first line at fault, by that line's number.
 pub first-fault : (s : List ℕ) (n line : ℕ) → 0 < length s → formOf s ≡ fault n line → FirstFault s n line
 first-fault s n line o e =
-    let a = stopped most-nodes [] s n line (omega arith) (sym (some-bytes s o) ∙ e) in
+    let a = stopped most-nodes [] s n line tt (omega arith) (sym (some-bytes s o) ∙ e) in
     record {
       before = a .lines;
       rest = a .rest;
@@ -185,9 +189,11 @@ why-refuses before rest n o (past q h) =
     )
 why-refuses before rest n o (misspelt q h m) = fault-refuses before rest n Misspelt o q h (misspelt-line before rest (no-spelling rest m))
 why-refuses before rest n o (no-option q h x p z) = fault-refuses before rest n NoOption o q h (zero-line before rest (spelt-read rest x p) z)
-why-refuses before rest n o (not-allowed q h x p c a) = fault-refuses before rest n LevelNotAllowed o q h (level-line before rest (spelt-read rest x p) c a)
-why-refuses before rest n o (too-deep q h x p c a d) = fault-refuses before rest n TooDeep o q h (deep-line before rest (spelt-read rest x p) c a d)
-why-refuses before rest n o (ninth-child q h x p c a d m) = fault-refuses before rest n NinthChild o q h (ninth-line before rest (spelt-read rest x p) c a d m)
+why-refuses before rest n o (not-allowed q h x p c a) = fault-refuses before rest n LevelNotAllowed o q h (level-line before rest (spelt-read rest x p) c (no-follow (x .level) before a))
+why-refuses before rest n o (too-deep q h x p c a d) = fault-refuses before rest n TooDeep o q h (deep-line before rest (spelt-read rest x p) c (follow-test (x .level) before a) d)
+why-refuses before rest n o (ninth-child q h x p c a d m) =
+    let e = siblings-test (x .level) before m in
+    fault-refuses before rest n NinthChild o q h (ninth-line before rest (spelt-read rest x p) c (follow-test (x .level) before a) d (omega arith))
 
 -- A text that has such a first line at fault is refused at that line, by that number.
 pub fault-first : (s : List ℕ) (n line : ℕ) → FirstFault s n line → formOf s ≡ fault n line
@@ -196,7 +202,7 @@ fault-first s n line a =
     let k : length (reverse (a .before)) ≡ length (a .before) = length-reverse (a .before) in
     ap formOf (a .text)
     ∙ some-bytes (spell (a .before) ++ a .rest) (omega (arith, a .some, length-append (spell (a .before)) (a .rest)))
-    ∙ read-spelt most-nodes (a .before) [] (a .rest) (a .legal) (omega (arith, w .0))
+    ∙ read-spelt most-nodes (a .before) [] (a .rest) (legal-pass (a .before) [] (a .legal)) (omega (arith, w .0))
     ∙ ap (λ (m : ℕ). readLines (most-nodes - m) (reverse (a .before)) (a .rest)) (sym k)
     ∙ w .1
     ∙ ap (fault n) (ap suc k ∙ sym (a .place))

@@ -1,5 +1,4 @@
--- Lines that may stand behind each other are the lines of one tree, and a form is the text of one good tree within the limits. Assumes
--- nothing.
+-- Lines that pass behind each other are the lines of one tree, and a form is the text of one good tree within the limits. Assumes nothing.
 use mathlib.Core.Path.{_≡_, refl, ap, sym, subst, _∙_}
 use mathlib.Core.List.{List, [], _∷_, _++_, append-assoc, append-nil, reverseAux, reverse, reverse-cons}
 use Prim.Native.Nat.{ℕ, zero, suc, _+_, _-_, _≤_, _<_}
@@ -11,7 +10,7 @@ use Rattle.figures.specs.Limits.{greatest-depth, most-nodes, most-children}
 use Rattle.trees.specs.Trees.{Tree, Forest, node, bare, cons, count, words, depth, depthF, Good, GoodF, subtrees}
 use Rattle.form.specs.Text.{Line, linesOf, linesF, spell, textOf}
 use Rattle.form.specs.Reading.{allowed, siblings, form, formOf, wordsOf}
-use Rattle.form.specs.Faults.{Legal}
+use Rattle.form.proofs.Tests.{AllPass}
 use Rattle.form.proofs.Faults.{within-both}
 use Rattle.form.proofs.TreeLines.{lines-words, lines-count}
 use Rattle.form.proofs.Unique.{not-read, form-text}
@@ -120,8 +119,8 @@ module _ (t : Tree) (x : Line) (least : 1 ≤ x .level) (most : x .level ≤ suc
       let z : suc (x .level - 1) ≡ x .level = omega arith in
       add-last t (x .level - 1) (x .code) (omega arith) ∙ z
 
--- The tree that the lines before are grows by a leaf for each line that may follow.
-grow : (xs before : List Line) (t : Tree) → reverse before ≡ linesOf t 0 → ((l : ℕ) → allowed l before ≡ within 1 (suc (last t)) l) → Legal before xs → (u : Tree) × (reverse before ++ xs ≡ linesOf u 0)
+-- The tree that the lines before are grows by a leaf for each line that passes.
+grow : (xs before : List Line) (t : Tree) → reverse before ≡ linesOf t 0 → ((l : ℕ) → allowed l before ≡ within 1 (suc (last t)) l) → AllPass before xs → (u : Tree) × (reverse before ++ xs ≡ linesOf u 0)
 unfolding allowed
 grow [] before t e a g = (t, append-nil (reverse before) ∙ e)
 grow (x ∷ xs) before t e a g =
@@ -130,8 +129,8 @@ grow (x ∷ xs) before t e a g =
     let r = grow xs (x ∷ before) (grown t x) (grown-lines t x (w .0) (w .1) before e) (λ l. ap (λ (m : ℕ). within 1 (suc m) l) (sym (grown-last t x (w .0) (w .1)))) (g .2) in
     (r .0, sym (append-assoc (reverse before) (x ∷ []) xs) ∙ ap (λ (zs : List Line). zs ++ xs) (sym (reverse-cons x before)) ∙ r .1)
 
--- Lines that may be a form's are the lines of a tree.
-tree-of : (x : Line) (xs : List Line) → Legal [] (x ∷ xs) → (t : Tree) × (x ∷ xs ≡ linesOf t 0)
+-- Lines that pass are the lines of a tree.
+tree-of : (x : Line) (xs : List Line) → AllPass [] (x ∷ xs) → (t : Tree) × (x ∷ xs ≡ linesOf t 0)
 unfolding allowed linesOf last
 tree-of x xs g =
     let f = g .1 in
@@ -140,25 +139,25 @@ tree-of x xs g =
 
 -- ---- the limits
 
--- Of lines that may stand there, the first part may, and the second may behind it.
-legal-split : (xs ys before : List Line) → Legal before (xs ++ ys) → Legal before xs × Legal (reverseAux xs before) ys
+-- Of lines that pass, the first part does, and the second does behind it.
+legal-split : (xs ys before : List Line) → AllPass before (xs ++ ys) → AllPass before xs × AllPass (reverseAux xs before) ys
 legal-split [] ys before g = (tt, g)
 legal-split (x ∷ xs) ys before g =
     let r = legal-split xs ys (x ∷ before) (g .2) in
     ((g .0, g .1, r .0), r .1)
 
--- A tree whose lines may stand there is good and not too deep, and so is a row.
+-- A tree whose lines pass is good and not too deep, and so is a row.
 mutual
   unfolding linesOf Good depth count siblings if_then_else_
 
-  good : (t : Tree) (l : ℕ) (b : List Line) → Legal b (linesOf t l) → Good t × (l + depth t ≤ greatest-depth) × (siblings l b < most-children)
+  good : (t : Tree) (l : ℕ) (b : List Line) → AllPass b (linesOf t l) → Good t × (l + depth t ≤ greatest-depth) × (siblings l b < most-children)
   good (node c f) l b g =
       let m = g .1 in
       let z : siblings (suc l) (line l c ∷ b) ≡ 0 = rw (lt-ltb l (suc l) (omega arith)) in
       let r = goodF f l (line l c ∷ b) (m .shallow) (omega arith) (g .2) in
       (((m .option, g .0, omega (arith, r .2)), r .0), r .1, m .child)
 
-  goodF : (f : Forest) (m : ℕ) (b : List Line) → m ≤ greatest-depth → siblings (suc m) b ≤ most-children → Legal b (linesF f (suc m)) → GoodF f × (m + depthF f ≤ greatest-depth) × (siblings (suc m) b + count f ≤ most-children)
+  goodF : (f : Forest) (m : ℕ) (b : List Line) → m ≤ greatest-depth → siblings (suc m) b ≤ most-children → AllPass b (linesF f (suc m)) → GoodF f × (m + depthF f ≤ greatest-depth) × (siblings (suc m) b + count f ≤ most-children)
   goodF bare m b h s g = (tt, omega arith, omega arith)
   goodF (cons t f) m b h s g =
       let p = legal-split (linesOf t (suc m)) (linesF f (suc m)) b g in
@@ -187,7 +186,7 @@ formed (b ∷ bs) [] e = let o = form-text (b ∷ bs) [] e in let z : _≡_ {A =
 formed (b ∷ bs) (x ∷ xs) e =
     let o = form-text (b ∷ bs) (x ∷ xs) e in
     let t = tree-of x xs (o .1) in
-    let g = good (t .0) 0 [] (subst (Legal []) (t .1) (o .1)) in
+    let g = good (t .0) 0 [] (subst (AllPass []) (t .1) (o .1)) in
     record {
       tree = t .0;
       lines = t .1;

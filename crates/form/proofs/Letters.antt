@@ -14,12 +14,14 @@ use Rattle.figures.specs.Answers.{refusedAt}
 use Rattle.trees.specs.Answers.{writing, write}
 use Rattle.form.specs.Text.{digit-0, space, line-feed, digit, code-size, Line, levelText, codeText, lineText, spell}
 use Rattle.form.specs.Reading.{isDigit, value, isCode, codeBehind, speltOf, allowed, siblings, lineOf, Form, fault, form, readLines, formOf, children, wordsOf, readOf}
-use Rattle.form.specs.Faults.{Fine, greatest-level, misspelt, FirstFault}
+use Rattle.form.specs.Faults.{greatest-level, misspelt, FirstFault}
 use Rattle.form.specs.declared.reading.Fault.the-variants.{Misspelt}
 use Rattle.form.specs.declared.reading.LineRead.the-variants.{Node, Refused}
+use Rattle.form.proofs.Tests.{Passes}
 use Rattle.form.proofs.Faults.{fine-line, read-done, read-on, some-bytes}
 use Rattle.form.proofs.Digits.{figure-digit, is-digit, space-no-digit, is-code, level-read}
 use Rattle.form.proofs.Unique.{read-text, form-text}
+use Rattle.form.proofs.Rows.{pass-legal}
 use Rattle.form.proofs.FirstFault.{no-text, text-refused, fault-first}
 use Rattle.form.proofs.Trips.{form-write, fault-write}
 
@@ -38,8 +40,8 @@ code-decimal l a b c d rest h p q r s =
     level-read l space _ h space-no-digit
     ∙ rw (is-code (digit-0 + a) (digit-0 + b) (digit-0 + c) (digit-0 + d) (figure-digit a p) (figure-digit b q) (figure-digit c r) (figure-digit d s), decimal a b c d)
 
--- Any option may stand on line 1.
-first-line : (n : ℕ) → least-code ≤ n → Fine [] 0 n
+-- Any option passes on line 1.
+first-line : (n : ℕ) → least-code ≤ n → Passes [] 0 n
 unfolding allowed siblings
 first-line n h = record { option = h; follows = refl; shallow = omega arith; child = omega arith }
 
@@ -87,7 +89,7 @@ code-fault front xs l a b c d rest e h k n =
       before = xs;
       rest = s;
       text = ap (λ (f : List ℕ). f ++ s) (sym (t .0));
-      legal = t .1;
+      legal = pass-legal xs [] tt (t .1);
       some = omega (arith, length-append (levelText l) (space ∷ a ∷ b ∷ c ∷ d ∷ rest));
       place = refl;
       why = misspelt refl (omega (arith, length-reverse xs)) (no-text s (level-read l space _ k space-no-digit ∙ none-behind l (length (levelText l)) a b c d rest n));

@@ -1,4 +1,5 @@
 -- The laws of the text, which crates above cite.
+pub mod Tests
 pub mod Faults
 pub mod Spelling
 pub mod Steps
@@ -6,8 +7,9 @@ pub mod Counts
 pub mod TreeLines
 pub mod Digits
 pub mod Unique
-pub mod FirstFault
 pub mod RoundTrip
+pub mod Rows
+pub mod FirstFault
 pub mod Grow
 pub mod Trips
 pub mod Letters

@@ -13,10 +13,11 @@ use Rattle.words.specs.Base.{if_then_else_}
 use Rattle.figures.specs.Limits.{greatest-code, most-nodes}
 use Rattle.form.specs.Text.{digit-0, digit, code-size, Line, levelText, codeText, lineText, spell}
 use Rattle.form.specs.Reading.{faultNumber, isDigit, figure, value, isCode, codeBehind, speltOf, byLine, lineOf, fault, form, readLines, formOf}
-use Rattle.form.specs.Faults.{Legal, greatest-level}
+use Rattle.form.specs.Faults.{greatest-level}
 use Rattle.form.specs.declared.reading.Fault.the-variants.{Misspelt}
 use Rattle.form.specs.declared.reading.LineRead.{LineRead}
 use Rattle.form.specs.declared.reading.LineRead.the-variants.{Node, Refused}
+use Rattle.form.proofs.Tests.{AllPass}
 use Rattle.form.proofs.Faults.{no-node, node-seen}
 use Rattle.form.proofs.Spelling.{of-digit, of-code}
 use Rattle.form.proofs.LineBytes.{one-digit, two-digits, line-size}
@@ -179,7 +180,7 @@ record Again (room : ℕ) (before : List Line) (s : List ℕ) (xs : List Line) :
   ys : List Line
   joined : xs ≡ reverse before ++ ys
   text : spell ys ≡ s
-  legal : Legal before ys
+  legal : AllPass before ys
   rooms : length ys ≤ room
 
 -- `Again` holds where no bytes are left.
@@ -217,14 +218,14 @@ again (suc room) before (b ∷ bs) xs e = go (lineOf before (b ∷ bs)) refl (λ
     go (Refused f) q ih e = not-read e
     go (Node l c w) q ih e = again-line room before (b ∷ bs) xs q (ih (record { level = l; code = c }) (drop w (b ∷ bs)) e)
 
--- Bytes that are read without fault are the text of their lines, each of which may stand there, and for which there was room.
-pub read-text : (room : ℕ) (s : List ℕ) (xs : List Line) → readLines room [] s ≡ form xs → (spell xs ≡ s) × Legal [] xs × (length xs ≤ room)
+-- Bytes that are read without fault are the text of their lines, each of which passes, and for which there was room.
+pub read-text : (room : ℕ) (s : List ℕ) (xs : List Line) → readLines room [] s ≡ form xs → (spell xs ≡ s) × AllPass [] xs × (length xs ≤ room)
 read-text room s xs e =
     let a = again room [] s xs e in
-    (ap spell (a .joined) ∙ a .text, subst (Legal []) (sym (a .joined)) (a .legal), rw (a .joined) (a .rooms))
+    (ap spell (a .joined) ∙ a .text, subst (AllPass []) (sym (a .joined)) (a .legal), rw (a .joined) (a .rooms))
 
 -- A form is the text of its lines.
-pub form-text : (s : List ℕ) (xs : List Line) → formOf s ≡ form xs → (spell xs ≡ s) × Legal [] xs × (length xs ≤ most-nodes)
+pub form-text : (s : List ℕ) (xs : List Line) → formOf s ≡ form xs → (spell xs ≡ s) × AllPass [] xs × (length xs ≤ most-nodes)
 unfolding formOf
 form-text [] xs e = not-read e
 form-text (b ∷ bs) xs e = read-text most-nodes (b ∷ bs) xs e
