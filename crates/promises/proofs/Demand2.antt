@@ -29,7 +29,7 @@ use Rattle.form.proofs.Digits.{value-digits, line-read}
 use Rattle.form.proofs.LineBytes.{line-size}
 use Rattle.form.proofs.Letters.{NotFour, NotRead, decimal, code-decimal, decimal-read, code-refused, byte-refused}
 use Rattle.form.proofs.TreeLines.{topCode, lines-subtrees}
-use Rattle.form.proofs.Unique.{form-text}
+use Rattle.form.proofs.Rows.{form-legal}
 use Rattle.form.proofs.Trips.{order-text, order-write, form-write, written-read, read-written}
 use Rattle.book.specs.Book.{Book}
 use Rattle.book.specs.Sound.{IsBook}
@@ -119,7 +119,7 @@ every-line-in-tens os t o x m =
     let n : x .code ∈ map topCode (subtrees t) = subst (λ (cs : List ℕ). x .code ∈ cs) (lines-subtrees t 0) (Memᴰ·map (λ (y : Line). y .code) m) in
     let q = Memᴰ·of-map topCode (subtrees t) n in
     let most : x .code ≤ greatest-code = subst (λ (c : ℕ). c ≤ greatest-code) (q .2) (top-code (q .0) (subtree-good t (q .1) (o .good))) in
-    let f = form-text (textOf t) (linesOf t 0) (order-text os t (order-read os t o) .0) in
+    let f = form-legal (textOf t) (linesOf t 0) (order-text os t (order-read os t o) .0) in
     let shallow : x .level ≤ greatest-level = omega (arith, legal-shallow [] (linesOf t 0) (f .1) x m) in
     (spelt-stands (linesOf t 0) x m, level-tens (x .level) shallow, written-in-tens (x .code) most)
 
