@@ -3,7 +3,6 @@ use crate::kept;
 use crate::mark;
 use crate::say;
 use crate::wide;
-use figures::Written;
 ghost use Prim.Native.Nat.{_≤_};
 
 // The words or bytes that are lent to be written an order, a part or a form to: more than any has.
@@ -19,12 +18,10 @@ pub const HELD_BYTE: u8 = b'#';
 const MANY: usize = 512;
 
 // Says the answer: its number, its line and its count.
-pub fn answer(written: Written) {
-    say::word(written.number);
-    say::text(b", line ");
-    say::count(written.line);
+pub fn answer(number: u16, line: usize, count: usize) {
+    say::heard(number, line);
     say::text(b", ");
-    say::count(written.count);
+    say::count(count);
     say::text(b" written:");
 }
 

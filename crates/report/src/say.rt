@@ -1,6 +1,5 @@
 // How a line is said on standard output: text, numbers, bytes, words, and trees in the notation of document 000. Assumes nothing beyond a function's
 // `requires`.
-use figures::Answer;
 use libc::STDOUT_FILENO;
 ghost use Prim.Native.Nat.{_≤_};
 ghost use lib.ListN.{length};
@@ -63,10 +62,10 @@ pub fn came_back(same: bool) {
 }
 
 // Says an answer: its number and its line.
-pub fn heard(answer: Answer) {
-    word(answer.number);
+pub fn heard(number: u16, line: usize) {
+    word(number);
     text(b", line ");
-    count(answer.line);
+    count(line);
 }
 
 // Says so many trees that stand from word `at` on, with commas between, and gives the word past them.

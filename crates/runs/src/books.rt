@@ -7,11 +7,12 @@
 //   ask W W ..        the order of these words is judged by it
 //   agrees            it is checked to agree with itself
 //   show              says every word of it
-// Each call on the kept book says its answer, word 1 of the book and a mark of all the words of its slice.
+// All calls but that of `form` are made through the functions for C (`ofb`). Each call on the kept book says its answer, word 1 of the book and a mark of all
+// the words of its slice.
 use crate::kinds;
 use book::BookForm;
 use book::Places;
-use figures::Answer;
+use ofb::OfbAnswer;
 use report::fill;
 use report::kept;
 use report::mark;
@@ -55,17 +56,11 @@ fn state(book: &[u16]) {
     say::count(mark::of(book) as usize);
 }
 
-// Says what a call on a book answered, and how the book stands then.
-fn heard(answer: Answer, book: &[u16]) {
-    say::heard(answer);
-    say::text(b", ");
-    state(book);
-}
-
 // Opens a book in a slice, each of whose words is 9 before, and says the answer and every word of the slice.
 fn open_in(slice: &mut [u16], k: u16) {
     fill::words(slice, kept::BEFORE);
-    say::heard(book::open(slice, k));
+    let answer = ofb::ofb_open(slice, k);
+    say::heard(answer.number, answer.line as usize);
     say::text(b":");
     say::slice(slice);
 }
@@ -108,12 +103,12 @@ pub fn show(given: &[u16], held: &[u16]) {
 }
 
 // Makes a call on a book, by its kind: one of the four.
-fn made(kind: u64, order: &[u16], book: &mut [u16]) -> Answer {
+fn made(kind: u64, order: &[u16], book: &mut [u16]) -> OfbAnswer {
     match kind {
-        kinds::TEACH => teach::teach(book, order),
-        kinds::WITHDRAW => teach::withdraw(book, order),
-        kinds::ASK => judge::judge(book, order),
-        _ => agree::check(book),
+        kinds::TEACH => ofb::ofb_teach(book, order),
+        kinds::WITHDRAW => ofb::ofb_withdraw(book, order),
+        kinds::ASK => ofb::ofb_judge(book, order),
+        _ => ofb::ofb_check(book),
     }
 }
 
@@ -127,7 +122,9 @@ fn on_kept(kind: u64, order: &[u16], held: &mut [u16]) {
         return;
     }
     let answer = made(kind, order, &mut held[1..end]);
-    heard(answer, kept::all(held));
+    say::heard(answer.number, answer.line as usize);
+    say::text(b", ");
+    state(kept::all(held));
 }
 
 // Runs a case of `teach`, `withdraw`, `ask` or `agrees`, of which the last has no order.

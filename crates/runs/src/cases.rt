@@ -12,7 +12,7 @@ use report::say;
 // Runs a case by its kind and the words that stand behind that, with two kept books and a kept file.
 fn with_words(kind: u64, given: &[u16], book: &mut [u16], other: &mut [u16], file: &mut [u16]) {
     match kind {
-        kinds::CHECK => say::heard(order::check(given)),
+        kinds::CHECK => orders::check(given),
         kinds::K => orders::k(given),
         kinds::SUBTREE => orders::subtree(given),
         kinds::CUT => orders::cut(given),

@@ -3,6 +3,7 @@
 //   write ROOM W W ..    the order of these words is written to an output of so many bytes
 //   back TEXT            the text is read and written back
 //   there W W ..         the order of these words is written and read back
+// All calls are made through the functions for C (`ofb`).
 use figures::numbers;
 use report::lent;
 use report::lent::HELD;
@@ -15,9 +16,9 @@ use report::wide;
 
 // Reads a text to an output, and says what came of it.
 fn read_to(text: &[u8], out: &mut [u16]) {
-    let written = scan::read(text, out);
-    let count = written.count;
-    lent::answer(written);
+    let answer = ofb::ofb_read_text(text, out);
+    let count = answer.written as usize;
+    lent::answer(answer.number, answer.line as usize, count);
     lent::words(out, count);
 }
 
@@ -46,8 +47,8 @@ pub fn read(behind: &[u8]) {
 // Whether a text is read, and its words are written, to the same bytes.
 fn is_back(text: &[u8]) -> bool {
     let mut words = [HELD; MOST];
-    let read = scan::read(text, &mut words);
-    let count = read.count;
+    let read = ofb::ofb_read_text(text, &mut words);
+    let count = read.written as usize;
     if read.number != numbers::DONE {
         return false;
     }
@@ -55,9 +56,9 @@ fn is_back(text: &[u8]) -> bool {
         return false;
     }
     let mut bytes = [HELD_BYTE; MOST];
-    let written = print::write(&words[0..count], &mut bytes);
-    let size = written.count;
-    if written.number != numbers::DONE {
+    let wrote = ofb::ofb_write_text(&words[0..count], &mut bytes);
+    let size = wrote.written as usize;
+    if wrote.number != numbers::DONE {
         return false;
     }
     if bytes.len() < size {
@@ -79,9 +80,9 @@ pub fn back(behind: &[u8]) {
 
 // Writes an order to an output, and says what came of it.
 fn write_to(order: &[u16], out: &mut [u8]) {
-    let written = print::write(order, out);
-    let count = written.count;
-    lent::answer(written);
+    let answer = ofb::ofb_write_text(order, out);
+    let count = answer.written as usize;
+    lent::answer(answer.number, answer.line as usize, count);
     lent::text(out, count);
 }
 
@@ -103,17 +104,17 @@ pub fn write(given: &[u16]) {
 // Whether an order is written, and its text is read, to the same words.
 fn is_there(order: &[u16]) -> bool {
     let mut bytes = [HELD_BYTE; MOST];
-    let written = print::write(order, &mut bytes);
-    let size = written.count;
-    if written.number != numbers::DONE {
+    let wrote = ofb::ofb_write_text(order, &mut bytes);
+    let size = wrote.written as usize;
+    if wrote.number != numbers::DONE {
         return false;
     }
     if bytes.len() < size {
         return false;
     }
     let mut words = [HELD; MOST];
-    let read = scan::read(&bytes[0..size], &mut words);
-    let count = read.count;
+    let read = ofb::ofb_read_text(&bytes[0..size], &mut words);
+    let count = read.written as usize;
     if read.number != numbers::DONE {
         return false;
     }

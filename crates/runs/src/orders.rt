@@ -4,12 +4,19 @@
 //   subtree LINE W W ..      the subtree of a line of the order of these words
 //   cut LINE D ROOM W W ..   its cut at D, written to an output of so many words
 //   part LINE K ROOM W W ..  the part that the line stands for at K, likewise
+// The call of `subtree` is made through the function for C (`ofb`); there is none for the others.
 use figures::Asked;
 use figures::Depth;
 use report::lent;
 use report::say;
 use report::wide;
 use trees::Kind;
+
+// Runs a case of `check`.
+pub fn check(given: &[u16]) {
+    let answer = order::check(given);
+    say::heard(answer.number, answer.line);
+}
 
 // Runs a case of `k`.
 pub fn k(given: &[u16]) {
@@ -20,21 +27,27 @@ pub fn k(given: &[u16]) {
     say::word(Depth::new(given[0]).number());
 }
 
-// Runs a case of `subtree`.
+// Runs a case of `subtree`: says the tree at the place that is answered, or that this is no place in the order.
 pub fn subtree(given: &[u16]) {
     if given.len() < 1 {
         say::not_understood();
         return;
     }
-    let line = wide::number(given[0]);
-    say::tree(cuts::subtree(&given[1..], line));
+    let part = ofb::ofb_subtree(&given[1..], wide::number(given[0]));
+    let start = 1 + part.start as usize;
+    let end = start + part.words as usize;
+    if given.len() < end {
+        say::text(b"no place in the order");
+        return;
+    }
+    say::tree(&given[start..end]);
 }
 
 // Writes the cut at d of a line to an output, and says what came of it.
 fn cut_to(order: &[u16], line: usize, d: usize, out: &mut [u16]) {
     let written = cuts::cut_into(order, line, d, out);
     let count = written.count;
-    lent::answer(written);
+    lent::answer(written.number, written.line, count);
     lent::tree(out, count);
 }
 
@@ -71,7 +84,7 @@ fn part_to(order: &[u16], line: usize, k: Depth, out: &mut [u16]) {
     let written = found.written;
     let count = written.count;
     kind(sort);
-    lent::answer(written);
+    lent::answer(written.number, written.line, count);
     lent::tree(out, count);
 }
 

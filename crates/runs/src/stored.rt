@@ -10,6 +10,7 @@
 //   trip                the file of the kept book is written, and read into a slice of as many words as the book's
 //   again               the kept file is read into a slice of 16,384 words, and what is read is written
 //   swap                the kept book and the other, of which there is none at first, change places
+// All calls are made through the functions for C (`ofb`).
 ghost use Prim.Native.Nat.{_≤_};
 ghost use lib.ListN.{length};
 use figures::limits::MOST_BOOK_WORDS;
@@ -86,9 +87,9 @@ fn keep(bytes: &[u8], file: &mut [u16]) {
 
 // Writes the file of a book to an output, and says what came of it; what was written is kept.
 fn store_to(book: &[u16], out: &mut [u8], file: &mut [u16]) {
-    let written = store::write(book, out);
-    let count = written.count;
-    lent::answer(written);
+    let answer = ofb::ofb_write_file(book, out);
+    let count = answer.written as usize;
+    lent::answer(answer.number, answer.line as usize, count);
     lent::bytes(out, count);
     if count == 0 {
         return;
@@ -117,7 +118,8 @@ pub fn store(given: &[u16], book: &[u16], file: &mut [u16]) {
 // Reads a file into a slice, each of whose words is 9 before, and says the answer and every word of the slice.
 fn load_to(file: &[u8], slice: &mut [u16]) {
     fill::words(slice, BEFORE);
-    say::heard(store::read(file, slice));
+    let answer = ofb::ofb_read_file(file, slice);
+    say::heard(answer.number, answer.line as usize);
     say::text(b":");
     say::slice(slice);
 }
@@ -201,10 +203,10 @@ fn refused(call: &[u8], number: u16) {
 fn written(book: &[u16], out: &mut [u8]) -> usize
     ensures { λ r. ⌜ r ≤ length (now (out .entry)) ⌝ }
 {
-    let written = store::write(book, out);
-    let count = written.count;
-    if written.number != DONE {
-        refused(b"writing", written.number);
+    let answer = ofb::ofb_write_file(book, out);
+    let count = answer.written as usize;
+    if answer.number != DONE {
+        refused(b"writing", answer.number);
         return 0;
     }
     if out.len() < count {
@@ -216,7 +218,7 @@ fn written(book: &[u16], out: &mut [u8]) -> usize
 
 // Reads the file of a book into a slice, and says whether the slice is the book in every word.
 fn read_back(book: &[u16], file: &[u8], slice: &mut [u16]) {
-    let number = store::read(file, slice).number;
+    let number = ofb::ofb_read_file(file, slice).number;
     if number != DONE {
         refused(b"reading", number);
         return;
@@ -267,7 +269,7 @@ pub fn again(given: &[u16], file: &[u16]) {
     let mut bytes = [0u8; MOST_FILE];
     let n = wide::narrow(kept::all(file), &mut bytes);
     let mut slice = [BEFORE; MOST_BOOK_WORDS];
-    let number = store::read(&bytes[0..n], &mut slice).number;
+    let number = ofb::ofb_read_file(&bytes[0..n], &mut slice).number;
     if number != DONE {
         refused(b"reading", number);
         return;
