@@ -91,7 +91,7 @@ append p back x [] a e = rw (child (p .level) back x a e, words-past (p .level) 
 append p back x (y ∷ front) a e = rw (two-on (length front), stays (y .level) front p back x e, append p back x front a e)
 
 -- Where the parent's number of children stands.
-kids : (p : Line) (back front : List Line) → getD (wordsOf (front ++ (p ∷ back))) (2 * length front + 1) 0 ≡ children (p .level) back
+pub kids : (p : Line) (back front : List Line) → getD (wordsOf (front ++ (p ∷ back))) (2 * length front + 1) 0 ≡ children (p .level) back
 unfolding wordsOf
 kids p back [] = refl
 kids p back (y ∷ front) = rw (two-on (length front)) (kids p back front)

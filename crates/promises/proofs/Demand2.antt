@@ -21,14 +21,15 @@ use Rattle.trees.specs.Answers.{writing, write}
 use Rattle.trees.proofs.Cutting.{subtree-good}
 use Rattle.trees.proofs.Fitting.{order-read}
 use Rattle.form.specs.Text.{Line, digit-0, space, line-feed, code-size, linesOf, levelText, codeText, lineText, spell, textOf}
-use Rattle.form.specs.Reading.{isDigit, speltOf, form, readLines, readOf}
+use Rattle.form.specs.Reading.{isDigit, speltOf, form, readLines, children, wordsOf, readOf}
 use Rattle.form.specs.Faults.{greatest-level}
 use Rattle.form.specs.Writing.{writeOf}
 use Rattle.form.specs.declared.reading.LineRead.the-variants.{Node}
 use Rattle.form.proofs.Digits.{value-digits, line-read}
 use Rattle.form.proofs.LineBytes.{line-size}
 use Rattle.form.proofs.Letters.{NotFour, NotRead, decimal, code-decimal, decimal-read, code-refused, byte-refused}
-use Rattle.form.proofs.TreeLines.{topCode, lines-subtrees}
+use Rattle.form.proofs.Counts.{kids}
+use Rattle.form.proofs.TreeLines.{topCode, lines-words, lines-subtrees}
 use Rattle.form.proofs.Rows.{form-legal}
 use Rattle.form.proofs.Trips.{order-text, order-write, form-write, written-read, read-written}
 use Rattle.book.specs.Book.{Book}
@@ -40,8 +41,8 @@ use Rattle.verdicts.proofs.Answers.{answered-passes, passes-answered}
 use Rattle.effects.specs.Conditions.{_exactly-when_}
 use Rattle.files.specs.Files.{front-bytes, fileOf, writeFileOf, readFileOf}
 use Rattle.promises.specs.Agreement.{Agrees}
-use Rattle.promises.specs.Forms.{LevelInTens, InTens, Stands, ComesBack}
-use Rattle.promises.proofs.FormLines.{level-tens, tens-level, tens-most, legal-shallow}
+use Rattle.promises.specs.Forms.{LevelInTens, InTens, Stands, Below, ComesBack}
+use Rattle.promises.proofs.FormLines.{level-tens, tens-level, tens-most, legal-shallow, below-counted, line-code}
 use Rattle.promises.proofs.LineNumbers.{unpassed}
 use Rattle.promises.proofs.FileWhys.{agrees-filed}
 use Rattle.promises.proofs.FileTrips.{file-back, filed-back, filed-bytes, read-back-filed, read-alike}
@@ -143,6 +144,19 @@ no-other-base = code-refused
 -- No text with a byte that is no digit, space or LF is read, wherever the byte stands.
 pub no-letter : (front rest : List ℕ) (b : ℕ) → isDigit b ≡ false → (b ≡ space → ⊥) → (b ≡ line-feed → ⊥) → NotRead (front ++ (b ∷ rest))
 no-letter = byte-refused
+
+-- ---- levels say the tree
+
+-- "One line per node in preorder: level": in the form of an order each line has the code of its node, and as many children among the lines as its node
+-- has: these are the lines one level deeper that stand below it, before the next line of its level or above.
+pub levels-say-the-tree : (os : List ℕ) (t : Tree) → IsOrder os t → (before : List Line) (x : Line) (behind : List Line) → linesOf t 0 ≡ before ++ (x ∷ behind)
+    → (getD os (2 * length before) 0 ≡ x .code) × ((n : ℕ) → (getD os (2 * length before + 1) 0 ≡ n) exactly-when Below (x .level) behind n)
+levels-say-the-tree os t o before x behind e =
+    let is : os ≡ wordsOf (before ++ (x ∷ behind)) = o .spelt ∙ sym (lines-words t 0) ∙ ap wordsOf e in
+    let count : getD os (2 * length before + 1) 0 ≡ children (x .level) behind = ap (λ (ws : List ℕ). getD ws (2 * length before + 1) 0) is ∙ kids x behind before in (
+      ap (λ (ws : List ℕ). getD ws (2 * length before) 0) is ∙ line-code x behind before,
+      λ n. let b = below-counted (x .level) behind n in (λ q. b .0 (sym count ∙ q), λ r. count ∙ b .1 r),
+    )
 
 -- ---- "A sound form goes to text and back unchanged"
 

@@ -11,14 +11,13 @@ use Rattle.figures.specs.declared.Answer.{Answer}
 use Rattle.trees.specs.Trees.{Tree, words}
 use Rattle.trees.specs.Fits.{IsOrder}
 use Rattle.trees.proofs.Fitting.{read-order}
-use Rattle.form.specs.Text.{space, line-feed, textOf}
+use Rattle.form.specs.Text.{textOf}
 use Rattle.form.specs.Reading.{Form, fault, form, byForm, formOf, wordsOf}
 use Rattle.form.specs.Faults.{FirstFault}
 use Rattle.form.proofs.FirstFault.{first-fault, fault-first}
 use Rattle.form.proofs.Trips.{form-order}
 use Rattle.book.specs.Opening.{Outcome, outcome, openOf}
 use Rattle.verdicts.specs.Judging.{judgeOf}
-use Rattle.verdicts.specs.Verdicts.{Judged}
 use Rattle.verdicts.proofs.Answers.{judged-is, judged-only}
 use Rattle.effects.specs.Calls.{teachOf, withdrawOf}
 use Rattle.effects.proofs.Whys.{teach-why, teach-only, withdraw-why, withdraw-only}
@@ -29,11 +28,10 @@ use Rattle.sheet.specs.declared.Letter.{Letter}
 use Rattle.sheet.specs.declared.Letter.the-variants.{Teach, Withdraw, Judge}
 use Rattle.ask.specs.Asking.{askOf, callOf}
 use Rattle.calls.specs.Desk.{lineFor, linesFor, deskOf}
-use Rattle.calls.specs.Lines.{feeds}
 use Rattle.calls.specs.Steps.{Run, stepOf}
 use Rattle.calls.proofs.Lines.{feeds-append, line-feeds, calls-feeds, letter-no-feed}
 use Rattle.calls.proofs.Runs.{Finished, run-goes-on, run-prints, run-from}
-use Rattle.promises.specs.AtTheDesk.{bookAfter, WhyAnswered, no-text, text-at-fault, teaches, withdraws, judges, InDecimal, Says, PrintedFor}
+use Rattle.promises.specs.AtTheDesk.{WhyAnswered, no-text, text-at-fault, teaches, withdraws, judges, InDecimal, Says, PrintedFor}
 use Rattle.promises.proofs.Handing.{asks-order, book-then}
 use Rattle.promises.proofs.Demand1.{Exactly}
 use Rattle.promises.proofs.AtTheDesk.{blank, opened, desk-book, line-of-each}

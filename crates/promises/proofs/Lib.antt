@@ -8,6 +8,7 @@ pub mod Whys
 pub mod PartWhys
 pub mod Conditions
 pub mod Checks
+pub mod Books
 pub mod FileWhys
 pub mod Starting
 pub mod FileTrips

@@ -1,22 +1,20 @@
 -- Each number and each figure of 01 by its own numeral. The theorems name the numbers and figures (figures/specs/), so that these rows say what is
 -- promised of them: the names' values, one call for each number that is answered, and what is answered at each figure and past it. Assumes nothing.
 use Prim.Native.Nat.{ℕ, zero, suc}
-use mathlib.Core.Path.{_≡_, refl, ap}
+use mathlib.Core.Path.{_≡_, refl}
 use mathlib.Core.List.{List, [], _∷_, _++_, map}
 use native.Mathlib.Omega.{arith}
-use lib.ListN.{length, length-replicate, replicate, set}
+use lib.ListN.{length, replicate, set}
 use Rattle.figures.specs.Limits.{least-code, greatest-code, most-children, most-nodes, most-words, greatest-depth, least-k, greatest-k, head-words}
 use Rattle.figures.specs.Limits.{k-word, used-word, live-word, taught-word, tops-word, lows-word, middles-word, most-book-words, least-count, greatest-count}
 use Rattle.figures.specs.Limits.{most-input, desk-book-words}
 use Rattle.figures.specs.Numbers.{done, no-order, too-large, k-outside, book-size, not-in-form, no-room, too-many, not-taught, not-agreeing, no-form}
 use Rattle.figures.specs.Numbers.{short-output, no-mark, other-version, no-stored-book, top-unknown, low-unknown, middle-unknown}
 use Rattle.figures.specs.Answers.{answered, refusedAt}
-use Rattle.figures.specs.declared.Answer.{Answer}
-use Rattle.section.specs.Entries.{counted}
 use Rattle.trees.specs.Trees.{Tree, node, bare, cons, words}
 use Rattle.trees.specs.Reading.{causeOf}
 use Rattle.trees.specs.Answers.{checkOf, writing}
-use Rattle.form.specs.Text.{digit-0, digit-9, space, line-feed, Line, levelText, spell}
+use Rattle.form.specs.Text.{digit-0, digit-9, space, line-feed, spell}
 use Rattle.form.specs.Reading.{readOf}
 use Rattle.form.specs.Faults.{greatest-level}
 use Rattle.book.specs.Book.{lay}

@@ -10,6 +10,7 @@ use Rattle.trees.specs.Trees.{Tree, words, subtrees}
 use Rattle.trees.specs.Reading.{found}
 use Rattle.trees.specs.Answers.{lineOf}
 use Rattle.form.specs.Text.{Line, digit-0, space, line-feed, levelText, codeText, lineText, spell, textOf}
+use Rattle.form.specs.Faults.{ChildrenOf}
 use Rattle.calls.specs.Lines.{feeds}
 
 -- ---- in tens
@@ -34,6 +35,21 @@ pub record Stands (text : List ℕ) (x : Line) : Type 0 where
   pub front : List ℕ
   pub rest : List ℕ
   pub is : text ≡ front ++ (levelText (x .level) ++ (codeText (x .code) ++ rest))
+
+-- ---- which lines are children of which
+
+-- The lines that follow are none, or begin at that level or above.
+pub data NoDeeper (l : ℕ) : List Line → Type 0 where
+  no-more : NoDeeper l []
+  back-up : {x : Line} {xs : List Line} → x .level ≤ l → NoDeeper l (x ∷ xs)
+
+-- "One line per node in preorder": of the lines behind a line of level l, those below it come first, and so many of them are its children.
+pub record Below (l : ℕ) (behind : List Line) (n : ℕ) : Type 0 where
+  pub below : List Line
+  pub rest : List Line
+  pub split : behind ≡ below ++ rest
+  pub children : ChildrenOf l below n
+  pub ends : NoDeeper l rest
 
 -- ---- which line it is
 

@@ -6,3 +6,4 @@ pub mod Agreement
 pub mod Whys
 pub mod AtTheDesk
 pub mod Forms
+pub mod Books
