@@ -6,16 +6,18 @@ use mathlib.Core.List.{List, [], _∷_, _++_, append-assoc}
 use native.Mathlib.Omega.{arith}
 use lib.ListN.{length, drop, getD}
 use Rattle.figures.specs.Limits.{used-word, desk-book-words}
-use Rattle.figures.specs.Numbers.{no-form}
+use Rattle.figures.specs.Numbers.{done, no-form}
 use Rattle.figures.specs.declared.Answer.{Answer}
 use Rattle.trees.specs.Trees.{Tree, words}
 use Rattle.trees.specs.Fits.{IsOrder}
 use Rattle.trees.proofs.Fitting.{read-order}
-use Rattle.form.specs.Text.{textOf}
+use Rattle.form.specs.Text.{Line, spell, textOf}
 use Rattle.form.specs.Reading.{Form, fault, form, byForm, formOf, wordsOf}
 use Rattle.form.specs.Faults.{FirstFault}
 use Rattle.form.proofs.FirstFault.{first-fault, fault-first}
 use Rattle.form.proofs.Trips.{form-order}
+use Rattle.book.specs.Book.{Book}
+use Rattle.book.specs.Sound.{IsBook}
 use Rattle.book.specs.Opening.{Outcome, outcome, openOf}
 use Rattle.verdicts.specs.Judging.{judgeOf}
 use Rattle.verdicts.proofs.Answers.{judged-is, judged-only}
@@ -28,12 +30,16 @@ use Rattle.sheet.specs.declared.Letter.{Letter}
 use Rattle.sheet.specs.declared.Letter.the-variants.{Teach, Withdraw, Judge}
 use Rattle.ask.specs.Asking.{askOf, callOf}
 use Rattle.calls.specs.Desk.{lineFor, linesFor, deskOf}
+use Rattle.calls.specs.Lines.{feeds}
 use Rattle.calls.specs.Steps.{Run, stepOf}
 use Rattle.calls.proofs.Lines.{feeds-append, line-feeds, calls-feeds, letter-no-feed}
 use Rattle.calls.proofs.Runs.{Finished, run-goes-on, run-prints, run-from}
 use Rattle.promises.specs.AtTheDesk.{WhyAnswered, no-text, text-at-fault, teaches, withdraws, judges, InDecimal, Says, PrintedFor}
+use Rattle.promises.specs.Forms.{LineOfText, ComesBack}
+use Rattle.promises.proofs.FormLines.{spell-feeds}
 use Rattle.promises.proofs.Handing.{asks-order, book-then}
 use Rattle.promises.proofs.Demand1.{Exactly}
+use Rattle.promises.proofs.Demand2.{comes-back}
 use Rattle.promises.proofs.AtTheDesk.{blank, opened, desk-book, line-of-each}
 use Rattle.promises.proofs.DeskFigures.{desk-figures-small}
 
@@ -171,6 +177,25 @@ module _ (input : List ℕ) (k : ℕ) (cs : List Asking) (is : handedIn input �
         says = line-answers;
         leaves = book-then front c (opened input k cs is);
       }
+
+-- ---- the line that is rung
+
+-- The first line at fault of a form's text stands behind as many LF as its number says, less one.
+pub fault-place : (text : List ℕ) (n line : ℕ) → FirstFault text n line
+    → (front : List ℕ) × (rest : List ℕ) × (text ≡ front ++ rest) × (0 < length rest) × (line ≡ suc (feeds front))
+fault-place text n line f = (spell (f .before), f .rest, f .text, f .some, f .place ∙ ap suc (sym (spell-feeds (f .before))))
+
+-- "any other comes back to the order clerk with a number and a line": a form below J with the text of an order that does not pass by a book in form is
+-- answered by 20, 21 or 22 and the number of a line of the form as it was handed in.
+pub desk-comes-back : (text : List ℕ) (t : Tree) → text ≡ textOf t → IsOrder (words t) t → (book : List ℕ) (b : Book) → IsBook book b
+    → let a = callOf (record { letter = Judge; text = text }) book .answer in (a .number ≡ done → ⊥) → ComesBack t a × ((x : Line) × LineOfText text (a .line) x)
+desk-comes-back text t e o book b is not =
+    let q : callOf (record { letter = Judge; text = text }) book ≡ outcome (judgeOf book (words t)) book =
+    ap (λ (s : List ℕ). callOf (record { letter = Judge; text = s }) book) e ∙ desk-answers t o book .2 in
+    let a : callOf (record { letter = Judge; text = text }) book .answer ≡ judgeOf book (words t) = ap (λ (r : Outcome). r .answer) q in
+    let r : ComesBack t (callOf (record { letter = Judge; text = text }) book .answer) =
+    subst (ComesBack t) (sym a) (comes-back book (words t) b t is o (λ z. not (ap (λ (v : Answer). v .number) a ∙ z))) in
+    (r, (r .read-aloud, subst (λ (s : List ℕ). LineOfText s (callOf (record { letter = Judge; text = text }) book .answer .line) (r .read-aloud)) (sym e) (r .stands)))
 
 -- ---- the steps of the library
 
