@@ -46,7 +46,7 @@ numbers = refl
 pub order-figures : (least-code ∷ greatest-code ∷ most-children ∷ most-nodes ∷ most-words ∷ greatest-depth ∷ []) ≡ 1 ∷ 9999 ∷ 8 ∷ 64 ∷ 128 ∷ 12 ∷ []
 order-figures = refl
 
--- "k is 2 to 6", "A lent slice of 7 to 16,384 words", "count (1 to 65,535)"; words 0 to 6 of the head: k, words used, live teachings, entries in T, R, L, P
+-- "k is 2 to 6", "A lent slice of 7 to 16,384 words", "count (1 to 65,535)"
 pub book-figures : (least-k ∷ greatest-k ∷ head-words ∷ most-book-words ∷ least-count ∷ greatest-count ∷ []) ≡ 2 ∷ 6 ∷ 7 ∷ 16384 ∷ 1 ∷ 65535 ∷ []
 book-figures = refl
 
@@ -64,8 +64,8 @@ pub text-figures : (digit-0 ∷ digit-9 ∷ space ∷ line-feed ∷ letter-K ∷
 text-figures = refl
 
 -- "standard input, at most 32,768 bytes, with a book of 8,192 words"
-pub desk-figures : (most-input ∷ desk-book-words ∷ []) ≡ 32768 ∷ 8192 ∷ []
-desk-figures = refl
+pub program-figures : (most-input ∷ desk-book-words ∷ []) ≡ 32768 ∷ 8192 ∷ []
+program-figures = refl
 
 -- ---- a call for each number
 
