@@ -33,3 +33,4 @@ mod Rows
 mod FileRows
 pub mod Numerals
 pub mod DeskRows
+pub mod DeskInput

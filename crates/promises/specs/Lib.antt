@@ -5,5 +5,6 @@ pub mod Heard
 pub mod Agreement
 pub mod Whys
 pub mod AtTheDesk
+pub mod DeskInput
 pub mod Forms
 pub mod Books

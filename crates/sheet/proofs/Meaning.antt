@@ -3,53 +3,19 @@ use Prim.Native.Nat.{ℕ, zero, suc}
 use mathlib.Core.Path.{_≡_, refl, ap, sym, subst, _∙_}
 use mathlib.Core.Bool.{Bool, true, false}
 use mathlib.Core.List.{List, [], _∷_, _++_, append-nil, List·Memᴰ·head as here, List·Memᴰ·tail as there, List·Memᴰ·not-nil}
-use native.Mathlib.Omega.{arith}
 use lib.Dec.{eqb}
 use lib.ListN.{take}
-use borrow.Author.Tests.{eqb-true}
 use Rattle.words.specs.Base.{_∈_, if_then_else_}
 use Rattle.words.proofs.Tests.{no-test}
 use Rattle.form.specs.Text.{line-feed}
-use Rattle.sheet.specs.Sheets.{letterByte, letterOf, withByte, inputLines, kindOf, Call, Sheet, sheetOf}
+use Rattle.sheet.specs.Sheets.{letterByte, letterOf, inputLines, Call, Sheet, sheetOf}
 use Rattle.sheet.specs.Places.{letterAt, sizeTo}
-use Rattle.sheet.specs.Joined.{joinedCalls, joined, Plain, lineBehind, Parts, last-part, part, IsSheet}
+use Rattle.sheet.specs.Joined.{joinedCalls, joined, Plain, Parts, last-part, part, IsSheet}
 use Rattle.sheet.specs.declared.Letter.{Letter}
-use Rattle.sheet.specs.declared.Letter.the-variants.{Teach, Withdraw, Judge}
 use Rattle.sheet.specs.declared.LineKind.{LineKind}
 use Rattle.sheet.specs.declared.LineKind.the-variants.{Asks, Other}
-use Rattle.sheet.proofs.Splitting.{firstKind, first-kind, feed-asks-nothing, sheetFrom, withFront, empty-sheet, byte-on, byte-other, letter-sheet, front}
-
--- ---- letter lines
-
--- A byte that asks for something is that letter's.
-asks-letter : (b : ℕ) (x : Letter) → letterOf b ≡ Asks x → b ≡ letterByte x
-unfolding letterOf if_then_else_
-asks-letter b x e = go (eqb b (letterByte Teach)) refl (eqb b (letterByte Withdraw)) refl (eqb b (letterByte Judge)) refl e
-  where
-    -- By which of the three it is.
-    go : (t : Bool) → eqb b (letterByte Teach) ≡ t → (w : Bool) → eqb b (letterByte Withdraw) ≡ w → (j : Bool) → eqb b (letterByte Judge) ≡ j
-        → (if t then Asks Teach else if w then Asks Withdraw else if j then Asks Judge else Other) ≡ Asks x → b ≡ letterByte x
-    go true p w q j r f = let z : Teach ≡ x = cc in eqb-true b _ p ∙ ap letterByte z
-    go false p true q j r f = let z : Withdraw ≡ x = cc in eqb-true b _ q ∙ ap letterByte z
-    go false p false q true r f = let z : Judge ≡ x = cc in eqb-true b _ r ∙ ap letterByte z
-    go false p false q false r f = absurd (let z : _≡_ {A = ℕ} 0 1 = cc in omega arith)
-
--- Bytes that begin with a letter line begin with that letter and LF.
-pub letter-front : (b e : ℕ) (rest : List ℕ) (x : Letter) → letterAt (b ∷ e ∷ rest) ≡ Asks x → b ∷ e ∷ rest ≡ letterByte x ∷ line-feed ∷ rest
-unfolding letterAt if_then_else_
-letter-front b e rest x a = go (eqb e line-feed) refl a
-  where
-    -- By whether the second byte is LF.
-    go : (t : Bool) → eqb e line-feed ≡ t → (if t then letterOf b else Other) ≡ Asks x → b ∷ e ∷ rest ≡ letterByte x ∷ line-feed ∷ rest
-    go true p f = rw (asks-letter b x f, eqb-true e line-feed p)
-    go false p f = absurd (let z : _≡_ {A = ℕ} 0 1 = cc in omega arith)
-
--- A letter and LF are a letter line, whatever follows.
-pub letter-there : (x : Letter) (rest : List ℕ) → letterAt (letterByte x ∷ line-feed ∷ rest) ≡ Asks x
-unfolding letterAt letterOf if_then_else_
-letter-there Teach rest = refl
-letter-there Withdraw rest = refl
-letter-there Judge rest = refl
+use Rattle.sheet.proofs.Splitting.{feed-asks-nothing, sheetFrom, withFront, empty-sheet, byte-on, byte-other, letter-sheet, front}
+use Rattle.sheet.proofs.LetterLines.{letter-front, letter-there, lineBehind, start-told, told-start, PlainFrom, plain-told, told-plain, plain-none, plain-on, plain-inside, plain-start, plain-first}
 
 -- ---- joined
 
@@ -91,70 +57,6 @@ joined-from true (b ∷ e ∷ rest) = go (letterAt (b ∷ e ∷ rest)) refl (joi
 pub sheet-joined : (bs : List ℕ) → joined (sheetOf bs) ≡ bs
 sheet-joined bs = joined-from true bs
 
--- ---- lines with no letter line
-
--- None of the lines is a letter line.
-abbrev PlainLines : List (List ℕ) → Type 0
-PlainLines ls = (l : List ℕ) → l ∈ ls → kindOf l ≡ Other
-
--- All lines but the first.
-abbrev laterLines : List (List ℕ) → List (List ℕ)
-laterLines [] = []
-laterLines (l ∷ ls) = ls
-
--- The lines that start among bytes, if one starts at the first of them, and if not.
-abbrev started : Bool → List (List ℕ) → List (List ℕ)
-started true ls = ls
-started false ls = laterLines ls
-
--- None of the lines that start among the bytes is a letter line.
-abbrev PlainFrom : Bool → List ℕ → Type 0
-PlainFrom starts bs = PlainLines (started starts (inputLines bs))
-
--- The lines behind the first of some are those that start behind its first byte.
-later-lines : (b : ℕ) (bs : List ℕ) → laterLines (inputLines (b ∷ bs)) ≡ started (eqb b line-feed) (inputLines bs)
-unfolding inputLines withByte
-later-lines b bs = go (eqb b line-feed) (inputLines bs)
-  where
-    -- By whether the byte is LF, and the lines behind it.
-    go : (t : Bool) (ls : List (List ℕ)) → laterLines (withByte t b ls) ≡ started t ls
-    go true ls = refl
-    go false [] = refl
-    go false (l ∷ ls) = refl
-
--- No lines have a letter line among them.
-plain-none : PlainLines []
-plain-none l m = absurd (List·Memᴰ·not-nil m)
-
--- Lines have none if the first and the others have none.
-plain-both : (ls : List (List ℕ)) → firstKind ls ≡ Other → PlainLines (laterLines ls) → PlainLines ls
-plain-both [] e h l m = h l m
-plain-both (a ∷ ls) e h l (here p) = ap kindOf p ∙ e
-plain-both (a ∷ ls) e h l (there m) = h l m
-
--- If lines have none, the first is none.
-plain-first : (ls : List (List ℕ)) → PlainLines ls → firstKind ls ≡ Other
-plain-first [] h = refl
-plain-first (a ∷ ls) h = h a (here refl)
-
--- If lines have none, the later ones have none.
-plain-later : (starts : Bool) (ls : List (List ℕ)) → PlainLines (started starts ls) → PlainLines (laterLines ls)
-plain-later false ls h l m = h l m
-plain-later true [] h l m = h l m
-plain-later true (a ∷ ls) h l m = h l (there m)
-
--- Lines that start behind a byte have none if those from the byte on have none.
-plain-on : (starts : Bool) (b : ℕ) (bs : List ℕ) → PlainFrom starts (b ∷ bs) → PlainFrom (eqb b line-feed) bs
-plain-on starts b bs h = subst PlainLines (later-lines b bs) (plain-later starts (inputLines (b ∷ bs)) h)
-
--- Within a line a byte more starts none.
-plain-inside : (b : ℕ) (bs : List ℕ) → PlainFrom (eqb b line-feed) bs → PlainFrom false (b ∷ bs)
-plain-inside b bs h = subst PlainLines (sym (later-lines b bs)) h
-
--- At a line's start it starts one, which may not be a letter line.
-plain-start : (b : ℕ) (bs : List ℕ) → letterAt (b ∷ bs) ≡ Other → PlainFrom (eqb b line-feed) bs → PlainFrom true (b ∷ bs)
-plain-start b bs e h = plain-both (inputLines (b ∷ bs)) (first-kind (b ∷ bs) ∙ e) (plain-inside b bs h)
-
 -- ---- the parts of a sheet
 
 -- Of bytes before calls: a line starts behind them if a call does, and the calls' texts are parts.
@@ -163,9 +65,9 @@ Follow starts bs [] = Unit {0}
 Follow starts bs (c ∷ cs) = (lineBehind starts bs ≡ true) × Parts (c .text) cs
 
 -- Such bytes, with no letter line in them, and the calls are parts.
-follow-parts : (bs : List ℕ) (cs : List Call) → Plain bs → Follow true bs cs → Parts bs cs
-follow-parts bs [] p f = last-part p
-follow-parts bs (c ∷ cs) p f = part p (f .0) (f .1)
+follow-parts : (bs : List ℕ) (cs : List Call) → PlainFrom true bs → Follow true bs cs → Parts bs cs
+follow-parts bs [] p f = last-part (told-plain bs p)
+follow-parts bs (c ∷ cs) p f = part (told-plain bs p) (told-start bs (f .0)) (f .1)
 
 -- A byte more in front changes nothing.
 follow-on : (starts : Bool) (b : ℕ) (bs : List ℕ) (cs : List Call) → Follow (eqb b line-feed) bs cs → Follow starts (b ∷ bs) cs
@@ -181,8 +83,8 @@ record Split (starts : Bool) (s : Sheet) : Type 0 where
 -- No bytes are split so.
 split-none : (starts : Bool) → Split starts (sheetFrom starts [])
 unfolding inputLines
-split-none true = rw empty-sheet (record { plain = plain-none; follow = tt })
-split-none false = record { plain = plain-none; follow = tt }
+split-none true = rw empty-sheet (record { plain = plain-none true; follow = tt })
+split-none false = record { plain = plain-none false; follow = tt }
 
 -- A byte more within a line leaves it so.
 split-inside : (b : ℕ) (s : Sheet) → Split (eqb b line-feed) s → Split false (withFront b s)
@@ -194,8 +96,8 @@ split-start b s e h = record { plain = plain-start b (s .before) e (h .plain); f
 
 -- So does a letter line in front of a sheet.
 split-letter : (x : Letter) (s : Sheet) → Split true s → Split true (record { before = []; calls = record { letter = x; text = s .before } ∷ s .calls })
-unfolding lineBehind inputLines
-split-letter x s h = record { plain = plain-none; follow = (refl, follow-parts (s .before) (s .calls) (h .plain) (h .follow)) }
+unfolding lineBehind
+split-letter x s h = record { plain = plain-none true; follow = (refl, follow-parts (s .before) (s .calls) (h .plain) (h .follow)) }
 
 -- Bytes that begin with no letter line begin with none if they are cut.
 cut-other : (n b : ℕ) (bs : List ℕ) → letterAt (b ∷ bs) ≡ Other → letterAt (b ∷ take n bs) ≡ Other
@@ -229,22 +131,22 @@ sheet-is bs =
     let h = split-from true bs in
     record { joins = sheet-joined bs; parts = follow-parts (sheetOf bs .before) (sheetOf bs .calls) (h .plain) (h .follow) }
 
--- No line of the bytes before the first letter line is a letter line.
+-- No letter line stands among the bytes before the first call.
 pub no-letter-before : (bs : List ℕ) → Plain (sheetOf bs .before)
-no-letter-before bs = split-from true bs .plain
+no-letter-before bs = told-plain (sheetOf bs .before) (split-from true bs .plain)
 
--- No line of the first of parts is a letter line.
+-- No letter line stands among the first of parts.
 parts-first : (bs : List ℕ) (cs : List Call) → Parts bs cs → Plain bs
 parts-first bs [] (last-part p) = p
 parts-first bs (c ∷ cs) (part p e r) = p
 
--- No line of the text of a call is a letter line.
-parts-plain : (bs : List ℕ) (cs : List Call) → Parts bs cs → (c : Call) → c ∈ cs → Plain (c .text)
+-- No letter line stands among the text of a call.
+pub parts-plain : (bs : List ℕ) (cs : List Call) → Parts bs cs → (c : Call) → c ∈ cs → Plain (c .text)
 parts-plain bs [] p c m = absurd (List·Memᴰ·not-nil m)
 parts-plain bs (d ∷ cs) (part _ _ r) c (here e) = subst (λ (y : Call). Plain (y .text)) (sym e) (parts-first (d .text) cs r)
 parts-plain bs (d ∷ cs) (part _ _ r) c (there m) = parts-plain (d .text) cs r c m
 
--- No line of the text of a call that bytes ask for is a letter line.
+-- No letter line stands among the text of a call that bytes ask for.
 pub no-letter-inside : (bs : List ℕ) (c : Call) → c ∈ sheetOf bs .calls → Plain (c .text)
 no-letter-inside bs = parts-plain (sheetOf bs .before) (sheetOf bs .calls) (sheet-is bs .parts)
 
@@ -279,7 +181,7 @@ unfolding lineBehind
 sheet-on starts [] bs p e = none-on starts bs e
 sheet-on false (b ∷ a) bs p e = byte-on b (a ++ bs) ∙ ap (withFront b) (sheet-on (eqb b line-feed) a bs (plain-on false b a p) e)
 sheet-on true (b ∷ a) bs p e =
-    let o : letterAt (b ∷ a) ≡ Other = sym (first-kind (b ∷ a)) ∙ plain-first (inputLines (b ∷ a)) p in
+    let o : letterAt (b ∷ a) ≡ Other = plain-first (b ∷ a) p in
     byte-other b (a ++ bs) (other-more b a bs o e) ∙ ap (withFront b) (sheet-on (eqb b line-feed) a bs (plain-on true b a p) e)
 
 -- No bytes have none before, within a line or at its start.
@@ -293,17 +195,17 @@ sheet-end : (starts : Bool) (a : List ℕ) → PlainFrom starts a → sheetFrom 
 sheet-end starts [] p = end-none starts
 sheet-end false (b ∷ a) p = rw (byte-on b a, sheet-end (eqb b line-feed) a (plain-on false b a p))
 sheet-end true (b ∷ a) p =
-    let e : letterAt (b ∷ a) ≡ Other = sym (first-kind (b ∷ a)) ∙ plain-first (inputLines (b ∷ a)) p in
+    let e : letterAt (b ∷ a) ≡ Other = plain-first (b ∷ a) p in
     rw (byte-other b a e, sheet-end (eqb b line-feed) a (plain-on true b a p))
 
 -- Parts are split where they were joined.
 parts-split : (a : List ℕ) (cs : List Call) → Parts a cs → sheetOf (a ++ joinedCalls cs) ≡ record { before = a; calls = cs }
 unfolding joinedCalls
-parts-split a [] (last-part p) = ap sheetOf (append-nil a) ∙ sheet-end true a p
+parts-split a [] (last-part p) = ap sheetOf (append-nil a) ∙ sheet-end true a (plain-told a p)
 parts-split a (c ∷ cs) (part p e r) =
     let bs : List ℕ = letterByte (c .letter) ∷ line-feed ∷ (c .text ++ joinedCalls cs) in
     let l : sheetOf bs ≡ record { before = []; calls = c ∷ cs } = letter-sheet bs (c .letter) (letter-there (c .letter) _) ∙ rw (parts-split (c .text) cs r) in
-    sheet-on true a bs p e ∙ rw (l, append-nil a)
+    sheet-on true a bs (plain-told a p) (start-told a e) ∙ rw (l, append-nil a)
 
 -- A sheet of bytes is what they are split into.
 pub sheet-only : (bs : List ℕ) (s : Sheet) → IsSheet bs s → sheetOf bs ≡ s

@@ -19,13 +19,12 @@ use Rattle.form.specs.Reading.{isDigit, figure}
 use Rattle.sheet.specs.Sheets.{letter-K, FirstLine, otherwise, asks, firstLine, openingOf}
 use Rattle.sheet.specs.Places.{letterAt, depthBy, depthOn}
 use Rattle.sheet.specs.Whys.{OpensWith, LetterFirst, WhyFront, larger, no-opening, no-letter, alone, with-calls}
-use Rattle.sheet.specs.declared.Letter.{Letter}
 use Rattle.sheet.specs.declared.LineKind.{LineKind}
 use Rattle.sheet.specs.declared.LineKind.the-variants.{Asks, Other}
 use Rattle.sheet.specs.declared.Front.{Front}
 use Rattle.sheet.specs.declared.Front.the-variants.{Fault, Opens}
 use Rattle.sheet.proofs.Found.{isFirst, front-large, front-outside, front-alone, front-letter, front-other}
-use Rattle.sheet.proofs.Meaning.{letter-front, letter-there}
+use Rattle.sheet.proofs.LetterLines.{letter-is, letter-only, not-letter, letter-none}
 
 -- ---- line 1
 
@@ -45,7 +44,7 @@ first-spelt a b c d rest e =
     record { least = leb-true _ _ (and-left _ _ e₄); greatest = leb-true _ _ (and-right _ _ e₄); spelt = cc }
 
 -- A first line with a k is spelt as line 1 is.
-first-is : (input : List ℕ) (k : ℕ) (rest : List ℕ) → firstLine input ≡ asks k rest → OpensWith input k rest
+pub first-is : (input : List ℕ) (k : ℕ) (rest : List ℕ) → firstLine input ≡ asks k rest → OpensWith input k rest
 unfolding firstLine if_then_else_
 first-is [] k rest e = absurd (let z : _≡_ {A = ℕ} 0 1 = cc in omega arith)
 first-is (a ∷ []) k rest e = absurd (let z : _≡_ {A = ℕ} 0 1 = cc in omega arith)
@@ -70,7 +69,7 @@ first-tested k l g =
     (and-both refl (and-both (le-leb least-k (figure n) (omega arith)) (le-leb (figure n) greatest-k (omega arith))))))
 
 -- Bytes that are spelt as line 1 is have its k.
-first-only : (input : List ℕ) (k : ℕ) (rest : List ℕ) → OpensWith input k rest → firstLine input ≡ asks k rest
+pub first-only : (input : List ℕ) (k : ℕ) (rest : List ℕ) → OpensWith input k rest → firstLine input ≡ asks k rest
 unfolding firstLine if_then_else_
 first-only input k rest o =
     let z : figure (digit-0 + k) ≡ k = omega arith in
@@ -79,31 +78,6 @@ first-only input k rest o =
 -- Bytes whose first line is otherwise are not spelt so.
 not-first : (input : List ℕ) → firstLine input ≡ otherwise → (k : ℕ) (rest : List ℕ) → OpensWith input k rest → ⊥
 not-first input e k rest o = let y = first-only input k rest o in let z : _≡_ {A = ℕ} 0 1 = cc in omega arith
-
--- ---- the first letter line
-
--- Bytes that begin with a letter line are spelt so.
-letter-is : (bs : List ℕ) (x : Letter) → letterAt bs ≡ Asks x → LetterFirst bs
-letter-is [] x e = unfold letterAt in absurd (let z : _≡_ {A = ℕ} 0 1 = cc in omega arith)
-letter-is (b ∷ []) x e = unfold letterAt in absurd (let z : _≡_ {A = ℕ} 0 1 = cc in omega arith)
-letter-is (b ∷ f ∷ rest) x e = record { letter = x; behind = rest; spelt = letter-front b f rest x e }
-
--- Bytes that are spelt as a letter line at their front begin with one.
-letter-only : (bs : List ℕ) (f : LetterFirst bs) → letterAt bs ≡ Asks (f .letter)
-letter-only bs f = ap letterAt (f .spelt) ∙ letter-there (f .letter) (f .behind)
-
--- Bytes that begin with another line are not spelt so.
-not-letter : (bs : List ℕ) → letterAt bs ≡ Other → LetterFirst bs → ⊥
-not-letter bs e f = let y = letter-only bs f in let z : _≡_ {A = ℕ} 0 1 = cc in omega arith
-
--- Bytes that begin with none ask for nothing there.
-letter-none : (bs : List ℕ) → (LetterFirst bs → ⊥) → letterAt bs ≡ Other
-letter-none bs n = go (letterAt bs) refl
-  where
-    -- By what the bytes begin with.
-    go : (k : LineKind) → letterAt bs ≡ k → k ≡ Other
-    go (Asks x) e = absurd (n (letter-is bs x e))
-    go Other e = refl
 
 -- ---- the rows
 

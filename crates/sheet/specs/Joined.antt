@@ -1,13 +1,13 @@
--- What makes a sheet that of some bytes (01, "Forms on the desk"), without saying how it is split from them. Assumes nothing: these are definitions.
+-- What makes a sheet that of some bytes (01, "Forms on the desk"), by what a letter line is: how letter lines are looked for, and how a sheet is split
+-- from its bytes, is not said here. Assumes nothing: these are definitions.
 use Prim.Native.Nat.{ℕ}
 use mathlib.Core.Path.{_≡_}
-use mathlib.Core.Bool.{Bool, true}
 use mathlib.Core.List.{List, [], _∷_, _++_}
-use lib.Dec.{eqb}
-use Rattle.words.specs.Base.{_∈_}
 use Rattle.form.specs.Text.{line-feed}
-use Rattle.sheet.specs.Sheets.{letterByte, inputLines, kindOf, Call, Sheet}
-use Rattle.sheet.specs.declared.LineKind.the-variants.{Other}
+use Rattle.sheet.specs.Sheets.{letterByte, Call, Sheet}
+use Rattle.sheet.specs.declared.Letter.{Letter}
+
+-- ---- calls as they are written
 
 -- A call as it is written: "a line of the one letter T, W or J and LF", and its form.
 abbrev pub callText : Call → List ℕ
@@ -22,20 +22,31 @@ joinedCalls (c ∷ cs) = callText c ++ joinedCalls cs
 unfoldable pub joined : Sheet → List ℕ
 joined s = s .before ++ joinedCalls (s .calls)
 
--- No line of the bytes is a letter line.
+-- ---- letter lines
+
+-- A line starts behind these bytes: there are none, or the last of them is LF.
+pub data StartsLine (bs : List ℕ) : Type 0 where
+  nothing-before : bs ≡ [] → StartsLine bs
+  behind-feed : (front : List ℕ) → bs ≡ front ++ (line-feed ∷ []) → StartsLine bs
+
+-- Among the bytes stands "a line of the one letter T, W or J and LF": where a line starts, the letter and LF follow.
+pub record LetterLine (bytes : List ℕ) : Type 0 where
+  pub front : List ℕ
+  pub letter : Letter
+  pub rest : List ℕ
+  pub starts : StartsLine front
+  pub is : bytes ≡ front ++ (letterByte letter ∷ line-feed ∷ rest)
+
+-- "the form runs to the next such line or the end": no letter line stands among the bytes.
 abbrev pub Plain : List ℕ → Type 0
-Plain bs = (l : List ℕ) → l ∈ inputLines bs → kindOf l ≡ Other
+Plain bs = LetterLine bs → ⊥
 
--- Whether a line starts behind the bytes; whether one starts at the first of them is told.
-unfoldable pub lineBehind : Bool → List ℕ → Bool
-lineBehind starts [] = starts
-lineBehind starts (b ∷ bs) = lineBehind (eqb b line-feed) bs
+-- ---- sheets
 
--- Bytes, and the calls behind them: "the form runs to the next such line or the end". No letter line is inside the bytes before the first call or
--- inside a form, and each call starts a line.
+-- Bytes, and the calls behind them: no letter line stands among the bytes before the first call or among those of a form, and each call starts a line.
 pub data Parts : List ℕ → List Call → Type 0 where
   last-part : {bs : List ℕ} → Plain bs → Parts bs []
-  part : {bs : List ℕ} {c : Call} {cs : List Call} → Plain bs → lineBehind true bs ≡ true → Parts (c .text) cs → Parts bs (c ∷ cs)
+  part : {bs : List ℕ} {c : Call} {cs : List Call} → Plain bs → StartsLine bs → Parts (c .text) cs → Parts bs (c ∷ cs)
 
 -- The sheet is that of the bytes.
 pub record IsSheet (bytes : List ℕ) (s : Sheet) : Type 0 where

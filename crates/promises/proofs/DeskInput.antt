@@ -1,0 +1,90 @@
+-- What is handed in at the desk is split at every letter line and nowhere else, and in no other way (01, "Forms on the desk"). Assumes nothing.
+use Prim.Native.Nat.{ℕ, _≤_}
+use mathlib.Core.Path.{_≡_, refl, sym, ap₂, subst, _∙_}
+use mathlib.Core.Bool.{Bool, true, false}
+use mathlib.Core.List.{List, [], _∷_, _++_}
+use native.Mathlib.Omega.{arith}
+use borrow.Author.Tests.{ltb-false, le-ltb}
+use lib.Dec.{ltb}
+use lib.ListN.{length}
+use Rattle.words.specs.Base.{_∈_, if_then_else_}
+use Rattle.figures.specs.Limits.{most-input}
+use Rattle.figures.specs.Numbers.{too-large}
+use Rattle.figures.specs.Answers.{answered}
+use Rattle.effects.specs.Conditions.{_exactly-when_}
+use Rattle.sheet.specs.Sheets.{Call as Asking, sheetOf, FirstLine, otherwise, asks, firstLine, faulty, handed, handedBy, byFirst, handedIn}
+use Rattle.sheet.specs.Joined.{joinedCalls, joined, Plain, Parts}
+use Rattle.sheet.proofs.Meaning.{sheet-is, sheet-only, parts-plain}
+use Rattle.sheet.proofs.Reasons.{first-is, first-only}
+use Rattle.promises.specs.DeskInput.{HandsIn}
+
+-- ---- from what is handed in to the bytes
+
+-- If a sheet is handed in, no bytes stand before its calls, and k and the calls are handed in as they are.
+handed-as : (j : ℕ) (bs : List ℕ) (ds : List Asking) (k : ℕ) (cs : List Asking) → handedBy j bs ds ≡ handed k cs → (j ≡ k) × (bs ≡ []) × (ds ≡ cs)
+unfolding handedBy
+handed-as j [] ds k cs e = (cc, refl, cc)
+handed-as j (b ∷ bs) ds k cs e = absurd (let z : _≡_ {A = ℕ} 0 1 = cc in omega arith)
+
+-- Bytes with nothing before their calls are the calls, one after the other;
+rest-joined : (rest : List ℕ) (cs : List Asking) → sheetOf rest .before ≡ [] → sheetOf rest .calls ≡ cs → rest ≡ joinedCalls cs
+unfolding joined
+rest-joined rest cs b c = sym (sheet-is rest .joins) ∙ ap₂ (λ (bs : List ℕ) (ds : List Asking). bs ++ joinedCalls ds) b c
+
+-- and no letter line is inside one of these.
+rest-parts : (rest : List ℕ) (cs : List Asking) → sheetOf rest .before ≡ [] → sheetOf rest .calls ≡ cs → Parts [] cs
+rest-parts rest cs b c =
+    subst (λ (bs : List ℕ). Parts bs cs) b (subst (λ (ds : List Asking). Parts (sheetOf rest .before) ds) c (sheet-is rest .parts))
+
+module _ (input : List ℕ) (k : ℕ) (cs : List Asking) where
+  -- What an allowed input hands in by its first line is what its bytes are.
+  first-bytes : length input ≤ most-input → (f : FirstLine) → firstLine input ≡ f → byFirst f ≡ handed k cs → HandsIn input k cs
+  unfolding byFirst
+  first-bytes h otherwise p e = absurd (let z : _≡_ {A = ℕ} 0 1 = cc in omega arith)
+  first-bytes h (asks j rest) p e =
+      let w = handed-as j (sheetOf rest .before) (sheetOf rest .calls) k cs e in
+      let q : rest ≡ joinedCalls cs = rest-joined rest cs (w .1) (w .2) in
+      let o = first-is input k (joinedCalls cs) (p ∙ ap₂ asks (w .0) q) in
+      record { size = h; least = o .least; greatest = o .greatest; spelt = o .spelt; parts = rest-parts rest cs (w .1) (w .2) }
+
+  -- What an input hands in is what its bytes are.
+  handed-bytes : handedIn input ≡ handed k cs → HandsIn input k cs
+  unfolding handedIn if_then_else_
+  handed-bytes = go (ltb most-input (length input)) refl
+    where
+      -- By whether the input is too long.
+      go : (t : Bool) → ltb most-input (length input) ≡ t → (if t then faulty (answered too-large) else byFirst (firstLine input)) ≡ handed k cs
+          → HandsIn input k cs
+      go true p e = absurd (let z : _≡_ {A = ℕ} 0 1 = cc in omega arith)
+      go false p e = first-bytes (omega (arith, ltb-false most-input (length input) p)) (firstLine input) refl e
+
+  -- ---- from the bytes to what is handed in
+
+  -- The calls, one after the other, are split into themselves.
+  calls-split : Parts [] cs → sheetOf (joinedCalls cs) ≡ record { before = []; calls = cs }
+  unfolding joined
+  calls-split p = sheet-only (joinedCalls cs) (record { before = []; calls = cs }) (record { joins = refl; parts = p })
+
+  -- What the bytes are is handed in.
+  bytes-handed : HandsIn input k cs → handedIn input ≡ handed k cs
+  unfolding handedIn byFirst handedBy if_then_else_
+  bytes-handed h =
+      let f : firstLine input ≡ asks k (joinedCalls cs) = first-only input k (joinedCalls cs) (record { least = h .least; greatest = h .greatest; spelt = h .spelt }) in
+      rw (le-ltb most-input (length input) (h .size), f, calls-split (h .parts))
+
+-- ---- the laws
+
+-- "Line 1 is K, space, one digit, LF. Then a line of the one letter T, W or J and LF (teach, withdraw, judge) before each form; the form runs to the next
+-- such line or the end": what is handed in is split at every such line and nowhere else,
+pub desk-splits : (input : List ℕ) (k : ℕ) (cs : List Asking) → (handedIn input ≡ handed k cs) exactly-when HandsIn input k cs
+desk-splits input k cs = (handed-bytes input k cs, bytes-handed input k cs)
+
+-- and in no other way: an input hands in one k and the same forms.
+pub desk-one-way : (input : List ℕ) (j k : ℕ) (bs cs : List Asking) → HandsIn input j bs → HandsIn input k cs → (j ≡ k) × (bs ≡ cs)
+desk-one-way input j k bs cs g h =
+    let e : handed j bs ≡ handed k cs = sym (bytes-handed input j bs g) ∙ bytes-handed input k cs h in
+    (cc, cc)
+
+-- No letter line stands among the bytes of a form that is handed in.
+pub desk-forms : (input : List ℕ) (k : ℕ) (cs : List Asking) → handedIn input ≡ handed k cs → (c : Asking) → c ∈ cs → Plain (c .text)
+desk-forms input k cs e c m = parts-plain [] cs (handed-bytes input k cs e .parts) c m

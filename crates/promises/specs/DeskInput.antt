@@ -1,0 +1,22 @@
+-- What is handed in at the desk (01, "Forms on the desk"), by the bytes of the input and not by how they are split. Assumes nothing: these are
+-- definitions.
+use Prim.Native.Nat.{ℕ, _+_, _≤_}
+use mathlib.Core.Path.{_≡_}
+use mathlib.Core.List.{List, [], _∷_}
+use lib.ListN.{length}
+use Rattle.figures.specs.Limits.{least-k, greatest-k, most-input}
+use Rattle.form.specs.Text.{digit-0, space, line-feed}
+use Rattle.sheet.specs.Sheets.{letter-K, Call as Asking}
+use Rattle.sheet.specs.Joined.{joinedCalls, Parts}
+
+-- The input hands in k and forms, each below its letter.
+pub record HandsIn (input : List ℕ) (k : ℕ) (cs : List Asking) : Type 0 where
+  -- "at most 32,768 bytes"
+  pub size : length input ≤ most-input
+  -- "k is 2 to 6"
+  pub least : least-k ≤ k
+  pub greatest : k ≤ greatest-k
+  -- "Line 1 is K, space, one digit, LF. Then a line of the one letter T, W or J and LF (teach, withdraw, judge) before each form"
+  pub spelt : input ≡ letter-K ∷ space ∷ (digit-0 + k) ∷ line-feed ∷ joinedCalls cs
+  -- "the form runs to the next such line or the end": no such line is inside a form, and each that is before one starts a line
+  pub parts : Parts [] cs
