@@ -1,6 +1,6 @@
 -- What is handed in at the desk is split at every letter line and nowhere else, and in no other way (01, "Forms on the desk"). Assumes nothing.
 use Prim.Native.Nat.{ℕ, _≤_}
-use mathlib.Core.Path.{_≡_, refl, sym, ap₂, subst, _∙_}
+use mathlib.Core.Path.{_≡_, refl, sym, ap, ap₂, subst, _∙_}
 use mathlib.Core.Bool.{Bool, true, false}
 use mathlib.Core.List.{List, [], _∷_, _++_}
 use native.Mathlib.Omega.{arith}
@@ -12,13 +12,15 @@ use Rattle.figures.specs.Limits.{most-input}
 use Rattle.figures.specs.Numbers.{too-large}
 use Rattle.figures.specs.Answers.{answered}
 use Rattle.effects.specs.Conditions.{_exactly-when_}
-use Rattle.sheet.specs.Sheets.{Call as Asking, sheetOf, FirstLine, otherwise, asks, firstLine, faulty, handed, handedBy, byFirst, handedIn}
-use Rattle.sheet.specs.Joined.{joinedCalls, joined, Plain, Parts}
-use Rattle.sheet.proofs.Meaning.{sheet-is, sheet-only, parts-plain}
+use Rattle.form.specs.Text.{line-feed}
+use Rattle.sheet.specs.Sheets.{letterByte, Call as Asking, Sheet, sheetOf, FirstLine, otherwise, asks, firstLine, faulty, handed, handedBy, byFirst, handedIn}
+use Rattle.sheet.specs.Joined.{joinedCalls, joined, StartsLine, nothing-before, LetterLine, Plain, Parts, part}
+use Rattle.sheet.specs.declared.Letter.{Letter}
+use Rattle.sheet.proofs.Meaning.{sheet-is, sheet-only, parts-first, parts-plain, joined-both, joined-more, parts-both, parts-start}
 use Rattle.sheet.proofs.Reasons.{first-is, first-only}
-use Rattle.promises.specs.DeskInput.{HandsIn}
+use Rattle.promises.specs.DeskInput.{HandsIn, LetterBehind, BeginsForm}
 
--- ---- from what is handed in to the bytes
+-- ---- what is handed in
 
 -- If a sheet is handed in, no bytes stand before its calls, and k and the calls are handed in as they are.
 handed-as : (j : ℕ) (bs : List ℕ) (ds : List Asking) (k : ℕ) (cs : List Asking) → handedBy j bs ds ≡ handed k cs → (j ≡ k) × (bs ≡ []) × (ds ≡ cs)
@@ -36,6 +38,12 @@ rest-parts : (rest : List ℕ) (cs : List Asking) → sheetOf rest .before ≡ [
 rest-parts rest cs b c =
     subst (λ (bs : List ℕ). Parts bs cs) b (subst (λ (ds : List Asking). Parts (sheetOf rest .before) ds) c (sheet-is rest .parts))
 
+-- Calls, one after the other, are split into themselves.
+calls-split : (cs : List Asking) → Parts [] cs → sheetOf (joinedCalls cs) ≡ record { before = []; calls = cs }
+unfolding joined
+calls-split cs p = sheet-only (joinedCalls cs) (record { before = []; calls = cs }) (record { joins = refl; parts = p })
+
+-- An input, and what it may hand in.
 module _ (input : List ℕ) (k : ℕ) (cs : List Asking) where
   -- What an allowed input hands in by its first line is what its bytes are.
   first-bytes : length input ≤ most-input → (f : FirstLine) → firstLine input ≡ f → byFirst f ≡ handed k cs → HandsIn input k cs
@@ -58,19 +66,62 @@ module _ (input : List ℕ) (k : ℕ) (cs : List Asking) where
       go true p e = absurd (let z : _≡_ {A = ℕ} 0 1 = cc in omega arith)
       go false p e = first-bytes (omega (arith, ltb-false most-input (length input) p)) (firstLine input) refl e
 
-  -- ---- from the bytes to what is handed in
-
-  -- The calls, one after the other, are split into themselves.
-  calls-split : Parts [] cs → sheetOf (joinedCalls cs) ≡ record { before = []; calls = cs }
-  unfolding joined
-  calls-split p = sheet-only (joinedCalls cs) (record { before = []; calls = cs }) (record { joins = refl; parts = p })
-
   -- What the bytes are is handed in.
   bytes-handed : HandsIn input k cs → handedIn input ≡ handed k cs
   unfolding handedIn byFirst handedBy if_then_else_
   bytes-handed h =
       let f : firstLine input ≡ asks k (joinedCalls cs) = first-only input k (joinedCalls cs) (record { least = h .least; greatest = h .greatest; spelt = h .spelt }) in
-      rw (le-ltb most-input (length input) (h .size), f, calls-split (h .parts))
+      rw (le-ltb most-input (length input) (h .size), f, calls-split cs (h .parts))
+
+-- ---- where forms begin
+
+-- Calls as they are written, one after the other, with no letter line inside.
+module _ (cs : List Asking) (p : Parts [] cs) where
+  -- Behind the bytes before a letter line its form begins.
+  letter-begins : (l : LetterLine (joinedCalls cs)) → BeginsForm cs (l .front) (l .letter)
+  unfolding joined joinedCalls
+  letter-begins l =
+      let s : Sheet = sheetOf (l .front) in
+      let r : Sheet = sheetOf (l .rest) in
+      let i = sheet-is (l .front) in
+      let j = sheet-is (l .rest) in
+      let ds : List Asking = record { letter = l .letter; text = r .before } ∷ r .calls in
+      let q : Parts [] ds = part (parts-first [] cs p) (nothing-before refl) (j .parts) in
+      let all : Parts (s .before) (s .calls ++ ds) = parts-both (s .before) (s .calls) ds (i .parts) (subst StartsLine (sym (i .joins)) (l .starts)) q in
+      let whole : Sheet = record { before = []; calls = cs } in
+      let found : Sheet = record { before = s .before; calls = s .calls ++ ds } in
+      let t : joinedCalls ds ≡ letterByte (l .letter) ∷ line-feed ∷ l .rest = ap (λ (bs : List ℕ). letterByte (l .letter) ∷ line-feed ∷ bs) (j .joins) in
+      let e : joined found ≡ joinedCalls cs = joined-more s ds ∙ ap₂ (λ (fs bs : List ℕ). fs ++ bs) (i .joins) t ∙ sym (l .is) in
+      let same : whole ≡ found = sym (calls-split cs p) ∙ sheet-only (joinedCalls cs) found (record { joins = e; parts = all }) in
+      record {
+        before = s .calls;
+        text = r .before;
+        later = r .calls;
+        forms = ap (λ (z : Sheet). z .calls) same;
+        behind = ap (λ (z : Sheet). z .before ++ joinedCalls (s .calls)) same ∙ i .joins;
+      }
+
+  -- At a letter line its form begins;
+  line-begins : (front : List ℕ) (x : Letter) → LetterBehind (joinedCalls cs) front x → BeginsForm cs front x
+  line-begins front x l =
+      subst (λ (y : Letter). BeginsForm cs front y) (l .of) (subst (λ (bs : List ℕ). BeginsForm cs bs (l .line .letter)) (l .behind) (letter-begins (l .line)))
+
+  -- and where a form begins there is its letter line.
+  begins-line : (front : List ℕ) (x : Letter) → BeginsForm cs front x → LetterBehind (joinedCalls cs) front x
+  unfolding joinedCalls
+  begins-line front x b = record {
+    line = record {
+      front = front;
+      letter = x;
+      rest = b .text ++ joinedCalls (b .later);
+      starts = subst StartsLine (b .behind) (parts-start [] (b .before) (record { letter = x; text = b .text }) (b .later) (subst (Parts []) (b .forms) p));
+      is =
+          ap joinedCalls (b .forms) ∙ joined-both (b .before) (record { letter = x; text = b .text } ∷ b .later)
+          ∙ ap (λ (fs : List ℕ). fs ++ (letterByte x ∷ line-feed ∷ (b .text ++ joinedCalls (b .later)))) (b .behind);
+    };
+    behind = refl;
+    of = refl;
+  }
 
 -- ---- the laws
 
@@ -88,3 +139,10 @@ desk-one-way input j k bs cs g h =
 -- No letter line stands among the bytes of a form that is handed in.
 pub desk-forms : (input : List ℕ) (k : ℕ) (cs : List Asking) → handedIn input ≡ handed k cs → (c : Asking) → c ∈ cs → Plain (c .text)
 desk-forms input k cs e c m = parts-plain [] cs (handed-bytes input k cs e .parts) c m
+
+-- Behind line 1 a form begins at every letter line, below its letter, and nowhere else.
+pub desk-letters : (input : List ℕ) (k : ℕ) (cs : List Asking) → handedIn input ≡ handed k cs → (front : List ℕ) (x : Letter)
+    → LetterBehind (joinedCalls cs) front x exactly-when BeginsForm cs front x
+desk-letters input k cs e front x =
+    let p : Parts [] cs = handed-bytes input k cs e .parts in
+    (line-begins cs p front x, begins-line cs p front x)

@@ -2,12 +2,13 @@
 -- definitions.
 use Prim.Native.Nat.{ℕ, _+_, _≤_}
 use mathlib.Core.Path.{_≡_}
-use mathlib.Core.List.{List, [], _∷_}
+use mathlib.Core.List.{List, [], _∷_, _++_}
 use lib.ListN.{length}
 use Rattle.figures.specs.Limits.{least-k, greatest-k, most-input}
 use Rattle.form.specs.Text.{digit-0, space, line-feed}
 use Rattle.sheet.specs.Sheets.{letter-K, Call as Asking}
-use Rattle.sheet.specs.Joined.{joinedCalls, Parts}
+use Rattle.sheet.specs.Joined.{joinedCalls, LetterLine, Parts}
+use Rattle.sheet.specs.declared.Letter.{Letter}
 
 -- The input hands in k and forms, each below its letter.
 pub record HandsIn (input : List ℕ) (k : ℕ) (cs : List Asking) : Type 0 where
@@ -20,3 +21,19 @@ pub record HandsIn (input : List ℕ) (k : ℕ) (cs : List Asking) : Type 0 wher
   pub spelt : input ≡ letter-K ∷ space ∷ (digit-0 + k) ∷ line-feed ∷ joinedCalls cs
   -- "the form runs to the next such line or the end": no such line is inside a form, and each that is before one starts a line
   pub parts : Parts [] cs
+
+-- ---- where forms begin
+
+-- Among the bytes the line of the letter x stands behind the front.
+pub record LetterBehind (bytes front : List ℕ) (x : Letter) : Type 0 where
+  pub line : LetterLine bytes
+  pub behind : line .front ≡ front
+  pub of : line .letter ≡ x
+
+-- Of the forms one below the letter x begins behind the front: that is the forms before it, one after the other.
+pub record BeginsForm (cs : List Asking) (front : List ℕ) (x : Letter) : Type 0 where
+  pub before : List Asking
+  pub text : List ℕ
+  pub later : List Asking
+  pub forms : cs ≡ before ++ (record { letter = x; text = text } ∷ later)
+  pub behind : joinedCalls before ≡ front

@@ -1,7 +1,7 @@
 -- Letter lines among bytes, byte by byte: at the front, and behind other bytes, where whether a line starts at the first of them is told by a test. The
 -- tests are inner, and no promise rests on them: they are shown to say what `StartsLine` and `Plain` say. Assumes nothing.
 use Prim.Native.Nat.{ℕ}
-use mathlib.Core.Path.{_≡_, refl, ap, subst, _∙_}
+use mathlib.Core.Path.{_≡_, refl, ap, sym, subst, _∙_}
 use mathlib.Core.Bool.{Bool, true, false}
 use mathlib.Core.List.{List, [], _∷_, _++_}
 use native.Mathlib.Omega.{arith}
@@ -111,6 +111,20 @@ pub told-start : (bs : List ℕ) → lineBehind true bs ≡ true → StartsLine 
 unfolding lineBehind
 told-start [] e = nothing-before refl
 told-start (b ∷ bs) e = told-feed b bs e
+
+-- Behind LF the later bytes tell.
+told-behind : (starts : Bool) (front : List ℕ) (b : ℕ) (bs : List ℕ) → lineBehind starts (front ++ (b ∷ line-feed ∷ bs)) ≡ lineBehind true bs
+unfolding lineBehind
+told-behind starts [] b bs = refl
+told-behind starts (c ∷ front) b bs = told-behind (eqb c line-feed) front b bs
+
+-- A line that starts behind LF and later bytes starts behind these;
+pub start-later : (front : List ℕ) (b : ℕ) (bs : List ℕ) → StartsLine (front ++ (b ∷ line-feed ∷ bs)) → StartsLine bs
+start-later front b bs s = told-start bs (sym (told-behind true front b bs) ∙ start-told (front ++ (b ∷ line-feed ∷ bs)) s)
+
+-- and one that starts behind bytes starts behind LF and these.
+pub start-earlier : (front : List ℕ) (b : ℕ) (bs : List ℕ) → StartsLine bs → StartsLine (front ++ (b ∷ line-feed ∷ bs))
+start-earlier front b bs s = told-start (front ++ (b ∷ line-feed ∷ bs)) (told-behind true front b bs ∙ start-told bs s)
 
 -- ---- letter lines behind other bytes
 

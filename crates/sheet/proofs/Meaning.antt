@@ -1,8 +1,9 @@
--- Bytes have one sheet: what they are split into gives them again, no letter line is inside a form, and nothing else is so. Assumes nothing.
+-- Bytes have one sheet: what they are split into gives them again, no letter line is inside a form, and nothing else is so; and where its calls begin.
+-- Assumes nothing.
 use Prim.Native.Nat.{ℕ, zero, suc}
 use mathlib.Core.Path.{_≡_, refl, ap, sym, subst, _∙_}
 use mathlib.Core.Bool.{Bool, true, false}
-use mathlib.Core.List.{List, [], _∷_, _++_, append-nil, List·Memᴰ·head as here, List·Memᴰ·tail as there, List·Memᴰ·not-nil}
+use mathlib.Core.List.{List, [], _∷_, _++_, append-nil, append-assoc, List·Memᴰ·head as here, List·Memᴰ·tail as there, List·Memᴰ·not-nil}
 use lib.Dec.{eqb}
 use lib.ListN.{take}
 use Rattle.words.specs.Base.{_∈_, if_then_else_}
@@ -10,12 +11,12 @@ use Rattle.words.proofs.Tests.{no-test}
 use Rattle.form.specs.Text.{line-feed}
 use Rattle.sheet.specs.Sheets.{letterByte, letterOf, inputLines, Call, Sheet, sheetOf}
 use Rattle.sheet.specs.Places.{letterAt, sizeTo}
-use Rattle.sheet.specs.Joined.{joinedCalls, joined, Plain, Parts, last-part, part, IsSheet}
+use Rattle.sheet.specs.Joined.{joinedCalls, joined, StartsLine, Plain, Parts, last-part, part, IsSheet}
 use Rattle.sheet.specs.declared.Letter.{Letter}
 use Rattle.sheet.specs.declared.LineKind.{LineKind}
 use Rattle.sheet.specs.declared.LineKind.the-variants.{Asks, Other}
 use Rattle.sheet.proofs.Splitting.{feed-asks-nothing, sheetFrom, withFront, empty-sheet, byte-on, byte-other, letter-sheet, front}
-use Rattle.sheet.proofs.LetterLines.{letter-front, letter-there, lineBehind, start-told, told-start, PlainFrom, plain-told, told-plain, plain-none, plain-on, plain-inside, plain-start, plain-first}
+use Rattle.sheet.proofs.LetterLines.{letter-front, letter-there, lineBehind, start-told, told-start, start-later, start-earlier, PlainFrom, plain-told, told-plain, plain-none, plain-on, plain-inside, plain-start, plain-first}
 
 -- ---- joined
 
@@ -136,7 +137,7 @@ pub no-letter-before : (bs : List ℕ) → Plain (sheetOf bs .before)
 no-letter-before bs = told-plain (sheetOf bs .before) (split-from true bs .plain)
 
 -- No letter line stands among the first of parts.
-parts-first : (bs : List ℕ) (cs : List Call) → Parts bs cs → Plain bs
+pub parts-first : (bs : List ℕ) (cs : List Call) → Parts bs cs → Plain bs
 parts-first bs [] (last-part p) = p
 parts-first bs (c ∷ cs) (part p e r) = p
 
@@ -211,3 +212,33 @@ parts-split a (c ∷ cs) (part p e r) =
 pub sheet-only : (bs : List ℕ) (s : Sheet) → IsSheet bs s → sheetOf bs ≡ s
 unfolding joined
 sheet-only bs s h = ap sheetOf (sym (h .joins)) ∙ parts-split (s .before) (s .calls) (h .parts)
+
+-- ---- where calls begin
+
+-- Calls and others behind them are one after the other.
+pub joined-both : (ds bs : List Call) → joinedCalls (ds ++ bs) ≡ joinedCalls ds ++ joinedCalls bs
+unfolding joinedCalls
+joined-both [] bs = refl
+joined-both (a ∷ ds) bs =
+    ap (λ (r : List ℕ). letterByte (a .letter) ∷ line-feed ∷ (a .text ++ r)) (joined-both ds bs)
+    ∙ ap (λ (r : List ℕ). letterByte (a .letter) ∷ line-feed ∷ r) (sym (append-assoc (a .text) (joinedCalls ds) (joinedCalls bs)))
+
+-- A sheet with calls behind its own is the sheet and these calls, one after the other.
+pub joined-more : (s : Sheet) (cs : List Call) → joined (record { before = s .before; calls = s .calls ++ cs }) ≡ joined s ++ joinedCalls cs
+unfolding joined
+joined-more s cs =
+    ap (λ (bs : List ℕ). s .before ++ bs) (joined-both (s .calls) cs) ∙ sym (append-assoc (s .before) (joinedCalls (s .calls)) (joinedCalls cs))
+
+-- Parts behind which a line starts, and calls behind them, are parts.
+pub parts-both : (bs : List ℕ) (ds cs : List Call) → Parts bs ds → StartsLine (bs ++ joinedCalls ds) → Parts [] cs → Parts bs (ds ++ cs)
+unfolding joinedCalls
+parts-both bs [] [] p s q = p
+parts-both bs [] (c ∷ cs) (last-part p) s (part _ _ r) = part p (subst StartsLine (append-nil bs) s) r
+parts-both bs (a ∷ ds) cs (part p e r) s q =
+    part p e (parts-both (a .text) ds cs r (start-later bs (letterByte (a .letter)) (a .text ++ joinedCalls ds) s) q)
+
+-- Where a call of parts begins, a line starts.
+pub parts-start : (bs : List ℕ) (ds : List Call) (c : Call) (cs : List Call) → Parts bs (ds ++ (c ∷ cs)) → StartsLine (bs ++ joinedCalls ds)
+unfolding joinedCalls
+parts-start bs [] c cs (part p e r) = subst StartsLine (sym (append-nil bs)) e
+parts-start bs (a ∷ ds) c cs (part p e r) = start-earlier bs (letterByte (a .letter)) (a .text ++ joinedCalls ds) (parts-start (a .text) ds c cs r)
