@@ -148,7 +148,7 @@ plain-told bs p l = p (record { front = l .front; letter = l .letter; rest = l .
 pub told-plain : (bs : List ℕ) → PlainFrom true bs → Plain bs
 told-plain bs p l = p (record { front = l .front; letter = l .letter; rest = l .rest; told = start-told (l .front) (l .starts); is = l .is })
 
--- No bytes have none among them.
+-- Among no bytes there is none.
 pub plain-none : (starts : Bool) → PlainFrom starts []
 plain-none starts l = go (l .front) (l .is)
   where
@@ -163,7 +163,7 @@ unfolding lineBehind
 letter-later starts b bs l =
     record { front = b ∷ l .front; letter = l .letter; rest = l .rest; told = l .told; is = ap (λ (r : List ℕ). b ∷ r) (l .is) }
 
--- A letter line from a byte on is at it, if a line starts there, or behind it.
+-- A letter line from a byte on is behind that byte, if none is at it where a line starts.
 letter-split : (starts : Bool) (b : ℕ) (bs : List ℕ) → (starts ≡ true → LetterFirst (b ∷ bs) → ⊥) → LetterFrom starts (b ∷ bs) → LetterFrom (eqb b line-feed) bs
 unfolding lineBehind
 letter-split starts b bs n l = go (l .front) (l .told) (l .is)
