@@ -18,7 +18,7 @@ use Rattle.sheet.specs.Joined.{joinedCalls, joined, StartsLine, nothing-before,
 use Rattle.sheet.specs.declared.Letter.{Letter}
 use Rattle.sheet.proofs.Meaning.{sheet-is, sheet-only, parts-first, parts-plain, joined-both, joined-more, parts-both, parts-start}
 use Rattle.sheet.proofs.Reasons.{first-is, first-only}
-use Rattle.promises.specs.DeskInput.{HandsIn, LetterBehind, BeginsForm}
+use Rattle.promises.specs.DeskInput.{InputIs, LetterBehind, BeginsForm}
 
 -- ---- what is handed in
 
@@ -46,7 +46,7 @@ calls-split cs p = sheet-only (joinedCalls cs) (record { before = []; calls = cs
 -- An input, and what it may hand in.
 module _ (input : List ℕ) (k : ℕ) (cs : List Asking) where
   -- What an allowed input hands in by its first line is what its bytes are.
-  first-bytes : length input ≤ most-input → (f : FirstLine) → firstLine input ≡ f → byFirst f ≡ handed k cs → HandsIn input k cs
+  first-bytes : length input ≤ most-input → (f : FirstLine) → firstLine input ≡ f → byFirst f ≡ handed k cs → InputIs input k cs
   unfolding byFirst
   first-bytes h otherwise p e = absurd (let z : _≡_ {A = ℕ} 0 1 = cc in omega arith)
   first-bytes h (asks j rest) p e =
@@ -56,18 +56,18 @@ module _ (input : List ℕ) (k : ℕ) (cs : List Asking) where
       record { size = h; least = o .least; greatest = o .greatest; spelt = o .spelt; parts = rest-parts rest cs (w .1) (w .2) }
 
   -- What an input hands in is what its bytes are.
-  handed-bytes : handedIn input ≡ handed k cs → HandsIn input k cs
+  handed-bytes : handedIn input ≡ handed k cs → InputIs input k cs
   unfolding handedIn if_then_else_
   handed-bytes = go (ltb most-input (length input)) refl
     where
       -- By whether the input is too long.
       go : (t : Bool) → ltb most-input (length input) ≡ t → (if t then faulty (answered too-large) else byFirst (firstLine input)) ≡ handed k cs
-          → HandsIn input k cs
+          → InputIs input k cs
       go true p e = absurd (let z : _≡_ {A = ℕ} 0 1 = cc in omega arith)
       go false p e = first-bytes (omega (arith, ltb-false most-input (length input) p)) (firstLine input) refl e
 
   -- What the bytes are is handed in.
-  bytes-handed : HandsIn input k cs → handedIn input ≡ handed k cs
+  bytes-handed : InputIs input k cs → handedIn input ≡ handed k cs
   unfolding handedIn byFirst handedBy if_then_else_
   bytes-handed h =
       let f : firstLine input ≡ asks k (joinedCalls cs) = first-only input k (joinedCalls cs) (record { least = h .least; greatest = h .greatest; spelt = h .spelt }) in
@@ -127,11 +127,11 @@ module _ (cs : List Asking) (p : Parts [] cs) where
 
 -- "Line 1 is K, space, one digit, LF. Then a line of the one letter T, W or J and LF (teach, withdraw, judge) before each form; the form runs to the next
 -- such line or the end": what is handed in is split at every such line and nowhere else,
-pub desk-splits : (input : List ℕ) (k : ℕ) (cs : List Asking) → (handedIn input ≡ handed k cs) exactly-when HandsIn input k cs
+pub desk-splits : (input : List ℕ) (k : ℕ) (cs : List Asking) → (handedIn input ≡ handed k cs) exactly-when InputIs input k cs
 desk-splits input k cs = (handed-bytes input k cs, bytes-handed input k cs)
 
 -- and in no other way: an input hands in one k and the same forms.
-pub desk-one-way : (input : List ℕ) (j k : ℕ) (bs cs : List Asking) → HandsIn input j bs → HandsIn input k cs → (j ≡ k) × (bs ≡ cs)
+pub desk-one-way : (input : List ℕ) (j k : ℕ) (bs cs : List Asking) → InputIs input j bs → InputIs input k cs → (j ≡ k) × (bs ≡ cs)
 desk-one-way input j k bs cs g h =
     let e : handed j bs ≡ handed k cs = sym (bytes-handed input j bs g) ∙ bytes-handed input k cs h in
     (cc, cc)

@@ -10,8 +10,8 @@ use Rattle.sheet.specs.Sheets.{letter-K, Call as Asking}
 use Rattle.sheet.specs.Joined.{joinedCalls, LetterLine, Parts}
 use Rattle.sheet.specs.declared.Letter.{Letter}
 
--- The input hands in k and forms, each below its letter.
-pub record HandsIn (input : List ℕ) (k : ℕ) (cs : List Asking) : Type 0 where
+-- The input is line 1 with that k, and these forms, each below its letter.
+pub record InputIs (input : List ℕ) (k : ℕ) (cs : List Asking) : Type 0 where
   -- "at most 32,768 bytes"
   pub size : length input ≤ most-input
   -- "k is 2 to 6"
