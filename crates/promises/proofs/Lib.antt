@@ -32,5 +32,6 @@ pub mod Impostors
 mod Rows
 mod FileRows
 pub mod Numerals
+pub mod InOrder
 pub mod DeskRows
 pub mod DeskInput

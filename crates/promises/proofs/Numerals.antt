@@ -170,11 +170,11 @@ pub longer-refused : (ws : List ℕ) → length ws ≡ 16385 → openOf ws 2 ≡
 longer-refused ws e = opened-only ws 2 (leave ws 4) (slice-long refl (omega arith))
 
 -- Lines of code 1 with these levels.
-abbrev levelled : List ℕ → List ℕ
+abbrev pub levelled : List ℕ → List ℕ
 levelled levels = spell (map (λ (l : ℕ). record { level = l; code = 1 }) levels)
 
 -- Levels 0 to 12, each straight behind the one before it.
-abbrev down-to-12 : List ℕ
+abbrev pub down-to-12 : List ℕ
 down-to-12 = 0 ∷ 1 ∷ 2 ∷ 3 ∷ 4 ∷ 5 ∷ 6 ∷ 7 ∷ 8 ∷ 9 ∷ 10 ∷ 11 ∷ 12 ∷ []
 
 -- "its level over 12": level 13 straight behind 12, on line 14, is 2; on line 1 it is not allowed, and so is level 1 there, level 0 on line 2, and a
