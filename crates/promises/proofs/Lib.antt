@@ -18,6 +18,7 @@ pub mod LineNumbers
 pub mod FormLines
 pub mod Contracts
 pub mod InC
+pub mod Lent
 pub mod Handing
 mod Computed
 pub mod Cases
