@@ -4,7 +4,7 @@
 --
 -- Document 000's r, l and p are `IsR`, `IsL` and `IsP` (trees/specs/Paper.antt), said by positions and labels. A tree is in a section if one of its
 -- entries has the tree's words (`In`, verdicts/specs/Verdicts.antt). Assumes nothing.
-use Prim.Native.Nat.{ℕ, suc, _+_, _*_, _/_, _%_, _≤_, _<_}
+use Prim.Native.Nat.{ℕ, suc, _+_, _*_, _-_, _/_, _%_, _≤_, _<_}
 use mathlib.Core.Path.{_≡_, refl, sym, ap, subst, _∙_}
 use mathlib.Core.Bool.{false}
 use mathlib.Core.List.{List, [], _∷_, _++_, append-assoc, map, Memᴰ·map, Memᴰ·of-map, List·Memᴰ·head as here, List·Memᴰ·tail as there}
@@ -12,11 +12,12 @@ use native.Mathlib.Omega.{arith}
 use lib.ListN.{length, getD, take}
 use Rattle.words.specs.Base.{over, _∈_}
 use Rattle.figures.specs.Limits.{least-code, greatest-code, most-nodes, used-word}
-use Rattle.figures.specs.Numbers.{done, no-form}
+use Rattle.figures.specs.Numbers.{done, no-form, top-unknown, low-unknown}
 use Rattle.figures.specs.Answers.{answered, wrote, refusedAt}
 use Rattle.figures.specs.declared.Answer.{Answer}
 use Rattle.trees.specs.Trees.{Tree, node, Good, subtrees}
 use Rattle.trees.specs.Fits.{IsOrder}
+use Rattle.trees.specs.Paper.{IsR}
 use Rattle.trees.specs.Answers.{writing, write}
 use Rattle.trees.proofs.Cutting.{subtree-good}
 use Rattle.trees.proofs.Fitting.{order-read}
@@ -36,14 +37,14 @@ use Rattle.book.specs.Book.{Book}
 use Rattle.book.specs.Sound.{IsBook}
 use Rattle.book.specs.Opening.{outcome}
 use Rattle.verdicts.specs.Judging.{judgeOf}
-use Rattle.verdicts.specs.Verdicts.{PassesBy}
+use Rattle.verdicts.specs.Verdicts.{In, PassesBy}
 use Rattle.verdicts.proofs.Answers.{answered-passes, passes-answered}
 use Rattle.effects.specs.Conditions.{_exactly-when_}
 use Rattle.files.specs.Files.{front-bytes, fileOf, writeFileOf, readFileOf}
 use Rattle.promises.specs.Agreement.{Agrees}
-use Rattle.promises.specs.Forms.{LevelInTens, InTens, Stands, Below, ComesBack}
+use Rattle.promises.specs.Forms.{LevelInTens, InTens, Stands, Below, ComesBack, LeastUnknown}
 use Rattle.promises.proofs.FormLines.{level-tens, tens-level, tens-most, legal-shallow, below-counted, line-code}
-use Rattle.promises.proofs.LineNumbers.{unpassed}
+use Rattle.promises.proofs.LineNumbers.{unpassed, least-unknown, unknown-top}
 use Rattle.promises.proofs.FileWhys.{agrees-filed}
 use Rattle.promises.proofs.FileTrips.{file-back, filed-back, filed-bytes, read-back-filed, read-alike}
 use Rattle.promises.proofs.Refusals.{write-writes}
@@ -64,6 +65,16 @@ passing-line ws os e = passes-answered ws os (answered-passes ws os e)
 -- or 22, and the line is one of the order's form, with the code at the top of that line's subtree.
 pub comes-back : (ws os : List ℕ) (b : Book) (t : Tree) → IsBook ws b → IsOrder os t → (judgeOf ws os .number ≡ done → ⊥) → ComesBack t (judgeOf ws os)
 comes-back ws os b t = unpassed ws os b t
+
+-- "otherwise the least line whose subtree's part is unknown, 21 or 22 by its depth": of a verdict of 21 or 22 the top is known, the line's part is not, and
+-- each line before it has a part that is known.
+pub least-line : (ws os : List ℕ) (b : Book) (t : Tree) → IsBook ws b → IsOrder os t → low-unknown ≤ judgeOf ws os .number → LeastUnknown b t (judgeOf ws os)
+least-line = least-unknown
+
+-- "20 with line 1 if the top is unknown", and only then.
+pub top-line : (ws os : List ℕ) (b : Book) (t : Tree) → IsBook ws b → IsOrder os t
+    → (judgeOf ws os ≡ record { number = top-unknown; line = 1 }) exactly-when ((u : Tree) → IsR (b .k - 1) t u → In (b .R) u → ⊥)
+top-line = unknown-top
 
 -- ---- "Codes are read as decimal.", and so are levels
 

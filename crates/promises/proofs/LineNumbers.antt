@@ -1,32 +1,37 @@
 -- The line of an answer, for all inputs: it is 0 for an order and its parts, for a judgement unless its verdict names a line, which is then one of the
 -- order's form, and for a text unless a line of it is at fault. That of the other calls, always 0, is in ofb/proofs/Figures.antt. Assumes nothing.
-use Prim.Native.Nat.{ℕ, zero, suc, _≤_, _<_}
+use Prim.Native.Nat.{ℕ, zero, suc, _-_, _≤_, _<_}
 use mathlib.Core.Path.{_≡_, refl, sym, ap, subst, _∙_}
 use mathlib.Core.List.{List, [], _∷_}
 use native.Mathlib.Omega.{arith}
 use lib.ListN.{length}
-use Rattle.figures.specs.Numbers.{done, too-large, no-form, top-unknown, middle-unknown}
+use Rattle.figures.specs.Numbers.{done, too-large, no-form, top-unknown, low-unknown, middle-unknown}
 use Rattle.figures.specs.declared.Answer.{Answer}
-use Rattle.trees.specs.Trees.{Tree, node, subtrees}
+use Rattle.trees.specs.Trees.{Tree, node, cut, subtrees}
 use Rattle.trees.specs.Reading.{found}
 use Rattle.trees.specs.Fits.{IsOrder}
 use Rattle.trees.specs.Answers.{checkOf, treeAt, lineOf, Writing, cutIntoOf, PartWriting, partIntoOf}
+use Rattle.trees.specs.Paper.{IsR}
 use Rattle.trees.proofs.Fitting.{order-read}
+use Rattle.trees.proofs.Paper.{cut-is-r}
 use Rattle.form.specs.Text.{Line, textOf}
 use Rattle.form.specs.Reading.{readOf}
 use Rattle.form.specs.Faults.{Why, past, misspelt, no-option, not-allowed, too-deep, ninth-child}
 use Rattle.book.specs.Book.{Book}
 use Rattle.book.specs.Sound.{IsBook}
+use Rattle.book.proofs.Sound.{book-only}
 use Rattle.verdicts.specs.Judging.{judgeOf}
-use Rattle.verdicts.specs.Verdicts.{Verdict, passing, no-top, no-low, no-middle, Judged, no-book, no-order, judged}
-use Rattle.verdicts.proofs.Answers.{judged-is}
+use Rattle.verdicts.specs.Verdicts.{In, Known, Reached, TopUnknown, Verdict, passing, no-top, no-low, no-middle, Judged, no-book, no-order, judged}
+use Rattle.verdicts.proofs.Answers.{judged-is, answered-top, top-answered}
+use Rattle.effects.specs.Conditions.{_exactly-when_}
 use Rattle.verdicts.proofs.Judgements.{by-verdict}
 use Rattle.verdicts.proofs.Verdicts.{verdict-is}
-use Rattle.promises.specs.Forms.{LineOfText, ComesBack}
+use Rattle.promises.specs.Forms.{LineOfText, ComesBack, PartKnown, LeastUnknown}
 use Rattle.promises.specs.Whys.{WhyNumbered, numbered, WhyCut, cut-no-order, cut-lacks, cut-short, cut-written}
 use Rattle.promises.specs.Whys.{WhyPart, part-no-order, part-lacks, low-short, low-written, middle-short, middle-written}
 use Rattle.promises.specs.Whys.{WhyRead, no-bytes, at-fault, read-short, read}
 use Rattle.promises.proofs.FormLines.{line-of-subtree}
+use Rattle.promises.proofs.Orders.{one-tree}
 use Rattle.promises.proofs.Whys.{read-why}
 use Rattle.promises.proofs.Refusals.{writing-number}
 use Rattle.promises.proofs.PartWhys.{numbered-why, cut-why, part-why}
@@ -146,6 +151,68 @@ unpassed ws os b t is o not = go (subst (Verdict b t) (sym (by-verdict ws os b i
     go (no-top e x) = at-line t e (omega arith) (omega arith) (first-subtree t)
     go (no-low line s e r l x) = at-line s e (omega arith) (omega arith) (r .on)
     go (no-middle line s e r l x) = at-line s e (omega arith) (omega arith) (r .on)
+
+-- A verdict of 21 or 22 is at the least line whose part is unknown.
+pub least-unknown : (ws os : List ℕ) (b : Book) (t : Tree) → IsBook ws b → IsOrder os t → low-unknown ≤ judgeOf ws os .number → LeastUnknown b t (judgeOf ws os)
+least-unknown ws os b t is o high = go (subst (Verdict b t) (sym (by-verdict ws os b is t (order-read os t o))) (verdict-is b (is .sound .least) t))
+  where
+    -- What is known by the row of judging is known.
+    known : (s : Tree) → Known b s → PartKnown b s
+    known s p = record { low = p .low; middle = p .middle }
+
+    -- The numbers of two equal answers.
+    numbers : {n line : ℕ} → judgeOf ws os ≡ record { number = n; line = line } → judgeOf ws os .number ≡ n
+    numbers e = ap (λ (a : Answer). a .number) e
+
+    -- The lines before the one at hand, by the line of the answer.
+    before : {n line : ℕ} (s : Tree) → judgeOf ws os ≡ record { number = n; line = line } → Reached b t line s
+        → (j : ℕ) (u : Tree) → j < judgeOf ws os .line → lineOf j (subtrees t) ≡ found u → PartKnown b u
+    before s e r j u h q = known u (r .earlier j u (omega (arith, line-of e)) q)
+
+    -- The subtree of the line of the answer.
+    here : {n line : ℕ} (s : Tree) → judgeOf ws os ≡ record { number = n; line = line } → Reached b t line s → lineOf (judgeOf ws os .line) (subtrees t) ≡ found s
+    here s e r = ap (λ (i : ℕ). lineOf i (subtrees t)) (line-of e) ∙ r .on
+
+    -- By the verdict.
+    go : Verdict b t (judgeOf ws os) → LeastUnknown b t (judgeOf ws os)
+    go (passing e p) = absurd (omega (arith, numbers e))
+    go (no-top e x) = absurd (omega (arith, numbers e))
+    go (no-low line s e r l x) = record {
+      top = r .top;
+      subtree = s;
+      on = here s e r;
+      unknown = λ p. x (p .low l);
+      earlier = before s e r;
+      low-is-21 = λ h. numbers e;
+      deeper-is-22 = λ h. absurd (omega (arith, is .sound .least));
+    }
+    go (no-middle line s e r l x) =
+        let m : Tree = cut s (b .k - 1) in
+        let q : IsR (b .k) s m = cut-is-r s (b .k) (omega (arith, is .sound .least)) in
+        record {
+          top = r .top;
+          subtree = s;
+          on = here s e r;
+          unknown = λ p. x m q (p .middle l m q);
+          earlier = before s e r;
+          low-is-21 = λ h. absurd (omega (arith, is .sound .least));
+          deeper-is-22 = λ h. numbers e;
+        }
+
+-- 20 at line 1 is given exactly if the top is unknown.
+pub unknown-top : (ws os : List ℕ) (b : Book) (t : Tree) → IsBook ws b → IsOrder os t
+    → (judgeOf ws os ≡ record { number = top-unknown; line = 1 }) exactly-when ((u : Tree) → IsR (b .k - 1) t u → In (b .R) u → ⊥)
+unknown-top ws os b t is o = (
+  λ e. let x = answered-top ws os (ap (λ (a : Answer). a .number) e) in
+      same x (book-only ws (x .lent .book) b (x .lent .isBook) is) (one-tree (x .lent .isOrder) o),
+  λ n. top-answered ws os 1 (record { lent = record { book = b; tree = t; isBook = is; isOrder = o }; first = refl; unknown = n }),
+)
+  where
+    -- What is unknown by a book and an order is so by this book and this order.
+    same : {line : ℕ} (x : TopUnknown ws os line) → x .lent .book ≡ b → x .lent .tree ≡ t → (u : Tree) → IsR (b .k - 1) t u → In (b .R) u → ⊥
+    same x p q u r i =
+        x .unknown u (subst (λ (v : Tree). IsR (x .lent .book .k - 1) v u) (sym q) (subst (λ (c : Book). IsR (c .k - 1) t u) (sym p) r))
+        (subst (λ (c : Book). In (c .R) u) (sym p) i)
 
 -- ---- forms
 

@@ -1,16 +1,19 @@
 -- What stands on a line of a form and which line it is, by its bytes: levels and codes in tens, and lines counted by their LF (01, "Order form text").
 -- Assumes nothing: these are definitions.
-use Prim.Native.Nat.{ℕ, suc, _+_, _*_, _≤_, _<_}
+use Prim.Native.Nat.{ℕ, suc, _+_, _*_, _-_, _≤_, _<_}
 use mathlib.Core.Path.{_≡_}
 use mathlib.Core.List.{List, [], _∷_, _++_}
 use lib.ListN.{length, getD}
-use Rattle.figures.specs.Numbers.{top-unknown, middle-unknown}
+use Rattle.figures.specs.Numbers.{top-unknown, low-unknown, middle-unknown}
 use Rattle.figures.specs.declared.Answer.{Answer}
-use Rattle.trees.specs.Trees.{Tree, words, subtrees}
+use Rattle.trees.specs.Trees.{Tree, words, depth, subtrees}
 use Rattle.trees.specs.Reading.{found}
 use Rattle.trees.specs.Answers.{lineOf}
+use Rattle.trees.specs.Paper.{IsR}
 use Rattle.form.specs.Text.{Line, digit-0, space, line-feed, levelText, codeText, lineText, spell, textOf}
 use Rattle.form.specs.Faults.{ChildrenOf}
+use Rattle.book.specs.Book.{Book}
+use Rattle.verdicts.specs.Verdicts.{In}
 use Rattle.calls.specs.Lines.{feeds}
 
 -- ---- in tens
@@ -73,3 +76,21 @@ pub record ComesBack (t : Tree) (a : Answer) : Type 0 where
   pub read-aloud : Line
   pub stands : LineOfText (textOf t) (a .line) read-aloud
   pub its-code : read-aloud .code ≡ getD (words subtree) 0 0
+
+-- ---- which line comes back
+
+-- A subtree's part is in the book: "every subtree of depth at most k-2" is a low part itself, and of a deeper one the middle part is its r of index k.
+pub record PartKnown (b : Book) (s : Tree) : Type 0 where
+  pub low : depth s ≤ b .k - 2 → In (b .L) s
+  pub middle : b .k - 1 ≤ depth s → (u : Tree) → IsR (b .k) s u → In (b .P) u
+
+-- "otherwise the least line whose subtree's part is unknown, 21 or 22 by its depth": the top is known, the line's part is not, and each line before it has a
+-- part that is known.
+pub record LeastUnknown (b : Book) (t : Tree) (a : Answer) : Type 0 where
+  pub top : (u : Tree) → IsR (b .k - 1) t u → In (b .R) u
+  pub subtree : Tree
+  pub on : lineOf (a .line) (subtrees t) ≡ found subtree
+  pub unknown : PartKnown b subtree → ⊥
+  pub earlier : (j : ℕ) (u : Tree) → j < a .line → lineOf j (subtrees t) ≡ found u → PartKnown b u
+  pub low-is-21 : depth subtree ≤ b .k - 2 → a .number ≡ low-unknown
+  pub deeper-is-22 : b .k - 1 ≤ depth subtree → a .number ≡ middle-unknown
