@@ -6,8 +6,8 @@
 -- and say just the equations that stand here (`teach-says` and the like). What is lent by `&` comes back as it was, by the same theorem: so
 -- `order::check`, `cuts::subtree`, `look::in_form`, `judge::judge`, `agree::check` and `sheet::opening`, which are lent nothing to write, change nothing. Of what the others
 -- leave this file speaks. Assumes nothing.
-use Prim.Native.Nat.{ℕ, _≤_, _<_}
-use mathlib.Core.Path.{_≡_, refl, sym, ap, _∙_}
+use Prim.Native.Nat.{ℕ, suc, _-_, _≤_, _<_}
+use mathlib.Core.Path.{_≡_, refl, sym, ap, subst, _∙_}
 use mathlib.Core.Bool.{Bool, true, false}
 use mathlib.Core.List.{List}
 use native.Mathlib.Omega.{arith}
@@ -19,6 +19,9 @@ use Rattle.figures.specs.Answers.{depthOf}
 use Rattle.figures.specs.declared.depths.Asked.{Asked}
 use Rattle.figures.specs.declared.Answer.{Answer}
 use Rattle.figures.specs.declared.Written.{Written}
+use Rattle.trees.specs.Trees.{Tree, cut}
+use Rattle.trees.specs.Paper.{IsR}
+use Rattle.trees.proofs.Paper.{cut-is-r}
 use Rattle.trees.specs.Answers.{checkOf, subtreeOf, Writing, writing, cutIntoOf, PartWriting, partWriting, partIntoOf}
 use Rattle.trees.specs.declared.PartWritten.{PartWritten}
 use Rattle.form.specs.Reading.{readOf}
@@ -79,6 +82,10 @@ module _ (ws os text file out : List ℕ) (k line d : ℕ) where
   -- "Cut(t, d) keeps the nodes of depth at most d": 1, 2, and 11, "lent output too short"
   pub cut-rows : Exactly (WhyCut os out line d) (cutIntoOf os line d out)
   cut-rows = (cut-why os out line d, cut-only os out line d)
+
+  -- "Cut(t, d) keeps the nodes of depth at most d", at every d: it is document 000's r of index d+1.
+  pub cut-keeps : (t : Tree) → IsR (suc d) t (cut t d)
+  cut-keeps t = let e : suc d - 1 ≡ d = omega arith in subst (λ (n : ℕ). IsR (suc d) t (cut t n)) e (cut-is-r t (suc d) (omega arith))
 
   -- "The depth of the uncut subtree decides between L and P": 1, 2, 11
   pub part-rows : Exactly (WhyPart os out line k) (partIntoOf os line k out)

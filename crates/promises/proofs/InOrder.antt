@@ -6,7 +6,8 @@ use mathlib.Core.List.{List, [], _∷_, _++_, map}
 use lib.ListN.{replicate, set}
 use Rattle.figures.specs.Answers.{answered}
 use Rattle.figures.specs.declared.Answer.{Answer}
-use Rattle.trees.specs.Trees.{words}
+use Rattle.section.specs.Entries.{counted}
+use Rattle.trees.specs.Trees.{Tree, node, bare, cons, words}
 use Rattle.trees.specs.Reading.{causeOf}
 use Rattle.trees.specs.Answers.{checkOf, Writing}
 use Rattle.form.specs.Reading.{readOf}
@@ -20,9 +21,9 @@ use Rattle.effects.specs.Calls.{teachOf, withdrawOf}
 use Rattle.octets.specs.Octets.{bytesOf}
 use Rattle.files.specs.Files.{fileOf, writeFileOf}
 use Rattle.sheet.specs.Sheets.{faulty, handedIn}
-use Rattle.promises.specs.Heard.{A, single, slice}
+use Rattle.promises.specs.Heard.{A, single, pair, slice}
 use Rattle.promises.proofs.Computed.{computes, desk-computes}
-use Rattle.promises.proofs.Rows.{times, taughtA, lacksMiddle}
+use Rattle.promises.proofs.Rows.{times, taughtA, withL, lacksMiddle}
 use Rattle.promises.proofs.Numerals.{chain, levelled, down-to-12}
 
 -- ---- orders
@@ -62,11 +63,16 @@ pub open-checks : (openOf (slice 6) 1 .answer .number ∷ openOf (slice 7) 1 .an
 unfolding computes
 open-checks = refl
 
+-- A book with one teaching of a node that counts 65,535 in L, without room for a word more.
+abbrev full-low : List ℕ
+full-low = lay 19 (withL (bookOf 2 (times 1 single ∷ [])) (counted (words single) 65535 ∷ []))
+
 -- "Teach: 4, 5, 1, 2, 7, 6." Six words; words that are no book, with no order; a book with no order, and with an order that is too long; a full book with an
--- order that is too long, and with one for which there is no room; an empty book with an order for which there is no room.
+-- order that is too long, and with one for which there is no room; one with a full count that an order touches for which there is no room; an empty book with
+-- an order for which there is no room.
 pub teach-checks : map (λ (o : Outcome). o .answer .number)
-    (teachOf (slice 6) [] ∷ teachOf formless [] ∷ teachOf opened [] ∷ teachOf opened too-long ∷ teachOf full too-long ∷ teachOf full (words A) ∷ teachOf opened (words A) ∷ [])
-    ≡ 4 ∷ 5 ∷ 1 ∷ 2 ∷ 2 ∷ 7 ∷ 6 ∷ []
+    (teachOf (slice 6) [] ∷ teachOf formless [] ∷ teachOf opened [] ∷ teachOf opened too-long ∷ teachOf full too-long ∷ teachOf full (words A) ∷ teachOf full-low (words pair) ∷ teachOf opened (words A) ∷ [])
+    ≡ 4 ∷ 5 ∷ 1 ∷ 2 ∷ 2 ∷ 7 ∷ 7 ∷ 6 ∷ []
 unfolding computes
 teach-checks = refl
 
@@ -84,6 +90,27 @@ pub judge-checks : map (λ (a : Answer). a .number)
     ≡ 4 ∷ 5 ∷ 1 ∷ 2 ∷ 20 ∷ []
 unfolding computes
 judge-checks = refl
+
+-- 1000 with the children 2000, which has a child, and 3000, which has one too.
+abbrev two-deep : Tree
+two-deep = node 1000 (cons (node 2000 (cons (node 1 bare) bare)) (cons (node 3000 (cons (node 4000 bare) bare)) bare))
+
+-- The verdict by the book of the order `two-deep`, k = 2.
+abbrev by-two-deep : Tree → List ℕ
+by-two-deep t = let a : Answer = judgeOf (lay 100 (bookOf 2 (times 1 two-deep ∷ []))) (words t) in a .number ∷ a .line ∷ []
+
+-- "otherwise the least line whose subtree's part is unknown, 21 or 22 by its depth": 3000 without its child, which is line 4; 2000 without its child, on line 2,
+-- before 3000 with another, on line 3; 2000 with another child, on line 2, before that child on line 3; the order itself. And a book that lacks the middle part
+-- of its order judges it "as they stand, agreeing or not".
+pub verdict-lines : (by-two-deep (node 1000 (cons (node 2000 (cons (node 1 bare) bare)) (cons (node 3000 bare) bare)))
+    ∷ by-two-deep (node 1000 (cons (node 2000 bare) (cons (node 3000 (cons (node 9 bare) bare)) bare)))
+    ∷ by-two-deep (node 1000 (cons (node 2000 (cons (node 9 bare) bare)) (cons (node 3000 bare) bare)))
+    ∷ by-two-deep two-deep
+    ∷ (judgeOf (lay 60 lacksMiddle) (words A) .number ∷ judgeOf (lay 60 lacksMiddle) (words A) .line ∷ [])
+    ∷ [])
+    ≡ (21 ∷ 4 ∷ []) ∷ (21 ∷ 2 ∷ []) ∷ (22 ∷ 2 ∷ []) ∷ (0 ∷ 0 ∷ []) ∷ (22 ∷ 1 ∷ []) ∷ []
+unfolding computes
+verdict-lines = refl
 
 -- "Check: 4, 5, 9." Six words; a book that is not in form and would not agree; one that does not agree; one that does.
 pub agree-checks : map (λ (a : Answer). a .number) (agreesOf (slice 6) ∷ agreesOf (set (lay 60 lacksMiddle) 2 2) ∷ agreesOf (lay 60 lacksMiddle) ∷ agreesOf taughtA ∷ [])
@@ -141,8 +168,9 @@ text-checks = refl
 
 -- ---- the desk
 
--- "in this order": "K 7" LF "0" LF has a k out of range and bytes that begin with no letter line, and "K 3" LF "0" LF only these. That a longer input comes
--- first, whatever its bytes are, is `too-long` in proofs/DeskRows.antt.
+-- "in this order": "K 7" LF "0" LF has a k out of range and bytes that begin with no letter line, and "K 3" LF "0" LF only these; "K-3" LF is otherwise spelt.
+-- That a longer input comes first, whatever its bytes are, is `too-long` in proofs/DeskRows.antt.
 pub desk-checks : (handedIn (75 ∷ 32 ∷ 55 ∷ 10 ∷ 48 ∷ 10 ∷ []) ≡ faulty (answered 3)) × (handedIn (75 ∷ 32 ∷ 51 ∷ 10 ∷ 48 ∷ 10 ∷ []) ≡ faulty (record { number = 10; line = 2 }))
+    × (handedIn (75 ∷ 45 ∷ 51 ∷ 10 ∷ []) ≡ faulty (answered 3))
 unfolding desk-computes
-desk-checks = (refl, refl)
+desk-checks = (refl, refl, refl)

@@ -13,25 +13,33 @@ use Rattle.figures.specs.Numbers.{short-output, no-mark, other-version, no-stor
 use Rattle.figures.specs.Answers.{answered, refusedAt}
 use Rattle.trees.specs.Trees.{Tree, node, bare, cons, words}
 use Rattle.trees.specs.Reading.{causeOf}
-use Rattle.trees.specs.Answers.{checkOf, writing}
+use Rattle.trees.specs.Answers.{checkOf, writing, refuse}
 use Rattle.form.specs.Text.{digit-0, digit-9, space, line-feed, spell}
 use Rattle.form.specs.Reading.{readOf}
 use Rattle.form.specs.Faults.{greatest-level}
 use Rattle.book.specs.Book.{lay}
 use Rattle.book.specs.Taught.{bookOf}
+use Rattle.book.specs.Sound.{WhyForm, longer}
 use Rattle.book.specs.Opening.{openOf, leave}
+use Rattle.book.specs.declared.BookForm.the-variants.{Refused}
 use Rattle.book.specs.Checking.{checkOf as agreesOf}
 use Rattle.verdicts.specs.Judging.{judgeOf}
+use Rattle.verdicts.specs.Verdicts.{no-book}
+use Rattle.verdicts.proofs.Answers.{judged-only}
 use Rattle.effects.specs.Calls.{teachOf, withdrawOf}
+use Rattle.effects.specs.Whys.{teach-no-book, withdraw-no-book}
+use Rattle.effects.proofs.Whys.{teach-only, withdraw-only}
 use Rattle.octets.specs.Octets.{bytesOf, wordsOf}
-use Rattle.files.specs.Files.{mark, version, front-bytes, isMarked, storedIn, readBookOf, readRestOf, readFileOf}
+use Rattle.files.specs.Files.{mark, version, front-bytes, isMarked, storedIn, readBookOf, readRestOf, writeFileOf, readFileOf}
 use Rattle.sheet.specs.Sheets.{letter-K, letterByte}
 use Rattle.sheet.specs.declared.Letter.the-variants.{Teach, Withdraw, Judge}
 use Rattle.promises.specs.Heard.{A, single, pair, slice}
-use Rattle.promises.specs.Whys.{slice-long}
+use Rattle.promises.specs.Whys.{slice-long, check-no-book, file-no-book, restore-longer}
 use Rattle.promises.proofs.Computed.{computes, desk-computes}
 use Rattle.promises.proofs.Rows.{times, taughtA, lacksMiddle}
 use Rattle.promises.proofs.Whys.{opened-only}
+use Rattle.promises.proofs.Checks.{checked-only}
+use Rattle.promises.proofs.FileWhys.{filed-only, restored-only}
 use Rattle.promises.proofs.Demand3.{opening-done}
 
 -- ---- the names
@@ -168,6 +176,20 @@ longest-opened ws e = opening-done ws 2 (omega arith) (omega arith) (omega arith
 -- and 16,385 are not.
 pub longer-refused : (ws : List ℕ) → length ws ≡ 16385 → openOf ws 2 ≡ leave ws 4
 longer-refused ws e = opened-only ws 2 (leave ws 4) (slice-long refl (omega arith))
+
+-- 16,385 words are refused by 4 by every other call on a book, whatever they are.
+pub longer-refused-by-all : (ws : List ℕ) → length ws ≡ 16385 → (os out file : List ℕ)
+    → (teachOf ws os ≡ leave ws 4) × (withdrawOf ws os ≡ leave ws 4) × (judgeOf ws os ≡ answered 4) × (agreesOf ws ≡ answered 4)
+    × (writeFileOf ws out ≡ refuse 4 out) × (readFileOf file ws ≡ leave ws 4)
+longer-refused-by-all ws e os out file =
+    let w : WhyForm ws (Refused 4) = longer refl (omega arith) in (
+      teach-only ws os (leave ws 4) (teach-no-book 4 refl w),
+      withdraw-only ws os (leave ws 4) (withdraw-no-book 4 refl w),
+      judged-only ws os (answered 4) (no-book 4 refl w),
+      checked-only ws (answered 4) (check-no-book 4 refl w),
+      filed-only ws out (refuse 4 out) (file-no-book 4 refl w),
+      restored-only file ws (leave ws 4) (restore-longer refl (omega arith)),
+    )
 
 -- Lines of code 1 with these levels.
 abbrev pub levelled : List ℕ → List ℕ

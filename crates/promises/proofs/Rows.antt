@@ -65,7 +65,7 @@ abbrev withR : Book → List Entry → Book
 withR b es = record { k = b .k; T = b .T; R = es; L = b .L; P = b .P }
 
 -- A book with another section L.
-abbrev withL : Book → List Entry → Book
+abbrev pub withL : Book → List Entry → Book
 withL b es = record { k = b .k; T = b .T; R = b .R; L = es; P = b .P }
 
 -- A book with another section P.
