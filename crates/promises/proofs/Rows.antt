@@ -35,16 +35,20 @@ in-form : (lay 60 (bookOf 3 (times 1 A ∷ [])) ≡ taughtA) × (formed taughtA 
 unfolding computes
 in-form = (refl, refl, refl)
 
--- One damage each: a k of 7, a word used less, a live teaching more, a count of 0 in L, and a word past those used that is not zero. A count
--- of 2 in L is none.
+-- One damage each: a k of 7 and of 1, a word used less, a live teaching more, an entry more in R, a node less and a code of 0 in the entry of T, a count of 0 in
+-- L, and a word past those used that is not zero. A count of 2 in L is none.
 damaged : (formed (set taughtA 0 7) ≡ false)
+    × (formed (set taughtA 0 1) ≡ false)
+    × (formed (set taughtA 4 2) ≡ false)
+    × (formed (set taughtA 7 4) ≡ false)
+    × (formed (set taughtA 9 0) ≡ false)
     × (formed (set taughtA 1 58) ≡ false)
     × (formed (set taughtA 2 2) ≡ false)
     × (formed (set taughtA 28 0) ≡ false)
     × (formed (set taughtA 59 1) ≡ false)
     × (formed (set taughtA 28 2) ≡ true)
 unfolding computes
-damaged = (refl, refl, refl, refl, refl, refl)
+damaged = (refl, refl, refl, refl, refl, refl, refl, refl, refl, refl)
 
 -- The book of A and B, k = 3.
 abbrev bookAB : Book
@@ -72,14 +76,23 @@ withL b es = record { k = b .k; T = b .T; R = b .R; L = es; P = b .P }
 abbrev withP : Book → List Entry → Book
 withP b es = record { k = b .k; T = b .T; R = b .R; L = b .L; P = es }
 
--- The book of A and B is in form; with two entries of T exchanged, a tree too deep in R or L, or one not deep enough in P, it is not.
+-- An entry twice, one behind the other.
+abbrev twice : List Entry → List Entry
+twice [] = []
+twice (e ∷ es) = e ∷ e ∷ es
+
+-- The book of A and B is in form; with two entries of T, L or P exchanged, one twice in R, a tree too deep in R, L or P, or one not deep enough in P, it is not.
 sections : (formed (lay 110 bookAB) ≡ true)
     × (formed (lay 110 (withT bookAB (exchanged (bookAB .T)))) ≡ false)
+    × (formed (lay 110 (withL bookAB (exchanged (bookAB .L)))) ≡ false)
+    × (formed (lay 110 (withP bookAB (exchanged (bookAB .P)))) ≡ false)
+    × (formed (lay 140 (withR bookAB (twice (bookAB .R)))) ≡ false)
+    × (formed (lay 110 (withP (bookOf 2 (times 1 A ∷ [])) (bookAB .T))) ≡ false)
     × (formed (lay 140 (withR bookAB (bookAB .T))) ≡ false)
     × (formed (lay 140 (withL bookAB (bookAB .T))) ≡ false)
     × (formed (lay 110 (withP bookAB (bookAB .R))) ≡ false)
 unfolding computes
-sections = (refl, refl, refl, refl, refl)
+sections = (refl, refl, refl, refl, refl, refl, refl, refl, refl)
 
 -- The book of A taught once and B taught twice, k = 3.
 abbrev bookABB : Book
