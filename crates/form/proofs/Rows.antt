@@ -2,15 +2,15 @@
 -- read; so a text is read without fault exactly if it is that of one to 64 such lines. Assumes nothing.
 use mathlib.Core.Path.{_≡_, refl, ap, sym, subst, _∙_}
 use mathlib.Core.Bool.{Bool, true, false}
-use mathlib.Core.List.{List, [], _∷_, _++_}
+use mathlib.Core.List.{List, [], _∷_, _++_, List·Memᴰ·head as here, List·Memᴰ·tail as there}
 use Prim.Native.Nat.{ℕ, suc, _+_, _≤_, _<_}
 use native.Mathlib.Omega.{arith}
 use lib.Dec.{ltb, eqb}
 use lib.ListN.{length}
 use borrow.Author.Tests.{le-leb, lt-ltb, le-ltb, eq-eqb, ne-eqb, eqb-true, eqb-false}
-use Rattle.words.specs.Base.{_and_, if_then_else_}
+use Rattle.words.specs.Base.{_and_, if_then_else_, _∈_}
 use Rattle.words.proofs.Tests.{no-test}
-use Rattle.figures.specs.Limits.{most-nodes, most-children}
+use Rattle.figures.specs.Limits.{most-nodes, most-children, greatest-depth}
 use Rattle.form.specs.Text.{Line, spell}
 use Rattle.form.specs.Reading.{allowed, siblings, form, formOf}
 use Rattle.form.specs.Faults.{MayFollow, first, later, ChildrenOf, no-lines, child, deeper, Siblings, no-parent, under, Fine, Legal}
@@ -166,6 +166,11 @@ legal-pass (x ∷ xs) before g = (g .0, fine-pass before (g .1), legal-pass xs (
 pub pass-legal : (xs before : List Line) → Passed before → AllPass before xs → Legal before xs
 pass-legal [] before w g = tt
 pass-legal (x ∷ xs) before w g = (g .0, pass-fine before w (g .1), pass-legal xs (x ∷ before) (g .1, w) (g .2))
+
+-- A line that may stand in a form is at most 12 deep.
+pub legal-shallow : (before xs : List Line) → Legal before xs → (x : Line) → x ∈ xs → x .level ≤ greatest-depth
+legal-shallow before (y ∷ ys) g x (here e) = rw e (g .1 .shallow)
+legal-shallow before (y ∷ ys) g x (there m) = legal-shallow (y ∷ before) ys (g .2) x m
 
 -- ---- texts without fault
 

@@ -9,13 +9,9 @@ use Rattle.words.specs.Base.{if_then_else_}
 use Rattle.trees.specs.Trees.{Tree, Forest, node, bare, cons, count, words, wordsF, subtrees, subtreesF}
 use Rattle.form.specs.Text.{Line, linesOf, linesF}
 use Rattle.form.specs.Reading.{children, wordsOf}
+use Rattle.form.specs.Faults.{NoDeeper, no-more, back-up}
 
 -- ---- the words of lines
-
--- The lines that follow are none, or begin at level l or above.
-data Low (l : ℕ) : List Line → Type 0 where
-  over : Low l []
-  low : {x : Line} {xs : List Line} → x .level ≤ l → Low l (x ∷ xs)
 
 -- Lines that lie deeper than the children are passed over.
 mutual
@@ -29,13 +25,13 @@ mutual
   skipF (cons t f) l m r h = rw (append-assoc (linesOf t m) (linesF f m) r) (skip t l m (linesF f m ++ r) h ∙ skipF f l m r h)
 
 -- Behind the subtree of a line no more of its children come.
-no-child : (l : ℕ) (r : List Line) → Low l r → children l r ≡ 0
+pub no-child : (l : ℕ) (r : List Line) → NoDeeper l r → children l r ≡ 0
 unfolding children if_then_else_
 no-child l [] o = refl
-no-child l (x ∷ r) (low h) = rw (le-leb (x .level) l h)
+no-child l (x ∷ r) (back-up h) = rw (le-leb (x .level) l h)
 
 -- A line has as many children as its node has trees under it.
-kids : (f : Forest) (l : ℕ) (r : List Line) → Low l r → children l (linesF f (suc l) ++ r) ≡ count f
+kids : (f : Forest) (l : ℕ) (r : List Line) → NoDeeper l r → children l (linesF f (suc l) ++ r) ≡ count f
 unfolding linesOf children count if_then_else_
 kids bare l r o = no-child l r o
 kids (cons (node c g) f) l r o =
@@ -43,24 +39,24 @@ kids (cons (node c g) f) l r o =
     (ap suc (skipF g l (suc (suc l)) (linesF f (suc l) ++ r) (omega arith) ∙ kids f l r o))
 
 -- What is low enough for a level is so for the next deeper one.
-deeper : (l : ℕ) (r : List Line) → Low l r → Low (suc l) r
-deeper l [] o = over
-deeper l (x ∷ r) (low h) = let k : x .level ≤ suc l = omega arith in low k
+deeper : (l : ℕ) (r : List Line) → NoDeeper l r → NoDeeper (suc l) r
+deeper l [] o = no-more
+deeper l (x ∷ r) (back-up h) = let k : x .level ≤ suc l = omega arith in back-up k
 
 -- The trees of a row at level l, put before what is low enough, are low enough.
-row-low : (f : Forest) (l : ℕ) (r : List Line) → Low l r → Low l (linesF f l ++ r)
+row-low : (f : Forest) (l : ℕ) (r : List Line) → NoDeeper l r → NoDeeper l (linesF f l ++ r)
 unfolding linesOf
 row-low bare l r o = o
-row-low (cons (node c g) f) l r o = let k : l ≤ l = omega arith in low k
+row-low (cons (node c g) f) l r o = let k : l ≤ l = omega arith in back-up k
 
 -- The lines of a tree have the tree's words, whatever follows that is no deeper than its top; those of a row have the row's words.
 mutual
   unfolding linesOf words wordsOf
 
-  tree-words : (t : Tree) (l : ℕ) (r : List Line) → Low l r → wordsOf (linesOf t l ++ r) ≡ words t ++ wordsOf r
+  tree-words : (t : Tree) (l : ℕ) (r : List Line) → NoDeeper l r → wordsOf (linesOf t l ++ r) ≡ words t ++ wordsOf r
   tree-words (node c f) l r o = rw (kids f l r o, row-words f (suc l) r (deeper l r o))
 
-  row-words : (f : Forest) (l : ℕ) (r : List Line) → Low l r → wordsOf (linesF f l ++ r) ≡ wordsF f ++ wordsOf r
+  row-words : (f : Forest) (l : ℕ) (r : List Line) → NoDeeper l r → wordsOf (linesF f l ++ r) ≡ wordsF f ++ wordsOf r
   row-words bare l r o = refl
   row-words (cons t f) l r o =
       rw (append-assoc (linesOf t l) (linesF f l) r, append-assoc (words t) (wordsF f) (wordsOf r), tree-words t l (linesF f l ++ r) (row-low f l r o), row-words f l r o)
@@ -68,7 +64,7 @@ mutual
 -- The lines of a tree, from whatever level on, have the tree's words.
 pub lines-words : (t : Tree) (l : ℕ) → wordsOf (linesOf t l) ≡ words t
 unfolding wordsOf
-lines-words t l = ap wordsOf (sym (append-nil (linesOf t l))) ∙ tree-words t l [] over ∙ append-nil (words t)
+lines-words t l = ap wordsOf (sym (append-nil (linesOf t l))) ∙ tree-words t l [] no-more ∙ append-nil (words t)
 
 -- ---- their number
 

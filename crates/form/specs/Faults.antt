@@ -9,7 +9,7 @@ use Rattle.figures.specs.Limits.{least-code, greatest-code, most-nodes, most-ch
 use Rattle.figures.specs.Numbers.{too-large, no-form}
 use Rattle.form.specs.Text.{Line, lineText, spell}
 
--- ---- a line behind those before it, which are listed the last first
+-- ---- which level may follow, and which lines are children of which; lines before a line are listed the last first
 
 -- "Line 1 has level 0; a later level is 1 to the previous plus 1."
 pub data MayFollow (level : ℕ) : List Line → Type 0 where
@@ -21,6 +21,19 @@ pub data ChildrenOf (l : ℕ) : List Line → ℕ → Type 0 where
   no-lines : ChildrenOf l [] 0
   child : {x : Line} {xs : List Line} {n : ℕ} → x .level ≡ l + 1 → ChildrenOf l xs n → ChildrenOf l (x ∷ xs) (suc n)
   deeper : {x : Line} {xs : List Line} {n : ℕ} → l + 1 < x .level → ChildrenOf l xs n → ChildrenOf l (x ∷ xs) n
+
+-- The lines that follow are none, or begin at that level or above.
+pub data NoDeeper (l : ℕ) : List Line → Type 0 where
+  no-more : NoDeeper l []
+  back-up : {x : Line} {xs : List Line} → x .level ≤ l → NoDeeper l (x ∷ xs)
+
+-- Of the lines behind a line of level l, those below it come first, and so many of them are its children.
+pub record Below (l : ℕ) (behind : List Line) (n : ℕ) : Type 0 where
+  pub below : List Line
+  pub rest : List Line
+  pub split : behind ≡ below ++ rest
+  pub children : ChildrenOf l below n
+  pub ends : NoDeeper l rest
 
 -- So many lines before have the same parent as a line of that level. "One line per node in preorder": the parent is the last line before
 -- whose level is one less, and all lines between the two lie below the parent; line 1 has none.

@@ -12,6 +12,7 @@ use lib.Seq.{take-append-seam, drop-at, drop-drop}
 use Rattle.words.specs.Base.{_∈_}
 use Rattle.words.specs.Compare.{firstWords, compareOf, _≺_}
 use Rattle.words.specs.declared.Compared.the-variants.{Lower}
+use Rattle.words.proofs.Tests.{is-true}
 use Rattle.figures.specs.Limits.{head-words}
 use Rattle.figures.specs.Numbers.{done}
 use Rattle.section.specs.Entries.{Entry, counted, sectionWords, has, countOf, Sorted}
@@ -234,19 +235,14 @@ module _ (ws os : List ℕ) (b : Book) (t : Tree) (is : IsBook ws b) (o : IsOrde
   unfolding sectionOf
   has-these e s u m = go s m (withdraw-0 ws os b t its-met .0 e)
     where
-      -- A tree that is found or missing is found, where it is not missing.
-      found-it : (x : Bool) → (x ≡ false → ⊥) → x ≡ true
-      found-it true n = refl
-      found-it false n = absurd (n refl)
-
       -- By the section.
       go : (r : Section) → u ∈ treesIn r (b .k) t → (has (words t) (b .T) ≡ true) × (PartMissing t b → ⊥) → has (words u) (sectionOf r b) ≡ true
       go Taught (here q) w = ap (λ (v : Tree). has (words v) (b .T)) q ∙ w .0
       go Taught (there i) w = absurd (List·Memᴰ·not-nil i)
-      go Tops (here q) w = found-it _ (λ n. w .1 (from-tops (ap (λ (v : Tree). has (words v) (b .R)) (sym q) ∙ n)))
+      go Tops (here q) w = is-true _ (λ n. w .1 (from-tops (ap (λ (v : Tree). has (words v) (b .R)) (sym q) ∙ n)))
       go Tops (there i) w = absurd (List·Memᴰ·not-nil i)
-      go Lows i w = found-it _ (λ n. w .1 (from-lows u i n))
-      go Middles i w = found-it _ (λ n. w .1 (from-middles u i n))
+      go Lows i w = is-true _ (λ n. w .1 (from-lows u i n))
+      go Middles i w = is-true _ (λ n. w .1 (from-middles u i n))
 
   -- "Withdrawing lowers each by one and takes out an entry that comes to 0", and word 2 by one: a withdrawal that is done leaves a book in form, and what it
   -- was before has one teaching of the order more than that, whatever book in form it was.

@@ -4,8 +4,8 @@
 -- That a call ends, reads and writes only within what it was lent and wraps no sum is the theorem of each function, which the prover checks before it
 -- passes a crate: proofs/Contracts.antt cites those of the public functions (`teach-meets` and the like), and shows that their contracts ask nothing
 -- and say just the equations that stand here (`teach-says` and the like). What is lent by `&` comes back as it was, by the same theorem: so
--- `order::check`, `cuts::subtree`, `look::in_form`, `judge::judge`, `agree::check` and `sheet::opening`, which are lent nothing to write, change nothing. Of what the others
--- leave this file speaks. Assumes nothing.
+-- `order::check`, `cuts::subtree`, `look::in_form`, `judge::judge`, `agree::check` and `sheet::opening`, which are lent nothing to write (proofs/Lent.antt),
+-- change nothing. Of what the others leave this file speaks. Assumes nothing.
 use Prim.Native.Nat.{ℕ, suc, _-_, _≤_, _<_}
 use mathlib.Core.Path.{_≡_, refl, sym, ap, subst, _∙_}
 use mathlib.Core.Bool.{Bool, true, false}
@@ -83,10 +83,6 @@ module _ (ws os text file out : List ℕ) (k line d : ℕ) where
   pub cut-rows : Exactly (WhyCut os out line d) (cutIntoOf os line d out)
   cut-rows = (cut-why os out line d, cut-only os out line d)
 
-  -- "Cut(t, d) keeps the nodes of depth at most d", at every d: it is document 000's r of index d+1.
-  pub cut-keeps : (t : Tree) → IsR (suc d) t (cut t d)
-  cut-keeps t = let e : suc d - 1 ≡ d = omega arith in subst (λ (n : ℕ). IsR (suc d) t (cut t n)) e (cut-is-r t (suc d) (omega arith))
-
   -- "The depth of the uncut subtree decides between L and P": 1, 2, 11
   pub part-rows : Exactly (WhyPart os out line k) (partIntoOf os line k out)
   part-rows = (part-why os out line k, part-only os out line k)
@@ -138,6 +134,10 @@ module _ (ws os text file out : List ℕ) (k line d : ℕ) where
   -- "Three faults are looked for before anything is printed, in this order": those of what is handed in at the desk, `text`.
   pub opening-rows : Exactly (WhyFront text) (openingOf text)
   opening-rows = (opening-why text, opening-only text)
+
+-- "Cut(t, d) keeps the nodes of depth at most d", at every d: it is document 000's r of index d+1.
+pub cut-keeps : (t : Tree) (d : ℕ) → IsR (suc d) t (cut t d)
+cut-keeps t d = let e : suc d - 1 ≡ d = omega arith in subst (λ (n : ℕ). IsR (suc d) t (cut t n)) e (cut-is-r t (suc d) (omega arith))
 
 -- ---- the line
 

@@ -23,15 +23,16 @@ use Rattle.trees.proofs.Cutting.{subtree-good}
 use Rattle.trees.proofs.Fitting.{order-read}
 use Rattle.form.specs.Text.{Line, digit-0, space, line-feed, code-size, linesOf, levelText, codeText, lineText, spell, textOf}
 use Rattle.form.specs.Reading.{isDigit, speltOf, form, readLines, children, wordsOf, readOf}
-use Rattle.form.specs.Faults.{greatest-level}
+use Rattle.form.specs.Faults.{Below, greatest-level}
 use Rattle.form.specs.Writing.{writeOf}
 use Rattle.form.specs.declared.reading.LineRead.the-variants.{Node}
 use Rattle.form.proofs.Digits.{value-digits, line-read}
 use Rattle.form.proofs.LineBytes.{line-size}
 use Rattle.form.proofs.Letters.{NotFour, NotRead, decimal, code-decimal, decimal-read, code-refused, byte-refused}
 use Rattle.form.proofs.Counts.{kids}
+use Rattle.form.proofs.Children.{counted-below, below-counted, line-code}
 use Rattle.form.proofs.TreeLines.{topCode, lines-words, lines-subtrees}
-use Rattle.form.proofs.Rows.{form-legal}
+use Rattle.form.proofs.Rows.{legal-shallow, form-legal}
 use Rattle.form.proofs.Trips.{order-text, order-write, form-write, written-read, read-written}
 use Rattle.book.specs.Book.{Book}
 use Rattle.book.specs.Sound.{IsBook}
@@ -42,8 +43,8 @@ use Rattle.verdicts.proofs.Answers.{answered-passes, passes-answered}
 use Rattle.effects.specs.Conditions.{_exactly-when_}
 use Rattle.files.specs.Files.{front-bytes, fileOf, writeFileOf, readFileOf}
 use Rattle.promises.specs.Agreement.{Agrees}
-use Rattle.promises.specs.Forms.{LevelInTens, InTens, Stands, Below, ComesBack, LeastUnknown}
-use Rattle.promises.proofs.FormLines.{level-tens, tens-level, tens-most, legal-shallow, below-counted, line-code}
+use Rattle.promises.specs.Forms.{LevelInTens, InTens, Stands, ComesBack, LeastUnknown}
+use Rattle.promises.proofs.FormLines.{level-tens, tens-level, tens-most}
 use Rattle.promises.proofs.LineNumbers.{unpassed, least-unknown, unknown-top}
 use Rattle.promises.proofs.FileWhys.{agrees-filed}
 use Rattle.promises.proofs.FileTrips.{file-back, filed-back, filed-bytes, read-back-filed, read-alike}
@@ -166,7 +167,7 @@ levels-say-the-tree os t o before x behind e =
     let is : os ≡ wordsOf (before ++ (x ∷ behind)) = o .spelt ∙ sym (lines-words t 0) ∙ ap wordsOf e in
     let count : getD os (2 * length before + 1) 0 ≡ children (x .level) behind = ap (λ (ws : List ℕ). getD ws (2 * length before + 1) 0) is ∙ kids x behind before in (
       ap (λ (ws : List ℕ). getD ws (2 * length before) 0) is ∙ line-code x behind before,
-      λ n. let b = below-counted (x .level) behind n in (λ q. b .0 (sym count ∙ q), λ r. count ∙ b .1 r),
+      λ n. (λ q. counted-below (x .level) behind n (sym count ∙ q), λ r. count ∙ below-counted (x .level) behind n r),
     )
 
 -- ---- "A sound form goes to text and back unchanged"

@@ -1,29 +1,21 @@
 -- The lines of an order's form: each stands in its text behind as many LF as there are lines before it, with the code at the top of the subtree of the
--- same line; its level is in tens, and so are two digits that are read as one; its children are the lines one level deeper that stand below it. Assumes
--- nothing.
-use Prim.Native.Nat.{ℕ, zero, suc, _+_, _*_, _/_, _%_, _≤_, _<_}
-use mathlib.Core.Path.{_≡_, refl, sym, ap, ap₂, subst, _∙_}
-use mathlib.Core.Bool.{Bool, true, false}
-use mathlib.Core.List.{List, [], _∷_, _++_, map, List·Memᴰ·head as here, List·Memᴰ·tail as there}
+-- same line; its level is in tens, and so are two digits that are read as one. Assumes nothing.
+use Prim.Native.Nat.{ℕ, zero, suc, _+_, _/_, _%_, _≤_}
+use mathlib.Core.Path.{_≡_, refl, sym, ap, ap₂, _∙_}
+use mathlib.Core.List.{List, [], _∷_, _++_, map}
 use native.Mathlib.Decide.{decLt}
 use native.Mathlib.Omega.{arith}
-use borrow.Author.Tests.{leb-true, leb-false, lt-leb, le-leb, eqb-true, eqb-false, eq-eqb, ne-eqb}
-use lib.Dec.{leb, eqb}
 use lib.ListN.{length, getD}
-use Rattle.words.specs.Base.{if_then_else_, _∈_}
-use Rattle.figures.specs.Limits.{greatest-depth}
 use Rattle.trees.specs.Trees.{Tree, node, words, subtrees}
 use Rattle.trees.specs.Reading.{found, missing}
 use Rattle.trees.specs.Answers.{treeAt, lineOf}
 use Rattle.form.specs.Text.{Line, digit-0, digit, levelText, codeText, lineText, spell, linesOf, textOf}
-use Rattle.form.specs.Reading.{children, wordsOf}
-use Rattle.form.specs.Faults.{ChildrenOf, no-lines, child, deeper, Legal, greatest-level}
+use Rattle.form.specs.Faults.{greatest-level}
 use Rattle.form.proofs.LineBytes.{one-digit, two-digits, spell-append}
 use Rattle.form.proofs.TreeLines.{codes, topCode, lines-subtrees}
 use Rattle.calls.specs.Lines.{feeds}
 use Rattle.calls.proofs.Lines.{no-feed, feeds-append, feeds-none, one-feed}
-use Rattle.effects.specs.Conditions.{_exactly-when_}
-use Rattle.promises.specs.Forms.{LevelInTens, one-figure, two-figures, NoDeeper, no-more, back-up, Below, LineOfText}
+use Rattle.promises.specs.Forms.{LevelInTens, one-figure, two-figures, LineOfText}
 
 -- ---- levels
 
@@ -48,60 +40,6 @@ tens-level l text (two-figures a b p h k e q) =
 pub tens-most : (l : ℕ) (text : List ℕ) → LevelInTens l text → l ≤ greatest-level
 tens-most l text (one-figure a h e q) = omega arith
 tens-most l text (two-figures a b p h k e q) = omega arith
-
--- A line that may stand in a form is at most 12 deep.
-pub legal-shallow : (before xs : List Line) → Legal before xs → (x : Line) → x ∈ xs → x .level ≤ greatest-depth
-legal-shallow before (y ∷ ys) g x (here e) = rw e (g .1 .shallow)
-legal-shallow before (y ∷ ys) g x (there m) = legal-shallow (y ∷ before) ys (g .2) x m
-
--- ---- children
-
-module _ (l : ℕ) where
-  -- Lines behind a line of level l have some below it, so many of them its children as `children` counts.
-  some-below : (ys : List Line) → Below l ys (children l ys)
-  unfolding children if_then_else_
-  some-below [] = record { below = []; rest = []; split = refl; children = no-lines; ends = no-more }
-  some-below (y ∷ ys) = go (leb (y .level) l) (eqb (y .level) (suc l)) refl refl (some-below ys)
-    where
-      -- By how deep the first of them is.
-      go : (a b : Bool) → leb (y .level) l ≡ a → eqb (y .level) (suc l) ≡ b → Below l ys (children l ys)
-          → Below l (y ∷ ys) (if a then 0 else if b then suc (children l ys) else children l ys)
-      go true b p q r = let h : y .level ≤ l = leb-true _ _ p in record { below = []; rest = y ∷ ys; split = refl; children = no-lines; ends = back-up h }
-      go false true p q r =
-          let e : y .level ≡ l + 1 = omega (arith, eqb-true (y .level) (suc l) q) in
-          record { below = y ∷ r .below; rest = r .rest; split = ap (λ (s : List Line). y ∷ s) (r .split); children = child e (r .children); ends = r .ends }
-      go false false p q r =
-          let n : y .level ≡ suc l → ⊥ = eqb-false _ _ q in
-          let h : l < y .level = leb-false _ _ p in
-          let e : l + 1 < y .level = omega arith in
-          record { below = y ∷ r .below; rest = r .rest; split = ap (λ (s : List Line). y ∷ s) (r .split); children = deeper e (r .children); ends = r .ends }
-
-  -- Behind those below it no more of its children come.
-  none-after : (rest : List Line) → NoDeeper l rest → children l rest ≡ 0
-  unfolding children if_then_else_
-  none-after [] no-more = refl
-  none-after (x ∷ xs) (back-up h) = rw (le-leb (x .level) l h)
-
-  -- The children among those below it are counted.
-  children-counted : (below rest : List Line) (n : ℕ) → ChildrenOf l below n → NoDeeper l rest → children l (below ++ rest) ≡ n
-  unfolding children if_then_else_
-  children-counted _ rest _ no-lines e = none-after rest e
-  children-counted _ rest _ (child {x} {xs} {n} q c) e = rw (lt-leb (x .level) l (omega arith), eq-eqb (x .level) (suc l) (omega arith), children-counted xs rest n c e)
-  children-counted _ rest _ (deeper {x} {xs} {n} q c) e =
-      rw (lt-leb (x .level) l (omega arith), ne-eqb (x .level) (suc l) (λ z. omega arith), children-counted xs rest n c e)
-
-  -- So many lines are its children exactly if `children` counts so many.
-  pub below-counted : (behind : List Line) (n : ℕ) → (children l behind ≡ n) exactly-when Below l behind n
-  below-counted behind n = (
-    λ e. subst (Below l behind) e (some-below behind),
-    λ r. ap (children l) (r .split) ∙ children-counted (r .below) (r .rest) n (r .children) (r .ends),
-  )
-
--- The first word of a line among the words of lines is its code.
-pub line-code : (x : Line) (behind front : List Line) → getD (wordsOf (front ++ (x ∷ behind))) (2 * length front) 0 ≡ x .code
-unfolding wordsOf
-line-code x behind [] = refl
-line-code x behind (y ∷ front) = let z : 2 * suc (length front) ≡ suc (suc (2 * length front)) = omega arith in rw z (line-code x behind front)
 
 -- ---- LF
 

@@ -11,7 +11,6 @@ use Rattle.trees.specs.Reading.{found}
 use Rattle.trees.specs.Answers.{lineOf}
 use Rattle.trees.specs.Paper.{IsR}
 use Rattle.form.specs.Text.{Line, digit-0, space, line-feed, levelText, codeText, lineText, spell, textOf}
-use Rattle.form.specs.Faults.{ChildrenOf}
 use Rattle.book.specs.Book.{Book}
 use Rattle.verdicts.specs.Verdicts.{In}
 use Rattle.calls.specs.Lines.{feeds}
@@ -39,21 +38,6 @@ pub record Stands (text : List ℕ) (x : Line) : Type 0 where
   pub rest : List ℕ
   pub is : text ≡ front ++ (levelText (x .level) ++ (codeText (x .code) ++ rest))
 
--- ---- which lines are children of which
-
--- The lines that follow are none, or begin at that level or above.
-pub data NoDeeper (l : ℕ) : List Line → Type 0 where
-  no-more : NoDeeper l []
-  back-up : {x : Line} {xs : List Line} → x .level ≤ l → NoDeeper l (x ∷ xs)
-
--- "One line per node in preorder": of the lines behind a line of level l, those below it come first, and so many of them are its children.
-pub record Below (l : ℕ) (behind : List Line) (n : ℕ) : Type 0 where
-  pub below : List Line
-  pub rest : List Line
-  pub split : behind ≡ below ++ rest
-  pub children : ChildrenOf l below n
-  pub ends : NoDeeper l rest
-
 -- ---- which line it is
 
 -- "counted from 1": the line with that number of a form's text, behind the lines before it, each of which ends in LF.
@@ -80,6 +64,7 @@ pub record ComesBack (t : Tree) (a : Answer) : Type 0 where
 -- ---- which line comes back
 
 -- A subtree's part is in the book: "every subtree of depth at most k-2" is a low part itself, and of a deeper one the middle part is its r of index k.
+-- Said apart from the rows of judging (`Known`, verdicts/specs/Verdicts.antt), so that a change of these is seen here.
 pub record PartKnown (b : Book) (s : Tree) : Type 0 where
   pub low : depth s ≤ b .k - 2 → In (b .L) s
   pub middle : b .k - 1 ≤ depth s → (u : Tree) → IsR (b .k) s u → In (b .P) u

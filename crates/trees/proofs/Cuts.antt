@@ -11,6 +11,7 @@ use lib.Dec.{leb}
 use lib.ListN.{length, take, drop, getD, set, length-append, length-drop, length-set, take-append-drop, drop-of-length-le}
 use lib.Seq.{take-all as whole-take, drop-set-lt, drop-drop, take-at, drop-at, length-take-le}
 use Rattle.words.specs.Base.{if_then_else_, over}
+use Rattle.words.proofs.Tests.{is-true}
 use Rattle.figures.specs.Numbers.{done, short-output}
 use Rattle.figures.specs.Nodes.{soundNode}
 use Rattle.trees.specs.Trees.{Tree, Forest, bare, cons, count, words, wordsF, cut, cutF}
@@ -57,11 +58,6 @@ unfolding walkOf treeFrom cutOf
 cut-length s at d w v e f = subst (CutIs (cutOf s at d)) (sym e ∙ f) (cut-is at d (readTrees (drop at s) 1))
 
 -- ---- where a tree has room
-
--- A test that does not fail passes.
-is-true : (b : Bool) → (b ≡ false → ⊥) → b ≡ true
-is-true true f = refl
-is-true false f = absurd (f refl)
 
 -- A cut has at least the two words of its node.
 room-two : (d end n : ℕ) (p : Reading) → Room (rest d end 0 2 p) n → 2 ≤ n
