@@ -713,7 +713,7 @@ static void fit_teaching(struct book *book, const struct order *order)
         memset(book->at + had, 0, 2 * (book->words - had));
 }
 
-/* Takes a random part out of a book, which may then lack one of the order to be withdrawn. */
+/* Takes a random part out of a book, which may then lack one of the order to be withdrawn or judged. */
 static void lose_part(struct book *book)
 {
     unsigned section;
@@ -734,7 +734,8 @@ static void make_order_call(void)
         fit_teaching(&book, &order);
         keep = 0;
     }
-    if (call.function == WITHDRAW && book.words >= HEAD_WORDS && percent(6)) {
+    unsigned losing = call.function == WITHDRAW ? 6 : call.function == JUDGE ? 25 : 0;
+    if (book.words >= HEAD_WORDS && losing && percent(losing)) {
         lose_part(&book);
         keep = 0;
     }

@@ -22,7 +22,7 @@ enum {
     MOST_COPIES = 256,
     SIZES = 4,
     SHAPES = 3,
-    MOST_ROWS = 96,
+    MOST_ROWS = 112,
     TRIES = 400                 /* orders tried where the book is nearly as large as it should be */
 };
 
@@ -321,6 +321,8 @@ static void measure_all(struct task *task)
         for (unsigned size = 0; size < SIZES; size++) {
             fill_book(task, &dice, sizes[size]);
             measure_changes(task, "teach new", "withdraw new", sizes[size], shapes[shape]);
+            demand(plain.judge(task->book, task->slice, task->order.at, task->order.words).line != 0, "the new order passes");
+            measure_steady(add_row("judge new", sizes[size], task, shapes[shape]), batch_judge, task);
         }
     }
 }
@@ -394,14 +396,14 @@ static void print_summary(void)
 /* Prints both tables and the summary. */
 static void print_all(void)
 {
-    static const char *const by_order[] = {"teach", "withdraw", "teach new", "withdraw new", "judge"};
+    static const char *const by_order[] = {"teach", "withdraw", "teach new", "withdraw new", "judge", "judge new"};
     static const char *const by_book[] = {"open", "check", "write_file", "read_file"};
     static const char *const without_book[] = {"read_text", "write_text", "subtree"};
     printf("Least processor time of a call over %d rounds. An order that is new has codes that the book has hardly seen.\n\n", ROUNDS);
     printf("%-12s %6s %6s %12s %12s %7s\n", "function", "words", "nodes", "library ns", "C ns", "ratio");
     for (unsigned i = 0; i < 4; i++)
         print_function(by_book[i]);
-    for (unsigned i = 0; i < 5; i++)
+    for (unsigned i = 0; i < 6; i++)
         print_function(by_order[i]);
     for (unsigned i = 0; i < 3; i++)
         print_function(without_book[i]);
@@ -412,7 +414,7 @@ static void print_all(void)
     printf("\n");
     for (unsigned i = 0; i < 4; i++)
         print_growth(by_book[i], 0);
-    for (unsigned i = 0; i < 5; i++)
+    for (unsigned i = 0; i < 6; i++)
         for (unsigned shape = 0; shape < SHAPES; shape++)
             print_growth(by_order[i], shapes[shape]);
     printf("\n");

@@ -533,13 +533,25 @@ ofb_answer plain_withdraw(uint16_t *book, size_t words, const uint16_t *order, s
     return answer(OFB_DONE, 0, 0);
 }
 
-/* Judges an order by the book: its top, then line by line. */
+/* Whether a line is marked, of those from one up to another. */
+static bool any_marked(const bool *marks, unsigned from, unsigned to)
+{
+    for (unsigned i = from; i < to; i++)
+        if (marks[i])
+            return true;
+    return false;
+}
+
+/*
+ * Judges an order by the book: the lines whose part is unknown are marked, and the least marked one is told that has no marked line strictly below it. Where
+ * none is marked the top decides.
+ */
 ofb_answer plain_judge(const uint16_t *book, size_t words, const uint16_t *order, size_t order_words)
 {
     shape s;
     tree t;
     uint16_t room[MOST_ORDER];
-    bool known;
+    bool unknown[MOST_NODES], known;
     if (!size_allowed(words))
         return answer(OFB_BOOK_SIZE, 0, 0);
     if (!in_form(book, words, &s))
@@ -547,17 +559,17 @@ ofb_answer plain_judge(const uint16_t *book, size_t words, const uint16_t *order
     unsigned number = read_order(order, order_words, &t);
     if (number != OFB_DONE)
         return answer(number, 0, 0);
-    unsigned nodes = cut(&t, 0, s.k - 2, room);
-    seek(book, s.start[R], s.start[R + 1], room, nodes, &known);
-    if (!known)
-        return answer(OFB_TOP_UNKNOWN, 1, 0);
     for (unsigned node = 0; node < t.nodes; node++) {
         part p = part_of(&t, node, s.k, room);
         seek(book, s.start[p.section], s.start[p.section + 1], p.words, p.nodes, &known);
-        if (!known)
-            return answer(p.section == L ? OFB_LOW_UNKNOWN : OFB_MIDDLE_UNKNOWN, node + 1, 0);
+        unknown[node] = !known;
     }
-    return answer(OFB_DONE, 0, 0);
+    for (unsigned node = 0; node < t.nodes; node++)
+        if (unknown[node] && !any_marked(unknown, node + 1, t.end[node]))
+            return answer(t.height[node] <= s.k - 2 ? OFB_LOW_UNKNOWN : OFB_MIDDLE_UNKNOWN, node + 1, 0);
+    unsigned nodes = cut(&t, 0, s.k - 2, room);
+    seek(book, s.start[R], s.start[R + 1], room, nodes, &known);
+    return known ? answer(OFB_DONE, 0, 0) : answer(OFB_TOP_UNKNOWN, 1, 0);
 }
 
 /* Whether the book agrees with itself. */

@@ -43,9 +43,9 @@ enum {
     OFB_NO_MARK = 12,          /* the file is under 5 bytes, or does not begin with OFB */
     OFB_OTHER_VERSION = 13,    /* the file's version is not 1 */
     OFB_NO_STORED_BOOK = 14,   /* what follows in the file is not the used words of a book in form */
-    OFB_TOP_UNKNOWN = 20,      /* the order's top is not among the book's tops */
-    OFB_LOW_UNKNOWN = 21,      /* the part that this line stands for is not among the book's low parts */
-    OFB_MIDDLE_UNKNOWN = 22    /* the part that this line stands for is not among the book's middle parts */
+    OFB_TOP_UNKNOWN = 20,      /* the part of every line is in the book, but the order's top is not among its tops */
+    OFB_LOW_UNKNOWN = 21,      /* this line's part, all of its subtree, is not among the book's low parts; those of all lines below it are in the book */
+    OFB_MIDDLE_UNKNOWN = 22    /* this line's part is not among the book's middle parts; those of all lines below it are in the book */
 };
 
 /* An answer: its number; the line it speaks of, counted from 1, or 0; and how many words or bytes were written to an output that is not a book. */
@@ -64,8 +64,10 @@ ofb_answer ofb_teach(uint16_t *book, size_t words, const uint16_t *order, size_t
 ofb_answer ofb_withdraw(uint16_t *book, size_t words, const uint16_t *order, size_t order_words);
 
 /*
- * Judges an order: 0 if its top, its low parts and its middle parts are all in the book; 20 with line 1 if its top is not; and otherwise the first line
- * whose part is not, with 21 for a low part and 22 for a middle part. Refused before that by 4, 5, 1, 2, looked for in this order.
+ * Judges an order: 0 if its top, its low parts and its middle parts are all in the book. Where the part of some line is not, the line is the first one whose
+ * part is not while those of all lines below it are, the line to correct, with 21 for a low part and 22 for a middle part; below a line stand those that
+ * follow it with higher levels, up to the next line of its level or above. 20 with line 1 only where the part of every line is in the book and the top is
+ * not. Refused before that by 4, 5, 1, 2, looked for in this order.
  */
 ofb_answer ofb_judge(const uint16_t *book, size_t words, const uint16_t *order, size_t order_words);
 

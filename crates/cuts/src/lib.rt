@@ -96,7 +96,7 @@ pub fn walk_line(order: &[u16], levels: &[u8; limits::MOST_NODES], line: usize, 
 }
 
 // The word past the subtree of a line, the lines counted from 0, by the levels of the order's lines.
-fn line_end(order: &[u16], levels: &[u8; limits::MOST_NODES], line: usize) -> usize
+pub fn line_end(order: &[u16], levels: &[u8; limits::MOST_NODES], line: usize) -> usize
     requires { ⌜ causeOf (now order) ≡ done ⌝ }
     requires { ⌜ LinesLevelled (now order) (now levels) ⌝ }
     requires { ⌜ line < length (now order) / 2 ⌝ }

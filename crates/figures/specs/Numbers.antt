@@ -61,14 +61,14 @@ other-version = 13
 abbrev pub no-stored-book : ℕ
 no-stored-book = 14
 
--- judged: the order's top is not in the book
+-- judged: the order's top is not in the book, though every part of it is
 abbrev pub top-unknown : ℕ
 top-unknown = 20
 
--- judged: a low part is not in the book
+-- judged: the low part of the line to fix is not in the book
 abbrev pub low-unknown : ℕ
 low-unknown = 21
 
--- judged: a middle part is not in the book
+-- judged: the middle part of the line to fix is not in the book
 abbrev pub middle-unknown : ℕ
 middle-unknown = 22

@@ -45,11 +45,11 @@ pub const OTHER_VERSION: u16 = 13;
 // stored: the rest is not the used words of a book in form
 pub const NO_STORED_BOOK: u16 = 14;
 
-// judged: the order's top is not in the book
+// judged: the order's top is not in the book, though every part of it is
 pub const TOP_UNKNOWN: u16 = 20;
 
-// judged: a low part is not in the book
+// judged: the low part of the line to fix is not in the book
 pub const LOW_UNKNOWN: u16 = 21;
 
-// judged: a middle part is not in the book
+// judged: the middle part of the line to fix is not in the book
 pub const MIDDLE_UNKNOWN: u16 = 22;

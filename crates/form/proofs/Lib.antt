@@ -5,6 +5,7 @@ pub mod Spelling
 pub mod Steps
 pub mod Counts
 pub mod TreeLines
+pub mod LinesBelow
 pub mod Children
 pub mod Digits
 pub mod Unique

@@ -39,12 +39,12 @@ kids (cons (node c g) f) l r o =
     (ap suc (skipF g l (suc (suc l)) (linesF f (suc l) ++ r) (omega arith) ∙ kids f l r o))
 
 -- What is low enough for a level is so for the next deeper one.
-deeper : (l : ℕ) (r : List Line) → NoDeeper l r → NoDeeper (suc l) r
+pub deeper : (l : ℕ) (r : List Line) → NoDeeper l r → NoDeeper (suc l) r
 deeper l [] o = no-more
 deeper l (x ∷ r) (back-up h) = let k : x .level ≤ suc l = omega arith in back-up k
 
 -- The trees of a row at level l, put before what is low enough, are low enough.
-row-low : (f : Forest) (l : ℕ) (r : List Line) → NoDeeper l r → NoDeeper l (linesF f l ++ r)
+pub row-low : (f : Forest) (l : ℕ) (r : List Line) → NoDeeper l r → NoDeeper l (linesF f l ++ r)
 unfolding linesOf
 row-low bare l r o = o
 row-low (cons (node c g) f) l r o = let k : l ≤ l = omega arith in back-up k
@@ -75,7 +75,7 @@ mutual
   pub lines-count : (t : Tree) (l : ℕ) → length (linesOf t l) ≡ length (subtrees t)
   lines-count (node c f) l = ap suc (row-count f (suc l))
 
-  row-count : (f : Forest) (l : ℕ) → length (linesF f l) ≡ length (subtreesF f)
+  pub row-count : (f : Forest) (l : ℕ) → length (linesF f l) ≡ length (subtreesF f)
   row-count bare l = refl
   row-count (cons t f) l = omega (arith, lines-count t l, row-count f l, length-append (linesOf t l) (linesF f l), length-append (subtrees t) (subtreesF f))
 

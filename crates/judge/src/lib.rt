@@ -11,7 +11,7 @@ ghost use Rattle.trees.specs.Levels.{LinesLevelled};
 ghost use Rattle.book.specs.Decoding.{bookIn};
 ghost use Rattle.book.specs.Holding.{Holds};
 ghost use Rattle.verdicts.specs.Judging.{judgeOf};
-ghost use Rattle.verdicts.specs.Seeking.{topKnown, lineUnknown, speltIn, keyOf, Seeks, lineAnswer};
+ghost use Rattle.verdicts.specs.Seeking.{topKnown, unknownWithin, lineToFix, speltIn, keyOf, Seeks, lineAnswer};
 use book::BookForm;
 use book::Places;
 use figures::Answer;
@@ -104,23 +104,26 @@ fn against(tree: &[u16], part: Sought, order: &[u16], cut: &[u16]) -> Compared
     words::compare(tree, &cut[from..to])
 }
 
-// The first line whose part is unknown, counted from 1; 0 where every part is known.
+// The first line whose part is unknown, of the lines from `from` up to `to`, both counted from 0. It is counted from 1, and is 0 where every part is
+// known.
 fn first_unknown(
     book: &[u16],
     places: Places,
     order: &[u16],
     levels: &[u8; limits::MOST_NODES],
+    from: usize,
+    to: usize,
 ) -> usize
     requires { ⌜ Holds (now book) places ⌝ }
     requires { ⌜ causeOf (now order) ≡ done ⌝ }
+    requires { ⌜ (from ≤ to) × (to ≤ length (now order) / 2) ⌝ }
     requires { ⌜ LinesLevelled (now order) (now levels) × (length (now levels) ≡ most-nodes) ⌝ }
-    ensures { λ r. ⌜ r ≡ lineUnknown (bookIn (now (book .entry))) (now (order .entry)) ⌝ }
+    ensures { λ r. ⌜ r ≡ unknownWithin (bookIn (now (book .entry))) (now (order .entry)) from to ⌝ }
 {
     let mut cut = [0u16; limits::MOST_WORDS];
-    let lines = order.len() / 2;
-    let mut line: usize = 0;
+    let mut line = from;
     'lines: loop {
-        if lines <= line {
+        if to <= line {
             break 'lines 0;
         }
         let part = seek(book, places, order, levels, line, &mut cut);
@@ -143,16 +146,40 @@ fn first_unknown(
     }
 }
 
-// The answer for the first unknown line: 21 or 22 by the depth of its uncut subtree; 0 for line 0.
+// The line to fix, counted from 1; 0 where every part is known. It is the first unknown line if all below it are known, and otherwise the one to fix
+// among those: each line is looked up at most once.
+fn line_to_fix(
+    book: &[u16],
+    places: Places,
+    order: &[u16],
+    levels: &[u8; limits::MOST_NODES],
+) -> usize
+    requires { ⌜ Holds (now book) places ⌝ }
+    requires { ⌜ causeOf (now order) ≡ done ⌝ }
+    requires { ⌜ LinesLevelled (now order) (now levels) × (length (now levels) ≡ most-nodes) ⌝ }
+    ensures { λ r. ⌜ r ≡ lineToFix (bookIn (now (book .entry))) (now (order .entry)) ⌝ }
+{
+    let mut found: usize = 0;
+    let mut from: usize = 0;
+    let mut to = order.len() / 2;
+    loop {
+        let line = first_unknown(book, places, order, levels, from, to);
+        if line == 0 {
+            return found;
+        }
+        found = line;
+        from = line;
+        to = cuts::line_end(order, levels, line - 1) / 2;
+    }
+}
+
+// The answer for the line to fix, counted from 1: 21 or 22 by the depth of its uncut subtree.
 fn line_answer(order: &[u16], levels: &[u8; limits::MOST_NODES], k: Depth, line: usize) -> Answer
     requires { ⌜ causeOf (now order) ≡ done ⌝ }
-    requires { ⌜ line ≤ length (now order) / 2 ⌝ }
+    requires { ⌜ (0 < line) × (line ≤ length (now order) / 2) ⌝ }
     requires { ⌜ LinesLevelled (now order) (now levels) × (length (now levels) ≡ most-nodes) ⌝ }
     ensures { λ r. ⌜ r ≡ lineAnswer (k .k) (now (order .entry)) line ⌝ }
 {
-    if line == 0 {
-        return answered(numbers::DONE);
-    }
     let number = match parts::part_line(order, levels, line - 1, k) {
         // Not met by a line of an order, which has a part.
         PartAt::NoPart => numbers::LOW_UNKNOWN,
@@ -172,14 +199,17 @@ fn judge_order(book: &[u16], places: Places, order: &[u16]) -> Answer
     if cause != numbers::DONE {
         return answered(cause);
     }
+    let line = line_to_fix(book, places, order, &levels);
+    if line != 0 {
+        return line_answer(order, &levels, places.k, line);
+    }
     if !top_known(book, places, order, &levels) {
         return Answer {
             number: numbers::TOP_UNKNOWN,
             line: 1,
         };
     }
-    let line = first_unknown(book, places, order, &levels);
-    line_answer(order, &levels, places.k, line)
+    answered(numbers::DONE)
 }
 
 // Judges an order: 4, 5, 1, 2, or 0 if its top, its low parts and its middle parts are all in the book, and otherwise 20, 21 or 22 with a line.

@@ -37,7 +37,9 @@ use Rattle.book.specs.declared.BookForm.the-variants.{Refused}
 use Rattle.book.proofs.Meaning.{used-fits}
 use Rattle.book.proofs.Holding.{refused-book}
 use Rattle.book.proofs.Sound.{on-any, why-is}
-use Rattle.verdicts.specs.Judging.{knows, firstUnknown, verdict, judgeOf}
+use Rattle.verdicts.specs.Judging.{Doubt, no-doubt, doubt, leastToFix, verdictOn, verdict, judgeOf}
+use Rattle.verdicts.specs.Seeking.{doubtLine}
+use Rattle.verdicts.proofs.Fixes.{doubt-within}
 use Rattle.book.specs.Checking.{checkOf}
 use Rattle.files.specs.Files.{front-bytes, fileOf, writeFileOf, storedIn, readBookOf, readRestOf, isMarked, readFileOf}
 use Rattle.files.proofs.Writing.{file-long}
@@ -108,18 +110,15 @@ check-line ws = by-book (λ (a : Answer). a .line ≡ 0) ws answered _ (λ n. re
 
 -- ---- verdicts
 
--- The first unknown line of subtrees is one of theirs, or 0.
-unknown-line : (b : Book) (line : ℕ) (ss : List Tree) → firstUnknown b (suc line) ss .line ≤ line + length ss
-unfolding firstUnknown
-unknown-line b line [] = omega arith
-unknown-line b line (s ∷ ss) =
-    either-way (λ (a : Answer). a .line ≤ line + length (s ∷ ss)) (knows b s) _ _ (omega (arith, unknown-line b (suc line) ss)) (omega arith)
-
 -- The line of a verdict on an order of at most 64 lines is 64 at most.
 verdict-line : (b : Book) (t : Tree) → length (subtrees t) ≤ most-nodes → verdict b t .line ≤ most-nodes
-unfolding verdict
-verdict-line b t few =
-    either-way (λ (a : Answer). a .line ≤ most-nodes) (has (words (top (b .k) t)) (b .R)) _ _ (omega (arith, unknown-line b 0 (subtrees t))) (omega arith)
+unfolding verdict verdictOn doubtLine
+verdict-line b t few = go (leastToFix b 1 (subtrees t)) (doubt-within b 0 (subtrees t))
+  where
+    -- By the line that is doubted.
+    go : (d : Doubt) → doubtLine d ≤ 0 + length (subtrees t) → verdictOn b t d .line ≤ most-nodes
+    go no-doubt h = either-way (λ (a : Answer). a .line ≤ most-nodes) (has (words (top (b .k) t)) (b .R)) _ _ (omega arith) (omega arith)
+    go (doubt line s) h = omega arith
 
 -- Judging: line 64 at most.
 pub judge-line-most : (ws os : List ℕ) → judgeOf ws os .line ≤ most-nodes

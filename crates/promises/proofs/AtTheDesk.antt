@@ -4,7 +4,7 @@
 -- form is answered by another number than 0, 2 and 10, below T 6, below W 8, and below J 20, 21 and 22. By a fault its line is all that is printed.
 --
 -- The orders that remain are those of demand 3, by the calls that the forms make (`madeBy`, specs/AtTheDesk.antt). Assumes nothing.
-use Prim.Native.Nat.{ℕ, suc, _+_, _≤_, _<_}
+use Prim.Native.Nat.{ℕ, _+_, _≤_, _<_}
 use mathlib.Core.Path.{_≡_, refl, sym, ap, ap₂, subst, _∙_}
 use mathlib.Core.Bool.{Bool, true, false}
 use mathlib.Core.List.{List, [], _∷_, _++_, append-nil}
@@ -29,7 +29,7 @@ use Rattle.book.specs.Opening.{outcome, openOf}
 use Rattle.book.specs.Taught.{bookOf}
 use Rattle.book.proofs.Sound.{head-says}
 use Rattle.book.proofs.Openings.{opened-book, opened-used}
-use Rattle.verdicts.specs.Judging.{knows, firstUnknown, verdict, judgeOf}
+use Rattle.verdicts.specs.Judging.{Doubt, no-doubt, doubt, leastToFix, verdictOn, verdict, judgeOf}
 use Rattle.verdicts.proofs.Judgements.{by-verdict}
 use Rattle.effects.specs.Calls.{teachOf, withdrawOf}
 use Rattle.effects.specs.Conditions.{_exactly-when_}
@@ -69,28 +69,25 @@ blank-long = length-replicate {A = ℕ} desk-book-words 0
 
 -- ---- verdicts
 
--- The first unknown part is answered by 21 or 22, and where there is none the answer is 0.
-unknown-number : (b : Book) (line : ℕ) (ss : List Tree) → DeskNumber Judge (firstUnknown b line ss .number)
-unfolding firstUnknown if_then_else_
-unknown-number b line [] = is-done refl
-unknown-number b line (s ∷ ss) = go (knows b s) (isLow (b .k) s) (firstUnknown b (suc line) ss) (unknown-number b (suc line) ss)
-  where
-    -- By whether the part is known and low.
-    go : (x y : Bool) (a : Answer) → DeskNumber Judge (a .number)
-        → DeskNumber Judge ((if x then a else record { number = if y then low-unknown else middle-unknown; line = line }) .number)
-    go true y a n = n
-    go false true a n = is-low refl refl
-    go false false a n = is-middle refl refl
-
 -- A verdict is 0, 20, 21 or 22.
 verdict-number : (b : Book) (t : Tree) → DeskNumber Judge (verdict b t .number)
-unfolding verdict if_then_else_
-verdict-number b t = go (has (words (top (b .k) t)) (b .R)) (firstUnknown b 1 (subtrees t)) (unknown-number b 1 (subtrees t))
+unfolding verdict verdictOn if_then_else_
+verdict-number b t = go (leastToFix b 1 (subtrees t))
   where
     -- By whether the top is known.
-    go : (x : Bool) (a : Answer) → DeskNumber Judge (a .number) → DeskNumber Judge ((if x then a else record { number = top-unknown; line = 1 }) .number)
-    go true a n = n
-    go false a n = is-top refl refl
+    tops : (x : Bool) → DeskNumber Judge ((if x then answered done else record { number = top-unknown; line = 1 }) .number)
+    tops true = is-done refl
+    tops false = is-top refl refl
+
+    -- By whether the part is low.
+    parts : (x : Bool) → DeskNumber Judge (if x then low-unknown else middle-unknown)
+    parts true = is-low refl refl
+    parts false = is-middle refl refl
+
+    -- By the line that is doubted.
+    go : (d : Doubt) → DeskNumber Judge (verdictOn b t d .number)
+    go no-doubt = tops (has (words (top (b .k) t)) (b .R))
+    go (doubt line s) = parts (isLow (b .k) s)
 
 -- ---- faults and refusals
 

@@ -1,22 +1,23 @@
--- The twelve numbered cases of 01 ("Forms on the desk"), computed as one table over the definitions that the contracts cite; and case 11 for any
--- order. Assumes nothing.
+-- The twelve numbered cases of 01 ("Forms on the desk"), case 11 as 02 changes it, computed as one table over the definitions that the contracts cite; and
+-- case 11 for any order. Assumes nothing.
 use Prim.Native.Nat.{ℕ, _≤_}
-use mathlib.Core.Path.{_≡_, refl}
-use mathlib.Core.List.{List, [], _∷_, _++_, List·Memᴰ·not-nil}
+use mathlib.Core.Path.{_≡_, refl, _∙_}
+use mathlib.Core.List.{List, [], _∷_, _++_}
 use lib.ListN.{length}
 use Rattle.figures.specs.Limits.{head-words, most-book-words, least-k, greatest-k}
-use Rattle.figures.specs.Numbers.{top-unknown}
+use Rattle.figures.specs.Numbers.{low-unknown}
 use Rattle.trees.specs.Trees.{Tree}
 use Rattle.trees.specs.Fits.{IsOrder}
+use Rattle.trees.proofs.Fitting.{order-read}
 use Rattle.form.specs.Reading.{readOf}
 use Rattle.book.specs.Taught.{bookOf}
 use Rattle.book.specs.Opening.{openOf}
-use Rattle.verdicts.specs.Judging.{judgeOf}
-use Rattle.verdicts.specs.Verdicts.{In}
-use Rattle.verdicts.proofs.Answers.{top-answered}
 use Rattle.book.proofs.Openings.{opened-book}
-use Rattle.promises.specs.Heard.{A, B, C, single, pair, three, opens, teaches, withdraws, judges, slice, heard, readAs}
+use Rattle.verdicts.specs.Judging.{judgeOf}
+use Rattle.verdicts.proofs.Judgements.{by-verdict}
+use Rattle.promises.specs.Heard.{A, B, C, single, pair, three, firstLeaf, opens, teaches, withdraws, judges, slice, heard, readAs}
 use Rattle.promises.proofs.Computed.{computes}
+use Rattle.promises.proofs.FirstLeaf.{leaf-verdict}
 
 -- What the definitions say: of each call "answer, line, words used", and of a text that is read answer, line, words written and the output.
 -- Each slice has no word more than it needs.
@@ -34,7 +35,7 @@ outcomes =
     ∷ readAs (readOf (48 ∷ 32 ∷ 48 ∷ 48 ∷ 65 ∷ 48 ∷ 10 ∷ []) (9 ∷ 9 ∷ []))
     ∷ []))))))))
 
--- What 01 says.
+-- What 01 says, and of case 11 02: "case 6 still answers line 1, case 9 too, case 11 now answers 21 at its first leaf".
 unfoldable pub table : List (List ℕ)
 table =
     -- 1. "Opened, k=3: 7 words used."
@@ -71,9 +72,9 @@ table =
     ∷ (0 ∷ 0 ∷ 27 ∷ [])
     ∷ (0 ∷ 0 ∷ 27 ∷ [])
     ∷ (0 ∷ 0 ∷ 27 ∷ [])
-    -- 11. "Empty book: any order within limits, 20, line 1." Here A; below any.
+    -- 11. "Empty book: any order within limits": 21 at its first leaf. Here A; below any.
     ∷ (0 ∷ 0 ∷ 7 ∷ [])
-    ∷ (20 ∷ 1 ∷ 7 ∷ [])
+    ∷ (21 ∷ 3 ∷ 7 ∷ [])
     -- 12. "Text "0 0010" LF is code ten"
     ∷ (0 ∷ 0 ∷ 2 ∷ 10 ∷ 0 ∷ [])
     -- 12. ""0 00A0" LF is 10, line 1."
@@ -85,17 +86,9 @@ pub cases : outcomes ≡ table
 unfolding outcomes table computes
 cases = refl
 
--- Nothing is in the R of the book of no orders.
-none-in : (k : ℕ) (u : Tree) → In (bookOf k [] .R) u → ⊥
-unfolding bookOf
-none-in k u i = List·Memᴰ·not-nil (i .there)
-
--- Case 11: "Empty book: any order within limits, 20, line 1", of any allowed k and size.
+-- Case 11 for every order, k and slice: "case 11 now answers 21 at its first leaf".
 pub case-11 : (slice : List ℕ) (k : ℕ) → head-words ≤ length slice → length slice ≤ most-book-words → least-k ≤ k → k ≤ greatest-k
-    → (os : List ℕ) (t : Tree) → IsOrder os t → judgeOf (openOf slice k .words) os ≡ record { number = top-unknown; line = 1 }
+    → (os : List ℕ) (t : Tree) → IsOrder os t → judgeOf (openOf slice k .words) os ≡ record { number = low-unknown; line = firstLeaf t }
+unfolding bookOf
 case-11 slice k long short least greatest os t o =
-    top-answered _ os 1 (record {
-      lent = record { book = bookOf k []; tree = t; isBook = opened-book slice k long short least greatest; isOrder = o };
-      first = refl;
-      unknown = λ u r i. none-in k u i;
-    })
+    by-verdict _ os (bookOf k []) (opened-book slice k long short least greatest) t (order-read os t o) ∙ leaf-verdict (bookOf k []) refl refl t

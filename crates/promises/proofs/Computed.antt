@@ -4,7 +4,7 @@ use Rattle.words.specs.Base.{_and_, if_then_else_, sameWords, keep}
 use Rattle.words.specs.Compare.{compareOf, before}
 use Rattle.section.specs.Entries.{sectionWords, entries, span, has, total, add, lower}
 use Rattle.changes.specs.Editing.{fitting}
-use Rattle.trees.specs.Trees.{count, words, depth, cut, subtrees}
+use Rattle.trees.specs.Trees.{count, words, depth, cut, subtrees, below}
 use Rattle.figures.specs.Nodes.{soundNode}
 use Rattle.trees.specs.Reading.{firstTrees, laterTrees, nodeOver, readTrees, byFound, only, treeOf, byOrder, withinDepth, orderOf}
 use Rattle.trees.specs.Parts.{top, isLow, lows, middle, isMiddle, middles, sameTree, eachOnce, lowParts, middleParts}
@@ -15,7 +15,7 @@ use Rattle.book.specs.Book.{sectionOf, body, used, live, encode, lay, entryInFo
 use Rattle.book.specs.Decoding.{topsAt, lowsAt, middlesAt, bookIn, formed, decode, byBook, sized, onBook}
 use Rattle.book.specs.Taught.{addEach, taught, bookOf, teachingsIn, sameSection, agreeing}
 use Rattle.book.specs.Opening.{openOf}
-use Rattle.verdicts.specs.Judging.{knows, firstUnknown, verdict, judgeOf}
+use Rattle.verdicts.specs.Judging.{knows, knowsEach, toFix, leastToFix, verdictOn, verdict, judgeOf}
 use Rattle.effects.specs.Calls.{onOrder, withinCounts, teachTree, teachOf, lowerEach, withdrawn, hasEach, hasParts, withdrawTree, withdrawOf}
 use Rattle.book.specs.Checking.{checkOf}
 use Rattle.form.specs.Text.{linesOf, levelText, codeText, lineText, spell, textOf}
@@ -29,8 +29,8 @@ unfolding _and_ if_then_else_ sameWords keep compareOf before count words depth 
     byFound only treeOf byOrder withinDepth orderOf top isLow lows middle isMiddle middles sameTree eachOnce lowParts middleParts fitsOf sectionWords
     entries span has total add lower fitting sectionOf body used live encode lay entryInForm ascendingFrom sectionInForm inForm topsAt lowsAt
     middlesAt bookIn formed decode byBook sized onBook addEach taught bookOf teachingsIn sameSection agreeing openOf onOrder withinCounts teachTree
-    teachOf lowerEach withdrawn hasEach hasParts withdrawTree withdrawOf computed heard knows firstUnknown verdict judgeOf write isDigit value isCode
-    codeBehind speltOf byLine allowed siblings lineOf byForm readLines formOf children wordsOf readOf checkOf
+    teachOf lowerEach withdrawn hasEach hasParts withdrawTree withdrawOf computed heard knows knowsEach below toFix leastToFix verdictOn verdict judgeOf
+    write isDigit value isCode codeBehind speltOf byLine allowed siblings lineOf byForm readLines formOf children wordsOf readOf checkOf
 computes = 0
 
 -- Opens those of the desk besides: what is handed in, the text of an order, and the lines that are printed.

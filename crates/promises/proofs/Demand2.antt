@@ -15,10 +15,11 @@ use Rattle.figures.specs.Limits.{least-code, greatest-code, most-nodes, used-wo
 use Rattle.figures.specs.Numbers.{done, no-form, top-unknown, low-unknown}
 use Rattle.figures.specs.Answers.{answered, wrote, refusedAt}
 use Rattle.figures.specs.declared.Answer.{Answer}
-use Rattle.trees.specs.Trees.{Tree, node, Good, subtrees}
+use Rattle.trees.specs.Trees.{Tree, node, Good, subtrees, below}
 use Rattle.trees.specs.Fits.{IsOrder}
-use Rattle.trees.specs.Paper.{IsR}
-use Rattle.trees.specs.Answers.{writing, write}
+use Rattle.trees.specs.Paper.{StrictlyBelow, IsR}
+use Rattle.trees.specs.Reading.{found}
+use Rattle.trees.specs.Answers.{lineOf, writing, write}
 use Rattle.trees.proofs.Cutting.{subtree-good}
 use Rattle.trees.proofs.Fitting.{order-read}
 use Rattle.form.specs.Text.{Line, digit-0, space, line-feed, code-size, linesOf, levelText, codeText, lineText, spell, textOf}
@@ -43,9 +44,9 @@ use Rattle.verdicts.proofs.Answers.{answered-passes, passes-answered}
 use Rattle.effects.specs.Conditions.{_exactly-when_}
 use Rattle.files.specs.Files.{front-bytes, fileOf, writeFileOf, readFileOf}
 use Rattle.promises.specs.Agreement.{Agrees}
-use Rattle.promises.specs.Forms.{LevelInTens, InTens, Stands, ComesBack, LeastUnknown}
-use Rattle.promises.proofs.FormLines.{level-tens, tens-level, tens-most}
-use Rattle.promises.proofs.LineNumbers.{unpassed, least-unknown, unknown-top}
+use Rattle.promises.specs.Forms.{LevelInTens, InTens, Stands, ComesBack, LinesBelow, PartKnown, NoLineUnknown, LineWanted, Told}
+use Rattle.promises.proofs.FormLines.{level-tens, tens-level, tens-most, lines-below, below-by-lines}
+use Rattle.promises.proofs.LineNumbers.{unpassed, told, wanted-told, unknown-told, unknown-top}
 use Rattle.promises.proofs.FileWhys.{agrees-filed}
 use Rattle.promises.proofs.FileTrips.{file-back, filed-back, filed-bytes, read-back-filed, read-alike}
 use Rattle.promises.proofs.Refusals.{write-writes}
@@ -67,15 +68,32 @@ passing-line ws os e = passes-answered ws os (answered-passes ws os e)
 pub comes-back : (ws os : List ℕ) (b : Book) (t : Tree) → IsBook ws b → IsOrder os t → (judgeOf ws os .number ≡ done → ⊥) → ComesBack t (judgeOf ws os)
 comes-back ws os b t = unpassed ws os b t
 
--- "otherwise the least line whose subtree's part is unknown, 21 or 22 by its depth": of a verdict of 21 or 22 the top is known, the line's part is not, and
--- each line before it has a part that is known.
-pub least-line : (ws os : List ℕ) (b : Book) (t : Tree) → IsBook ws b → IsOrder os t → low-unknown ≤ judgeOf ws os .number → LeastUnknown b t (judgeOf ws os)
-least-line = least-unknown
+-- "The line wanted is the least one whose part is unknown while nothing strictly below it is unknown. Answer 20 is given only when no line is unknown." A
+-- line that is told with 21 or 22 is unknown, nothing strictly below it is, and no smaller line is like that; with 20 every line is known; and an order
+-- that does not pass is never answered by 0.
+pub doubted-least : (ws os : List ℕ) (b : Book) (t : Tree) → IsBook ws b → IsOrder os t → Told b t (judgeOf ws os)
+doubted-least = told
 
--- "20 with line 1 if the top is unknown", and only then.
+-- And the line wanted is told, with its number and no other,
+pub wanted-only : (ws os : List ℕ) (b : Book) (t : Tree) → IsBook ws b → IsOrder os t → (a : Answer) → LineWanted b t a → judgeOf ws os ≡ a
+wanted-only = wanted-told
+
+-- so that an order with an unknown line, wherever it stands, is told one by 21 or 22.
+pub unknown-line-told : (ws os : List ℕ) (b : Book) (t : Tree) → IsBook ws b → IsOrder os t
+    → (line : ℕ) (s : Tree) → lineOf line (subtrees t) ≡ found s → (PartKnown b s → ⊥) → low-unknown ≤ judgeOf ws os .number
+unknown-line-told = unknown-told
+
+-- "Answer 20 is given only when no line is unknown", and then exactly if the top is unknown; "whose line stays 1".
 pub top-line : (ws os : List ℕ) (b : Book) (t : Tree) → IsBook ws b → IsOrder os t
-    → (judgeOf ws os ≡ record { number = top-unknown; line = 1 }) exactly-when ((u : Tree) → IsR (b .k - 1) t u → In (b .R) u → ⊥)
+    → (judgeOf ws os ≡ record { number = top-unknown; line = 1 }) exactly-when (NoLineUnknown b t × ((u : Tree) → IsR (b .k - 1) t u → In (b .R) u → ⊥))
 top-line = unknown-top
+
+-- "strictly below": the trees strictly below a line's subtree are those of the lines of the form that stand below the line, and these are the lines that follow
+-- it with higher levels, up to the next line of its level or above; no other line, however late it stands.
+pub below-in-the-form : (t s : Tree) (line : ℕ) → lineOf line (subtrees t) ≡ found s
+    → LinesBelow (linesOf t 0) line (length (below s))
+    × ((u : Tree) → StrictlyBelow s u exactly-when (j : ℕ) × (line < j) × (j ≤ line + length (below s)) × (lineOf j (subtrees t) ≡ found u))
+below-in-the-form t s line q = (lines-below t s line q, λ u. below-by-lines t s u line q)
 
 -- ---- "Codes are read as decimal.", and so are levels
 

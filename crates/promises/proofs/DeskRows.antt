@@ -191,17 +191,17 @@ says-K = 75 ∷ 32 ∷ 48 ∷ 32 ∷ 48 ∷ 32 ∷ 55 ∷ 10 ∷ []
 abbrev says-T : List ℕ
 says-T = 84 ∷ 32 ∷ 48 ∷ 32 ∷ 48 ∷ 32 ∷ 53 ∷ 57 ∷ 10 ∷ []
 
--- "J 22 1 59" LF
+-- "J 21 3 59" LF
 abbrev says-J-D : List ℕ
-says-J-D = 74 ∷ 32 ∷ 50 ∷ 50 ∷ 32 ∷ 49 ∷ 32 ∷ 53 ∷ 57 ∷ 10 ∷ []
+says-J-D = 74 ∷ 32 ∷ 50 ∷ 49 ∷ 32 ∷ 51 ∷ 32 ∷ 53 ∷ 57 ∷ 10 ∷ []
 
 -- "W 0 0 7" LF
 abbrev says-W : List ℕ
 says-W = 87 ∷ 32 ∷ 48 ∷ 32 ∷ 48 ∷ 32 ∷ 55 ∷ 10 ∷ []
 
--- "J 20 1 7" LF
+-- "J 21 3 7" LF
 abbrev says-J-A : List ℕ
-says-J-A = 74 ∷ 32 ∷ 50 ∷ 48 ∷ 32 ∷ 49 ∷ 32 ∷ 55 ∷ 10 ∷ []
+says-J-A = 74 ∷ 32 ∷ 50 ∷ 49 ∷ 32 ∷ 51 ∷ 32 ∷ 55 ∷ 10 ∷ []
 
 -- "prints exactly": these five lines.
 abbrev printedOutput : List ℕ
@@ -221,18 +221,18 @@ books : (orderOf (words A) ≡ order A) × (orderOf (words D) ≡ order D) × (i
 unfolding computes
 books = (refl, refl, refl, refl, refl, refl)
 
--- What the calls need and give: A is within the counts; it and its parts are in the book of A, and withdrawing it leaves the empty book; D has a middle
--- part on line 1 that is not in the book of A, and the top of A is not in the empty book.
+-- What the calls need and give: A is within the counts; it and its parts are in the book of A, and withdrawing it leaves the empty book; D has a low
+-- part on line 3 that is not in the book of A, and so has A in the empty book.
 steps : (withinCounts bookA ≡ true) × (has (words A) (bookA .T) ≡ true) × (hasParts A bookA ≡ true) × (withdrawn A bookA ≡ bookNone)
-    × (verdict bookA D ≡ record { number = 22; line = 1 }) × (verdict bookNone A ≡ record { number = 20; line = 1 })
+    × (verdict bookA D ≡ record { number = 21; line = 3 }) × (verdict bookNone A ≡ record { number = 21; line = 3 })
 unfolding computes
 steps = (refl, refl, refl, refl, refl, refl)
 
 -- The lines of the four calls, by letter, answer and words used.
 said : (reply (letterByte Teach) (answered done) (used bookA) ≡ says-T)
-    × (reply (letterByte Judge) (record { number = 22; line = 1 }) (used bookA) ≡ says-J-D)
+    × (reply (letterByte Judge) (record { number = 21; line = 3 }) (used bookA) ≡ says-J-D)
     × (reply (letterByte Withdraw) (answered done) (used bookNone) ≡ says-W)
-    × (reply (letterByte Judge) (record { number = 20; line = 1 }) (used bookNone) ≡ says-J-A)
+    × (reply (letterByte Judge) (record { number = 21; line = 3 }) (used bookNone) ≡ says-J-A)
     × (reply letter-K (answered done) head-words ≡ says-K)
 unfolding desk-computes
 said = (refl, refl, refl, refl, refl)

@@ -1,21 +1,30 @@
 -- The lines of an order's form: each stands in its text behind as many LF as there are lines before it, with the code at the top of the subtree of the
--- same line; its level is in tens, and so are two digits that are read as one. Assumes nothing.
-use Prim.Native.Nat.{ℕ, zero, suc, _+_, _/_, _%_, _≤_}
+-- same line; its level is in tens, and so are two digits that are read as one; and the lines below it are those of what stands strictly below that subtree.
+-- Assumes nothing.
+use Prim.Native.Nat.{ℕ, zero, suc, _+_, _-_, _/_, _%_, _≤_, _<_}
 use mathlib.Core.Path.{_≡_, refl, sym, ap, ap₂, _∙_}
-use mathlib.Core.List.{List, [], _∷_, _++_, map}
+use mathlib.Core.List.{List, [], _∷_, _++_, append-nil, map}
 use native.Mathlib.Decide.{decLt}
 use native.Mathlib.Omega.{arith}
-use lib.ListN.{length, getD}
-use Rattle.trees.specs.Trees.{Tree, node, words, subtrees}
+use lib.ListN.{length, getD, take, drop, take-append-drop}
+use lib.Seq.{length-take-le}
+use Rattle.trees.specs.Trees.{Tree, node, words, subtrees, below}
 use Rattle.trees.specs.Reading.{found, missing}
 use Rattle.trees.specs.Answers.{treeAt, lineOf}
-use Rattle.form.specs.Text.{Line, digit-0, digit, levelText, codeText, lineText, spell, linesOf, textOf}
-use Rattle.form.specs.Faults.{greatest-level}
+use Rattle.trees.specs.Paper.{StrictlyBelow}
+use Rattle.trees.proofs.Reading.{not-found}
+use Rattle.trees.proofs.Paper.{below-from, below-to}
+use Rattle.trees.proofs.Lines.{place-within}
+use Rattle.trees.proofs.Below.{below-line, line-below}
+use Rattle.form.specs.Text.{Line, digit-0, digit, levelText, codeText, lineText, spell, linesOf, linesF, textOf}
+use Rattle.form.specs.Faults.{greatest-level, no-more}
 use Rattle.form.proofs.LineBytes.{one-digit, two-digits, spell-append}
-use Rattle.form.proofs.TreeLines.{codes, topCode, lines-subtrees}
+use Rattle.form.proofs.TreeLines.{codes, topCode, lines-subtrees, lines-count, row-count}
+use Rattle.form.proofs.LinesBelow.{TreeFirst, tree-first, row-above}
+use Rattle.effects.specs.Conditions.{_exactly-when_}
 use Rattle.calls.specs.Lines.{feeds}
 use Rattle.calls.proofs.Lines.{no-feed, feeds-append, feeds-none, one-feed}
-use Rattle.promises.specs.Forms.{LevelInTens, one-figure, two-figures, LineOfText}
+use Rattle.promises.specs.Forms.{LevelInTens, one-figure, two-figures, LineOfText, LinesBelow}
 
 -- ---- levels
 
@@ -128,3 +137,51 @@ line-of-subtree t (suc i) s q =
       },
       a .code ∙ top-first s,
     )
+
+-- ---- the lines below a line
+
+-- As many lines of a form stand below a line as trees strictly below its subtree.
+pub lines-below : (t s : Tree) (line : ℕ) → lineOf line (subtrees t) ≡ found s → LinesBelow (linesOf t 0) line (length (below s))
+unfolding lineOf linesOf below
+lines-below t s zero q = not-found q
+lines-below t s (suc i) q = go s (tree-first t 0 [] no-more i s q)
+  where
+    -- The form has more lines than stand before this one.
+    within : i < length (linesOf t 0)
+    within = omega (arith, place-within (subtrees t) i s q, lines-count t 0)
+
+    -- By the subtree's own lines.
+    go : (u : Tree) → TreeFirst u (drop i (linesOf t 0 ++ [])) → LinesBelow (linesOf t 0) (suc i) (length (below u))
+    go (node c f) T = record {
+      before = take i (linesOf t 0);
+      this = record { level = T .level; code = c };
+      below = linesF f (suc (T .level));
+      behind = T .rest;
+      form-is = sym (take-append-drop i (linesOf t 0)) ∙ ap (λ (xs : List Line). take i (linesOf t 0) ++ xs) (sym (ap (drop i) (append-nil (linesOf t 0))) ∙ T .is);
+      place = ap suc (sym (length-take-le i (linesOf t 0) (omega (arith, within))));
+      many = sym (row-count f (suc (T .level)));
+      deeper = row-above f (T .level) (suc (T .level)) (omega arith);
+      ends = T .ends;
+    }
+
+-- The trees strictly below a line's subtree are those of the lines below it.
+pub below-by-lines : (t s u : Tree) (line : ℕ) → lineOf line (subtrees t) ≡ found s
+    → StrictlyBelow s u exactly-when (j : ℕ) × (line < j) × (j ≤ line + length (below s)) × (lineOf j (subtrees t) ≡ found u)
+unfolding lineOf
+below-by-lines t s u zero q = not-found q
+below-by-lines t s u (suc i) q = (to, from)
+  where
+    -- Such a tree has its line,
+    to : StrictlyBelow s u → (j : ℕ) × (suc i < j) × (j ≤ suc i + length (below s)) × (lineOf j (subtrees t) ≡ found u)
+    to m = let r = below-line t s u i q (below-to m) in (suc (i + 1 + r .0), omega (arith, r .1), omega (arith, r .1), r .2)
+
+    -- and such a line its tree.
+    from : (j : ℕ) × (suc i < j) × (j ≤ suc i + length (below s)) × (lineOf j (subtrees t) ≡ found u) → StrictlyBelow s u
+    from r = at (r .0) (r .1) (r .2) (r .3)
+      where
+        -- By the line.
+        at : (j : ℕ) → suc i < j → j ≤ suc i + length (below s) → lineOf j (subtrees t) ≡ found u → StrictlyBelow s u
+        at zero h l e = absurd (omega arith)
+        at (suc j) h l e =
+            let place : j ≡ i + 1 + (j - (i + 1)) = omega arith in
+            below-from s (line-below t s u i (j - (i + 1)) q (omega arith) (sym (ap (treeAt (subtrees t)) place) ∙ e))

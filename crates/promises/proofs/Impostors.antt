@@ -11,7 +11,7 @@ use native.Mathlib.Omega.{arith}
 use lib.ListN.{length, getD}
 use Rattle.words.specs.Base.{if_then_else_}
 use Rattle.figures.specs.Limits.{greatest-count, live-word}
-use Rattle.figures.specs.Numbers.{done, top-unknown}
+use Rattle.figures.specs.Numbers.{done, low-unknown}
 use Rattle.figures.specs.Answers.{answered}
 use Rattle.figures.specs.declared.Answer.{Answer}
 use Rattle.trees.specs.Trees.{Tree, words}
@@ -98,10 +98,15 @@ second-row : teachOf one-taught (words pair) ≡ outcome (answered done) two-tau
 unfolding computes
 second-row = refl
 
--- The book of no orders answers the node by 20 with line 1.
-unknown-row : judgeOf blank (words single) ≡ record { number = top-unknown; line = 1 }
+-- The book of no orders answers the node by 21 with line 1.
+unknown-row : judgeOf blank (words single) ≡ record { number = low-unknown; line = 1 }
 unfolding computes
 unknown-row = refl
+
+-- It answers 1000(1000) by 21 with line 2.
+unknown-below-row : judgeOf blank (words pair) ≡ record { number = low-unknown; line = 2 }
+unfolding computes
+unknown-below-row = refl
 
 -- The book of the node passes it.
 passing-row : judgeOf one-taught (words single) ≡ answered done
@@ -122,6 +127,11 @@ taught-book = decode-book one-taught (bookIn one-taught) (omega arith) (omega ar
 single-order : IsOrder (words single) single
 unfolding computes
 single-order = read-order (words single) single refl
+
+-- So is 1000(1000).
+pair-order : IsOrder (words pair) pair
+unfolding computes
+pair-order = read-order (words pair) pair refl
 
 -- ---- by demand 1's rows
 
@@ -166,7 +176,7 @@ module _ (g : List ℕ → List ℕ → Answer) (meets : Judges g) where
   -- "Passing everything, or one verdict for all: demand 2." No one number is given to all orders within limits by all books in form.
   pub one-verdict : (n : ℕ) → ((ws os : List ℕ) (b : Book) (t : Tree) → IsBook ws b → IsOrder os t → g ws os .number ≡ n) → ⊥
   one-verdict n all =
-      let unknown : g blank (words single) .number ≡ top-unknown = ap (λ (a : Answer). a .number) (no-verdict-invented g meets blank (words single) ∙ unknown-row) in
+      let unknown : g blank (words single) .number ≡ low-unknown = ap (λ (a : Answer). a .number) (no-verdict-invented g meets blank (words single) ∙ unknown-row) in
       let passes : g one-taught (words single) .number ≡ done = ap (λ (a : Answer). a .number) judges-first in
       omega (
         arith,
@@ -174,6 +184,19 @@ module _ (g : List ℕ → List ℕ → Answer) (meets : Judges g) where
         passes,
         all blank (words single) (bookIn blank) single blank-book single-order,
         all one-taught (words single) (bookIn one-taught) single taught-book single-order,
+      )
+
+  -- One line for all: what is doubted is not told at one and the same line of all orders by all books in form.
+  pub one-line : (n : ℕ) → ((ws os : List ℕ) (b : Book) (t : Tree) → IsBook ws b → IsOrder os t → low-unknown ≤ g ws os .number → g ws os .line ≡ n) → ⊥
+  one-line n all =
+      let first : g blank (words single) ≡ record { number = low-unknown; line = 1 } = no-verdict-invented g meets blank (words single) ∙ unknown-row in
+      let second : g blank (words pair) ≡ record { number = low-unknown; line = 2 } = no-verdict-invented g meets blank (words pair) ∙ unknown-below-row in
+      omega (
+        arith,
+        ap (λ (a : Answer). a .line) first,
+        ap (λ (a : Answer). a .line) second,
+        all blank (words single) (bookIn blank) single blank-book single-order (omega (arith, ap (λ (a : Answer). a .number) first)),
+        all blank (words pair) (bookIn blank) pair blank-book pair-order (omega (arith, ap (λ (a : Answer). a .number) second)),
       )
 
 -- ---- by demand 2
@@ -189,7 +212,7 @@ judging-here = passes-exactly
 -- The node does not pass by the book of no orders.
 blank-unpassed : PassesBy blank (words single) → ⊥
 blank-unpassed p =
-    let same : top-unknown ≡ done = ap (λ (a : Answer). a .number) (sym unknown-row) ∙ passes-exactly blank (words single) .1 p in
+    let same : low-unknown ≡ done = ap (λ (a : Answer). a .number) (sym unknown-row) ∙ passes-exactly blank (words single) .1 p in
     omega arith
 
 -- It passes by its own book.

@@ -87,7 +87,7 @@ withdraw-checks = refl
 -- "Judge: 4, 5, 1, 2, verdict."
 pub judge-checks : map (λ (a : Answer). a .number)
     (judgeOf (slice 6) [] ∷ judgeOf formless [] ∷ judgeOf opened [] ∷ judgeOf opened too-long ∷ judgeOf opened (words A) ∷ [])
-    ≡ 4 ∷ 5 ∷ 1 ∷ 2 ∷ 20 ∷ []
+    ≡ 4 ∷ 5 ∷ 1 ∷ 2 ∷ 21 ∷ []
 unfolding computes
 judge-checks = refl
 
@@ -99,16 +99,30 @@ two-deep = node 1000 (cons (node 2000 (cons (node 1 bare) bare)) (cons (node 300
 abbrev by-two-deep : Tree → List ℕ
 by-two-deep t = let a : Answer = judgeOf (lay 100 (bookOf 2 (times 1 two-deep ∷ []))) (words t) in a .number ∷ a .line ∷ []
 
--- "otherwise the least line whose subtree's part is unknown, 21 or 22 by its depth": 3000 without its child, which is line 4; 2000 without its child, on line 2,
--- before 3000 with another, on line 3; 2000 with another child, on line 2, before that child on line 3; the order itself. And a book that lacks the middle part
--- of its order judges it "as they stand, agreeing or not".
+-- "The line wanted is the least one whose part is unknown while nothing strictly below it is unknown":
+-- 3000 without its child, which is line 4;
+-- 2000 without its child, on line 2, before 3000 with another, on line 3, which is line 4;
+-- 2000 with another child, which is line 3, before 3000 without its child on line 4;
+-- 2000 and 3000 each with another child, on lines 3 and 5: the first branch, not the last line;
+-- an unknown line 1 above a known line 2, which is above an unknown line 3 and, below that, an unknown line 4;
+-- 3000 with the child of 2000: line 4, which is unknown where the line below it is known;
+-- the two groups changed round: line 1, where all lines below it are known.
+-- "Answer 20 is given only when no line is unknown": 2000 with its child, which no order begins with; 2000 alone, whose line is unknown too. The order itself
+-- passes. And a book that lacks the middle part of its order judges it "as they stand, agreeing or not".
 pub verdict-lines : (by-two-deep (node 1000 (cons (node 2000 (cons (node 1 bare) bare)) (cons (node 3000 bare) bare)))
     ∷ by-two-deep (node 1000 (cons (node 2000 bare) (cons (node 3000 (cons (node 9 bare) bare)) bare)))
     ∷ by-two-deep (node 1000 (cons (node 2000 (cons (node 9 bare) bare)) (cons (node 3000 bare) bare)))
+    ∷ by-two-deep (node 1000 (cons (node 2000 (cons (node 9 bare) bare)) (cons (node 3000 (cons (node 9 bare) bare)) bare)))
+    ∷ by-two-deep (node 9 (cons (node 2000 (cons (node 1 (cons (node 8 bare) bare)) bare)) bare))
+    ∷ by-two-deep (node 1000 (cons (node 2000 (cons (node 1 bare) bare)) (cons (node 3000 (cons (node 1 bare) bare)) bare)))
+    ∷ by-two-deep (node 1000 (cons (node 3000 (cons (node 4000 bare) bare)) (cons (node 2000 (cons (node 1 bare) bare)) bare)))
+    ∷ by-two-deep (node 2000 (cons (node 1 bare) bare))
+    ∷ by-two-deep (node 2000 bare)
     ∷ by-two-deep two-deep
     ∷ (judgeOf (lay 60 lacksMiddle) (words A) .number ∷ judgeOf (lay 60 lacksMiddle) (words A) .line ∷ [])
     ∷ [])
-    ≡ (21 ∷ 4 ∷ []) ∷ (21 ∷ 2 ∷ []) ∷ (22 ∷ 2 ∷ []) ∷ (0 ∷ 0 ∷ []) ∷ (22 ∷ 1 ∷ []) ∷ []
+    ≡ (21 ∷ 4 ∷ []) ∷ (21 ∷ 2 ∷ []) ∷ (21 ∷ 3 ∷ []) ∷ (21 ∷ 3 ∷ []) ∷ (21 ∷ 4 ∷ []) ∷ (22 ∷ 4 ∷ []) ∷ (22 ∷ 1 ∷ [])
+    ∷ (20 ∷ 1 ∷ []) ∷ (21 ∷ 1 ∷ []) ∷ (0 ∷ 0 ∷ []) ∷ (22 ∷ 1 ∷ []) ∷ []
 unfolding computes
 verdict-lines = refl
 

@@ -21,6 +21,7 @@ pub mod InC
 pub mod Lent
 pub mod Handing
 mod Computed
+pub mod FirstLeaf
 pub mod Cases
 pub mod Demand1
 pub mod Demand2

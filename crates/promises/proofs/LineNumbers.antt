@@ -2,36 +2,36 @@
 -- order's form, and for a text unless a line of it is at fault. That of the other calls, always 0, is in ofb/proofs/Figures.antt. Assumes nothing.
 use Prim.Native.Nat.{ℕ, zero, suc, _-_, _≤_, _<_}
 use mathlib.Core.Path.{_≡_, refl, sym, ap, subst, _∙_}
-use mathlib.Core.List.{List, [], _∷_}
+use mathlib.Core.List.{List}
+use native.Mathlib.Decide.{decLt}
 use native.Mathlib.Omega.{arith}
 use lib.ListN.{length}
 use Rattle.figures.specs.Numbers.{done, too-large, no-form, top-unknown, low-unknown, middle-unknown}
 use Rattle.figures.specs.declared.Answer.{Answer}
-use Rattle.trees.specs.Trees.{Tree, node, cut, subtrees}
+use Rattle.trees.specs.Trees.{Tree, node, depth, subtrees}
 use Rattle.trees.specs.Reading.{found}
 use Rattle.trees.specs.Fits.{IsOrder}
 use Rattle.trees.specs.Answers.{checkOf, treeAt, lineOf, Writing, cutIntoOf, PartWriting, partIntoOf}
 use Rattle.trees.specs.Paper.{IsR}
 use Rattle.trees.proofs.Fitting.{order-read}
-use Rattle.trees.proofs.Paper.{cut-is-r}
+use Rattle.trees.proofs.Paper.{r-only}
+use Rattle.trees.proofs.Lines.{place-within}
 use Rattle.form.specs.Text.{Line, textOf}
 use Rattle.form.specs.Reading.{readOf}
 use Rattle.form.specs.Faults.{Why, past, misspelt, no-option, not-allowed, too-deep, ninth-child}
 use Rattle.book.specs.Book.{Book}
 use Rattle.book.specs.Sound.{IsBook}
-use Rattle.book.proofs.Sound.{book-only}
 use Rattle.verdicts.specs.Judging.{judgeOf}
-use Rattle.verdicts.specs.Verdicts.{In, Known, Reached, TopUnknown, Verdict, passing, no-top, no-low, no-middle, Judged, no-book, no-order, judged}
-use Rattle.verdicts.proofs.Answers.{judged-is, answered-top, top-answered}
+use Rattle.verdicts.specs.Verdicts.{In, Known, ToFix, Doubted, Lent, Verdict, passing, no-top, no-low, no-middle, Judged, no-book, no-order, judged}
+use Rattle.verdicts.proofs.Answers.{judged-is, top-answered, low-answered, middle-answered}
 use Rattle.effects.specs.Conditions.{_exactly-when_}
 use Rattle.verdicts.proofs.Judgements.{by-verdict}
-use Rattle.verdicts.proofs.Verdicts.{verdict-is}
-use Rattle.promises.specs.Forms.{LineOfText, ComesBack, PartKnown, LeastUnknown}
+use Rattle.verdicts.proofs.Verdicts.{lines-known, verdict-is}
+use Rattle.promises.specs.Forms.{LineOfText, ComesBack, PartKnown, NoLineUnknown, CanBeFixed, LineWanted, Told}
 use Rattle.promises.specs.Whys.{WhyNumbered, numbered, WhyCut, cut-no-order, cut-lacks, cut-short, cut-written}
 use Rattle.promises.specs.Whys.{WhyPart, part-no-order, part-lacks, low-short, low-written, middle-short, middle-written}
 use Rattle.promises.specs.Whys.{WhyRead, no-bytes, at-fault, read-short, read}
 use Rattle.promises.proofs.FormLines.{line-of-subtree}
-use Rattle.promises.proofs.Orders.{one-tree}
 use Rattle.promises.proofs.Whys.{read-why}
 use Rattle.promises.proofs.Refusals.{writing-number}
 use Rattle.promises.proofs.PartWhys.{numbered-why, cut-why, part-why}
@@ -99,7 +99,7 @@ judge-line ws os low = go (judged-is ws os)
     go (no-book n e w) = line-of e
     go (no-order b n e i c x) = line-of e
     go (judged b t i q (passing e p)) = line-of e
-    go (judged b t i q (no-top e u)) = none e (omega arith)
+    go (judged b t i q (no-top e g u)) = none e (omega arith)
     go (judged b t i q (no-low line s e r l u)) = none e (omega arith)
     go (judged b t i q (no-middle line s e r l u)) = none e (omega arith)
 
@@ -108,22 +108,144 @@ first-subtree : (t : Tree) → lineOf 1 (subtrees t) ≡ found t
 unfolding lineOf treeAt subtrees
 first-subtree (node c f) = refl
 
--- A tree that stands at a place of a list stands before its end.
-place-within : (ts : List Tree) (i : ℕ) (s : Tree) → treeAt ts i ≡ found s → suc i ≤ length ts
-unfolding treeAt
-place-within [] i s q = absurd (let y : _≡_ {A = ℕ} 0 1 = cc in omega arith)
-place-within (t ∷ ts) zero s q = omega arith
-place-within (t ∷ ts) (suc i) s q = omega (arith, place-within ts i s q)
-
 -- A line that has a subtree is one of the order's.
 line-within : (t : Tree) (line : ℕ) (s : Tree) → lineOf line (subtrees t) ≡ found s → (1 ≤ line) × (line ≤ length (subtrees t))
 unfolding lineOf
 line-within t zero s q = absurd (let y : _≡_ {A = ℕ} 0 1 = cc in omega arith)
 line-within t (suc i) s q = (omega arith, place-within (subtrees t) i s q)
 
+-- ---- which line is told
+
+-- What is known by the rows of judging is known,
+part-known : {b : Book} {s : Tree} → Known b s → PartKnown b s
+part-known p = record { low = p .low; middle = p .middle }
+
+-- and the other way round.
+known-part : {b : Book} {s : Tree} → PartKnown b s → Known b s
+known-part p = record { low = p .low; middle = p .middle }
+
+-- A book in form and an order within limits.
+module _ (ws os : List ℕ) (b : Book) (t : Tree) (is : IsBook ws b) (o : IsOrder os t) where
+  -- Both are lent.
+  abbrev lent : Lent ws os
+  lent = record { book = b; tree = t; isBook = is; isOrder = o }
+
+  -- The row by which they are judged.
+  verdict-row : Verdict b t (judgeOf ws os)
+  verdict-row = subst (Verdict b t) (sym (by-verdict ws os b is t (order-read os t o))) (verdict-is b (is .sound .least) t)
+
+  -- A line that can be fixed is one to fix by the rows of judging.
+  to-fix : {line : ℕ} (c : CanBeFixed b t line) → ToFix b (c .subtree)
+  to-fix c = record { unknown = λ p. c .unknown (part-known p); under = λ u m. known-part (c .below-known u m) }
+
+  -- The least of them is the one that is doubted,
+  doubted : {line : ℕ} (c : CanBeFixed b t line) → ((j : ℕ) → j < line → CanBeFixed b t j → ⊥) → Doubted b t line (c .subtree)
+  doubted c least = record { on = c .on; fix = to-fix c; earlier = λ j u h q f. least j h (record { subtree = u; on = q; unknown = λ p. f .unknown (known-part p); below-known = λ v m. part-known (f .under v m) }) }
+
+  -- and the one that is doubted can be fixed,
+  abbrev can-fix : (line : ℕ) (s : Tree) → Doubted b t line s → CanBeFixed b t line
+  can-fix line s D = record { subtree = s; on = D .on; unknown = λ p. D .fix .unknown (known-part p); below-known = λ u m. part-known (D .fix .under u m) }
+
+  -- and is the least of them.
+  least-fix : (line : ℕ) (s : Tree) → Doubted b t line s → (j : ℕ) → j < line → CanBeFixed b t j → ⊥
+  least-fix line s D j h c = D .earlier j (c .subtree) h (c .on) (to-fix c)
+
+  -- What is told of the order.
+  pub told : Told b t (judgeOf ws os)
+  told = go (judgeOf ws os) verdict-row
+    where
+      -- By the verdict.
+      go : (a : Answer) → Verdict b t a → Told b t a
+      go a (passing e p) = rw e (record { wanted = λ h. absurd (omega arith); only-20 = λ h. absurd (omega arith); never-0 = λ n h. n p })
+      go a (no-top e g x) = rw e (record { wanted = λ h. absurd (omega arith); only-20 = λ h. (refl, λ line s q. part-known (g line s q)); never-0 = λ n h. omega arith })
+      go a (no-low line s e D l x) = rw e (record {
+        wanted = λ h. record {
+          this = can-fix line s D;
+          least = least-fix line s D;
+          low-is-21 = λ d. refl;
+          deeper-is-22 = λ d. absurd (omega (arith, is .sound .least));
+        };
+        only-20 = λ h. absurd (omega arith);
+        never-0 = λ n h. omega arith;
+      })
+      go a (no-middle line s e D l x) = rw e (record {
+        wanted = λ h. record {
+          this = can-fix line s D;
+          least = least-fix line s D;
+          low-is-21 = λ d. absurd (omega (arith, is .sound .least));
+          deeper-is-22 = λ d. refl;
+        };
+        only-20 = λ h. absurd (omega arith);
+        never-0 = λ n h. omega arith;
+      })
+
+  -- The line wanted is told, with its number.
+  pub wanted-told : (a : Answer) → LineWanted b t a → judgeOf ws os ≡ a
+  wanted-told a w = elim (decLt (depth s) (b .k - 1)) [ yes h ↦ low (omega arith) | no h ↦ middle (omega arith) ]
+    where
+      -- The subtree of the line.
+      s : Tree
+      s = w .this .subtree
+
+      -- It is doubted.
+      D : Doubted b t (a .line) s
+      D = doubted (w .this) (w .least)
+
+      -- A low one is told with 21,
+      low : depth s ≤ b .k - 2 → judgeOf ws os ≡ a
+      low d =
+          low-answered ws os (a .line) (record {
+            lent = lent;
+            subtree = s;
+            doubted = D;
+            low = d;
+            unknown = λ i. w .this .unknown (record { low = λ e. i; middle = λ e. absurd (omega (arith, is .sound .least)) });
+          })
+          ∙ ap (λ (n : ℕ). record { number = n; line = a .line }) (sym (w .low-is-21 d))
+
+      -- and a deeper one with 22.
+      middle : b .k - 1 ≤ depth s → judgeOf ws os ≡ a
+      middle d =
+          middle-answered ws os (a .line) (record {
+            lent = lent;
+            subtree = s;
+            doubted = D;
+            deep = d;
+            unknown = λ u r i. w .this .unknown (record {
+              low = λ e. absurd (omega (arith, is .sound .least));
+              middle = λ e v q. subst (In (b .P)) (r-only (b .k) (omega (arith, is .sound .least)) r q) i;
+            });
+          })
+          ∙ ap (λ (n : ℕ). record { number = n; line = a .line }) (sym (w .deeper-is-22 d))
+
+  -- An unknown line is told by 21 or 22, be it this line or another.
+  pub unknown-told : (line : ℕ) (s : Tree) → lineOf line (subtrees t) ≡ found s → (PartKnown b s → ⊥) → low-unknown ≤ judgeOf ws os .number
+  unknown-told line s q n = go (judgeOf ws os) verdict-row
+    where
+      -- By the verdict.
+      go : (a : Answer) → Verdict b t a → low-unknown ≤ a .number
+      go a (passing e p) = absurd (n (part-known (lines-known b (is .sound .least) t p line s q)))
+      go a (no-top e g x) = absurd (n (part-known (g line s q)))
+      go a (no-low l u e D d x) = omega (arith, ap (λ (c : Answer). c .number) e)
+      go a (no-middle l u e D d x) = omega (arith, ap (λ (c : Answer). c .number) e)
+
+  -- 20 at line 1 is given exactly if no line is unknown and the top is.
+  pub unknown-top : (judgeOf ws os ≡ record { number = top-unknown; line = 1 }) exactly-when (NoLineUnknown b t × ((u : Tree) → IsR (b .k - 1) t u → In (b .R) u → ⊥))
+  unknown-top = (
+    λ e. go (judgeOf ws os) verdict-row (ap (λ (a : Answer). a .number) e),
+    λ n. top-answered ws os 1 (record { lent = lent; first = refl; known = λ line s q. known-part (n .0 line s q); unknown = n .1 }),
+  )
+    where
+      -- By the verdict.
+      go : (a : Answer) → Verdict b t a → a .number ≡ top-unknown → NoLineUnknown b t × ((u : Tree) → IsR (b .k - 1) t u → In (b .R) u → ⊥)
+      go a (passing e p) h = absurd (omega (arith, ap (λ (c : Answer). c .number) e))
+      go a (no-top e g x) h = (λ line s q. part-known (g line s q), x)
+      go a (no-low l u e D d x) h = absurd (omega (arith, ap (λ (c : Answer). c .number) e))
+      go a (no-middle l u e D d x) h = absurd (omega (arith, ap (λ (c : Answer). c .number) e))
+
 -- An order within limits that does not pass by a book in form comes back with 20, 21 or 22 and a line of its form.
 pub unpassed : (ws os : List ℕ) (b : Book) (t : Tree) → IsBook ws b → IsOrder os t → (judgeOf ws os .number ≡ done → ⊥) → ComesBack t (judgeOf ws os)
-unpassed ws os b t is o not = go (subst (Verdict b t) (sym (by-verdict ws os b is t (order-read os t o))) (verdict-is b (is .sound .least) t))
+unpassed ws os b t is o not = go (verdict-row ws os b t is o)
   where
     -- An answer with a number from 20 to 22 at a line whose subtree is known to be s comes back so.
     at-line : (s : Tree) {n line : ℕ} → judgeOf ws os ≡ record { number = n; line = line } → top-unknown ≤ n → n ≤ middle-unknown
@@ -148,71 +270,9 @@ unpassed ws os b t is o not = go (subst (Verdict b t) (sym (by-verdict ws os b i
     -- By the verdict.
     go : Verdict b t (judgeOf ws os) → ComesBack t (judgeOf ws os)
     go (passing e p) = absurd (not (ap (λ (a : Answer). a .number) e))
-    go (no-top e x) = at-line t e (omega arith) (omega arith) (first-subtree t)
+    go (no-top e g x) = at-line t e (omega arith) (omega arith) (first-subtree t)
     go (no-low line s e r l x) = at-line s e (omega arith) (omega arith) (r .on)
     go (no-middle line s e r l x) = at-line s e (omega arith) (omega arith) (r .on)
-
--- A verdict of 21 or 22 is at the least line whose part is unknown.
-pub least-unknown : (ws os : List ℕ) (b : Book) (t : Tree) → IsBook ws b → IsOrder os t → low-unknown ≤ judgeOf ws os .number → LeastUnknown b t (judgeOf ws os)
-least-unknown ws os b t is o high = go (subst (Verdict b t) (sym (by-verdict ws os b is t (order-read os t o))) (verdict-is b (is .sound .least) t))
-  where
-    -- What is known by the row of judging is known.
-    known : (s : Tree) → Known b s → PartKnown b s
-    known s p = record { low = p .low; middle = p .middle }
-
-    -- The numbers of two equal answers.
-    numbers : {n line : ℕ} → judgeOf ws os ≡ record { number = n; line = line } → judgeOf ws os .number ≡ n
-    numbers e = ap (λ (a : Answer). a .number) e
-
-    -- The lines before the one at hand, by the line of the answer.
-    before : {n line : ℕ} (s : Tree) → judgeOf ws os ≡ record { number = n; line = line } → Reached b t line s
-        → (j : ℕ) (u : Tree) → j < judgeOf ws os .line → lineOf j (subtrees t) ≡ found u → PartKnown b u
-    before s e r j u h q = known u (r .earlier j u (omega (arith, line-of e)) q)
-
-    -- The subtree of the line of the answer.
-    here : {n line : ℕ} (s : Tree) → judgeOf ws os ≡ record { number = n; line = line } → Reached b t line s → lineOf (judgeOf ws os .line) (subtrees t) ≡ found s
-    here s e r = ap (λ (i : ℕ). lineOf i (subtrees t)) (line-of e) ∙ r .on
-
-    -- By the verdict.
-    go : Verdict b t (judgeOf ws os) → LeastUnknown b t (judgeOf ws os)
-    go (passing e p) = absurd (omega (arith, numbers e))
-    go (no-top e x) = absurd (omega (arith, numbers e))
-    go (no-low line s e r l x) = record {
-      top = r .top;
-      subtree = s;
-      on = here s e r;
-      unknown = λ p. x (p .low l);
-      earlier = before s e r;
-      low-is-21 = λ h. numbers e;
-      deeper-is-22 = λ h. absurd (omega (arith, is .sound .least));
-    }
-    go (no-middle line s e r l x) =
-        let m : Tree = cut s (b .k - 1) in
-        let q : IsR (b .k) s m = cut-is-r s (b .k) (omega (arith, is .sound .least)) in
-        record {
-          top = r .top;
-          subtree = s;
-          on = here s e r;
-          unknown = λ p. x m q (p .middle l m q);
-          earlier = before s e r;
-          low-is-21 = λ h. absurd (omega (arith, is .sound .least));
-          deeper-is-22 = λ h. numbers e;
-        }
-
--- 20 at line 1 is given exactly if the top is unknown.
-pub unknown-top : (ws os : List ℕ) (b : Book) (t : Tree) → IsBook ws b → IsOrder os t
-    → (judgeOf ws os ≡ record { number = top-unknown; line = 1 }) exactly-when ((u : Tree) → IsR (b .k - 1) t u → In (b .R) u → ⊥)
-unknown-top ws os b t is o = (
-  λ e. let x = answered-top ws os (ap (λ (a : Answer). a .number) e) in
-      same x (book-only ws (x .lent .book) b (x .lent .isBook) is) (one-tree (x .lent .isOrder) o),
-  λ n. top-answered ws os 1 (record { lent = record { book = b; tree = t; isBook = is; isOrder = o }; first = refl; unknown = n }),
-)
-  where
-    -- What is unknown by a book and an order is so by this book and this order.
-    same : {line : ℕ} (x : TopUnknown ws os line) → x .lent .book ≡ b → x .lent .tree ≡ t → (u : Tree) → IsR (b .k - 1) t u → In (b .R) u → ⊥
-    same x p q u r i =
-        x .unknown u (subst (λ (v : Tree). IsR (x .lent .book .k - 1) v u) (sym q) (subst (λ (c : Book). IsR (c .k - 1) t u) (sym p) r))
-        (subst (λ (c : Book). In (c .R) u) (sym p) i)
 
 -- ---- forms
 

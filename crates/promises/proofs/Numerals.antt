@@ -81,6 +81,10 @@ program-figures = refl
 abbrev low-and-middle : Tree
 low-and-middle = node 1000 (cons (node 3000 (cons (node 4000 bare) bare)) bare)
 
+-- 3000 with that child, below none.
+abbrev below-the-top : Tree
+below-the-top = node 3000 (cons (node 4000 bare) bare)
+
 -- 3000 without children, below 1000.
 abbrev low-cut-off : Tree
 low-cut-off = node 1000 (cons (node 3000 bare) bare)
@@ -119,8 +123,9 @@ heard-numbers =
     ∷ readFileOf [] (slice 7) .answer .number
     ∷ readFileOf (79 ∷ 70 ∷ 66 ∷ 0 ∷ 2 ∷ []) (slice 7) .answer .number
     ∷ readFileOf (79 ∷ 70 ∷ 66 ∷ 0 ∷ 1 ∷ []) (slice 7) .answer .number
-    -- a node is judged by an empty book; a leaf that the book has only with a child; and a node below one that the book has only alone
-    ∷ judgeOf (openOf (slice 7) 2 .words) (words single) .number
+    -- an order whose lines the book has all below another top is judged by it; a leaf that the book has only with a child; and a node below one that the book
+    -- has only alone
+    ∷ judgeOf (lay 60 (bookOf 2 (times 1 low-and-middle ∷ []))) (words below-the-top) .number
     ∷ judgeOf (lay 60 (bookOf 2 (times 1 low-and-middle ∷ []))) (words low-cut-off) .number
     ∷ judgeOf (lay 19 (bookOf 2 (times 1 single ∷ []))) (words pair) .number
     ∷ []

@@ -4,15 +4,17 @@ use Prim.Native.Nat.{ℕ, suc, _+_, _*_, _-_, _≤_, _<_}
 use mathlib.Core.Path.{_≡_}
 use mathlib.Core.List.{List, [], _∷_, _++_}
 use lib.ListN.{length, getD}
-use Rattle.figures.specs.Numbers.{top-unknown, low-unknown, middle-unknown}
+use Rattle.words.specs.Base.{_∈_}
+use Rattle.figures.specs.Numbers.{done, top-unknown, low-unknown, middle-unknown}
 use Rattle.figures.specs.declared.Answer.{Answer}
 use Rattle.trees.specs.Trees.{Tree, words, depth, subtrees}
 use Rattle.trees.specs.Reading.{found}
 use Rattle.trees.specs.Answers.{lineOf}
-use Rattle.trees.specs.Paper.{IsR}
+use Rattle.trees.specs.Paper.{StrictlyBelow, IsR}
 use Rattle.form.specs.Text.{Line, digit-0, space, line-feed, levelText, codeText, lineText, spell, textOf}
+use Rattle.form.specs.Faults.{NoDeeper}
 use Rattle.book.specs.Book.{Book}
-use Rattle.verdicts.specs.Verdicts.{In}
+use Rattle.verdicts.specs.Verdicts.{In, Passes}
 use Rattle.calls.specs.Lines.{feeds}
 
 -- ---- in tens
@@ -61,6 +63,18 @@ pub record ComesBack (t : Tree) (a : Answer) : Type 0 where
   pub stands : LineOfText (textOf t) (a .line) read-aloud
   pub its-code : read-aloud .code ≡ getD (words subtree) 0 0
 
+-- Of the lines of a form, so many stand below this one: those that follow it with higher levels, up to the next line of its level or above.
+pub record LinesBelow (form : List Line) (line n : ℕ) : Type 0 where
+  pub before : List Line
+  pub this : Line
+  pub below : List Line
+  pub behind : List Line
+  pub form-is : form ≡ before ++ (this ∷ (below ++ behind))
+  pub place : line ≡ suc (length before)
+  pub many : n ≡ length below
+  pub deeper : (x : Line) → x ∈ below → this .level < x .level
+  pub ends : NoDeeper (this .level) behind
+
 -- ---- which line comes back
 
 -- A subtree's part is in the book: "every subtree of depth at most k-2" is a low part itself, and of a deeper one the middle part is its r of index k.
@@ -69,13 +83,28 @@ pub record PartKnown (b : Book) (s : Tree) : Type 0 where
   pub low : depth s ≤ b .k - 2 → In (b .L) s
   pub middle : b .k - 1 ≤ depth s → (u : Tree) → IsR (b .k) s u → In (b .P) u
 
--- "otherwise the least line whose subtree's part is unknown, 21 or 22 by its depth": the top is known, the line's part is not, and each line before it has a
--- part that is known.
-pub record LeastUnknown (b : Book) (t : Tree) (a : Answer) : Type 0 where
-  pub top : (u : Tree) → IsR (b .k - 1) t u → In (b .R) u
+-- "no line is unknown": the part of every line is in the book.
+abbrev pub NoLineUnknown : Book → Tree → Type 0
+NoLineUnknown b t = (line : ℕ) (s : Tree) → lineOf line (subtrees t) ≡ found s → PartKnown b s
+
+-- A line "whose part is unknown while nothing strictly below it is unknown": strictly below it stands what document 000 has as s/x, where s is the line's
+-- subtree and x a position other than λ.
+pub record CanBeFixed (b : Book) (t : Tree) (line : ℕ) : Type 0 where
   pub subtree : Tree
-  pub on : lineOf (a .line) (subtrees t) ≡ found subtree
+  pub on : lineOf line (subtrees t) ≡ found subtree
   pub unknown : PartKnown b subtree → ⊥
-  pub earlier : (j : ℕ) (u : Tree) → j < a .line → lineOf j (subtrees t) ≡ found u → PartKnown b u
-  pub low-is-21 : depth subtree ≤ b .k - 2 → a .number ≡ low-unknown
-  pub deeper-is-22 : b .k - 1 ≤ depth subtree → a .number ≡ middle-unknown
+  pub below-known : (u : Tree) → StrictlyBelow subtree u → PartKnown b u
+
+-- "The line wanted is the least one" of these, and the number is 21 or 22 by the depth of its subtree.
+pub record LineWanted (b : Book) (t : Tree) (a : Answer) : Type 0 where
+  pub this : CanBeFixed b t (a .line)
+  pub least : (j : ℕ) → j < a .line → CanBeFixed b t j → ⊥
+  pub low-is-21 : depth (this .subtree) ≤ b .k - 2 → a .number ≡ low-unknown
+  pub deeper-is-22 : b .k - 1 ≤ depth (this .subtree) → a .number ≡ middle-unknown
+
+-- What a book in form says of an order within limits: a line that is told with 21 or 22 is the one wanted; "Answer 20 is given only when no line is
+-- unknown", and "whose line stays 1"; and an order that does not pass is never answered by 0.
+pub record Told (b : Book) (t : Tree) (a : Answer) : Type 0 where
+  pub wanted : low-unknown ≤ a .number → LineWanted b t a
+  pub only-20 : a .number ≡ top-unknown → (a .line ≡ 1) × NoLineUnknown b t
+  pub never-0 : (Passes b t → ⊥) → a .number ≡ done → ⊥

@@ -1,10 +1,10 @@
 -- The orders of 01's cases, calls on one slice, one after the other, and what is heard of each ("Forms on the desk"). Assumes nothing: these are
 -- definitions.
-use Prim.Native.Nat.{ℕ}
+use Prim.Native.Nat.{ℕ, suc}
 use mathlib.Core.List.{List, [], _∷_}
 use lib.ListN.{getD, replicate}
 use Rattle.figures.specs.Limits.{used-word}
-use Rattle.trees.specs.Trees.{Tree, node, bare, cons, words}
+use Rattle.trees.specs.Trees.{Tree, node, Forest, bare, cons, words}
 use Rattle.trees.specs.Answers.{Writing}
 use Rattle.book.specs.Opening.{Outcome, outcome, openOf}
 use Rattle.verdicts.specs.Judging.{judgeOf}
@@ -35,6 +35,16 @@ pair = node 1000 (cons single bare)
 -- 1000(1000(1000))
 abbrev pub three : Tree
 three = node 1000 (cons pair bare)
+
+-- "its first leaf": the line of it, counted from 1. A node without children is its own; that of any other is the first leaf of its first child.
+unfoldable mutual
+  pub firstLeaf : Tree → ℕ
+  firstLeaf (node c f) = suc (leafIn f)
+
+  -- How many lines below its node's the first leaf of a row of children stands; 0 where there are none.
+  pub leafIn : Forest → ℕ
+  leafIn bare = 0
+  leafIn (cons t f) = firstLeaf t
 
 -- ---- calls
 

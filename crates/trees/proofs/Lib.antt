@@ -10,6 +10,7 @@ pub mod Causes
 pub mod Fitting
 pub mod Walks
 pub mod PartsAt
+pub mod Below
 pub mod Lines
 pub mod Cuts
 pub mod Answers

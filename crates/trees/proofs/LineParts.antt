@@ -24,14 +24,14 @@ pub record OnLine (t s : Tree) (line : ℕ) : Type 0 where
   pub is : lineOf line (subtrees t) ≡ found s
 
 -- The tree at a place is a member of the list.
-at-in : (ts : List Tree) (i : ℕ) {s : Tree} → treeAt ts i ≡ found s → s ∈ ts
+pub at-in : (ts : List Tree) (i : ℕ) {s : Tree} → treeAt ts i ≡ found s → s ∈ ts
 unfolding treeAt
 at-in [] i e = not-found e
 at-in (t ∷ ts) zero {s} e = let z : s ≡ t = cc in here z
 at-in (t ∷ ts) (suc i) e = there (at-in ts i e)
 
 -- Each member of a list has a place.
-in-at : {ts : List Tree} {s : Tree} → s ∈ ts → (i : ℕ) × (treeAt ts i ≡ found s)
+pub in-at : {ts : List Tree} {s : Tree} → s ∈ ts → (i : ℕ) × (treeAt ts i ≡ found s)
 unfolding treeAt
 in-at (here e) = (0, ap found (sym e))
 in-at (there m) = let r = in-at m in (suc (r .0), r .1)

@@ -6,7 +6,7 @@ use native.Mathlib.Decide.{decLt}
 use native.Mathlib.Numerals.{add-one}
 use native.Mathlib.Omega.{arith}
 use borrow.Author.Tests.{lt-ltb, le-ltb}
-use lib.ListN.{length, drop, length-append}
+use lib.ListN.{length, drop, length-append, drop-of-length-le}
 use lib.Seq.{drop-append-add}
 use Rattle.words.specs.Base.{if_then_else_}
 use Rattle.figures.specs.Limits.{most-words}
@@ -25,18 +25,25 @@ use Rattle.trees.proofs.Causes.{Passed, Seen, stopped, passed, seen, re
 -- ---- a place in a list of trees
 
 -- A place of the first of two lists is one of both.
-at-left : (us vs : List Tree) (i : ℕ) → i < length us → treeAt (us ++ vs) i ≡ treeAt us i
+pub at-left : (us vs : List Tree) (i : ℕ) → i < length us → treeAt (us ++ vs) i ≡ treeAt us i
 unfolding treeAt
 at-left [] vs i h = absurd (omega arith)
 at-left (u ∷ us) vs zero h = refl
 at-left (u ∷ us) vs (suc i) h = at-left us vs i (omega arith)
 
 -- A place of the second of two lists is one of both, past the first.
-at-right : (us vs : List Tree) (i : ℕ) → length us ≤ i → treeAt (us ++ vs) i ≡ treeAt vs (i - length us)
+pub at-right : (us vs : List Tree) (i : ℕ) → length us ≤ i → treeAt (us ++ vs) i ≡ treeAt vs (i - length us)
 unfolding treeAt
 at-right [] vs i h = ap (treeAt vs) (omega arith)
 at-right (u ∷ us) vs zero h = absurd (omega arith)
 at-right (u ∷ us) vs (suc i) h = at-right us vs i (omega arith) ∙ ap (treeAt vs) (omega arith)
+
+-- A place behind so many trees.
+pub at-behind : (ts : List Tree) (n i : ℕ) → treeAt (drop n ts) i ≡ treeAt ts (n + i)
+unfolding treeAt
+at-behind ts zero i = ap (treeAt ts) (omega arith)
+at-behind [] (suc n) i = refl
+at-behind (t ∷ ts) (suc n) i = let z : suc n + i ≡ suc (n + i) = omega arith in rw z (at-behind ts n i)
 
 -- Past the last place there is no tree.
 at-past : (us : List Tree) (i : ℕ) → length us ≤ i → treeAt us i ≡ missing
@@ -45,12 +52,26 @@ at-past [] i h = refl
 at-past (u ∷ us) zero h = absurd (omega arith)
 at-past (u ∷ us) (suc i) h = at-past us i (omega arith)
 
+-- A place that has a tree is one of the list.
+pub place-within : (ts : List Tree) (i : ℕ) (s : Tree) → treeAt ts i ≡ found s → i < length ts
+unfolding treeAt
+place-within [] i s e = not-found e
+place-within (t ∷ ts) zero s e = omega arith
+place-within (t ∷ ts) (suc i) s e = omega (arith, place-within ts i s e)
+
 -- From a place that has a tree on, the list is this tree and what follows it.
 pub tree-next : (ts : List Tree) (i : ℕ) (s : Tree) → treeAt ts i ≡ found s → drop i ts ≡ s ∷ drop (i + 1) ts
 unfolding treeAt
 tree-next [] i s e = not-found e
 tree-next (t ∷ ts) zero s e = let z : t ≡ s = cc in ap (λ (u : Tree). u ∷ ts) z
 tree-next (t ∷ ts) (suc i) s e = tree-next ts i s e ∙ rw (add-one i, add-one (suc i)) refl
+
+-- And the other way round.
+pub next-tree : (ts : List Tree) (i : ℕ) (s : Tree) (rest : List Tree) → drop i ts ≡ s ∷ rest → treeAt ts i ≡ found s
+unfolding treeAt
+next-tree [] i s rest e = absurd (omega (arith, ap length (drop-of-length-le {A = Tree} [] {i = i} (omega arith)), ap length e))
+next-tree (t ∷ ts) zero s rest e = let z : t ≡ s = cc in ap found z
+next-tree (t ∷ ts) (suc i) s rest e = next-tree ts i s rest e
 
 -- ---- a place in the words
 

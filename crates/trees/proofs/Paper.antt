@@ -11,10 +11,10 @@ use native.Mathlib.Omega.{arith}
 use borrow.Author.Tests.{leb-true, le-leb, lt-leb}
 use lib.ListN.{length}
 use Rattle.words.specs.Base.{keep, _∈_}
-use Rattle.trees.specs.Trees.{Tree, Forest, node, bare, cons, depth, depthF, cut, cutF, subtrees, subtreesF}
+use Rattle.trees.specs.Trees.{Tree, Forest, node, bare, cons, depth, depthF, cut, cutF, subtrees, subtreesF, below}
 use Rattle.trees.specs.Reading.{byFound, Found, missing, found}
 use Rattle.trees.specs.Parts.{top, isLow, lows, middle, isMiddle, middles, lowParts, middleParts}
-use Rattle.trees.specs.Paper.{Position, childOf, code, rootedAt, labelAt, Subtree, InDomain, IsDepth, IsR, IsL, IsP}
+use Rattle.trees.specs.Paper.{Position, childOf, code, rootedAt, labelAt, Subtree, StrictlyBelow, InDomain, IsDepth, IsR, IsL, IsP}
 use Rattle.trees.proofs.Reading.{not-found}
 use Rattle.trees.proofs.Cutting.{cut-depth, cut-deep, cut-shallow}
 use Rattle.trees.proofs.Once.{kept-in, in-kept, once-from, once-to}
@@ -141,6 +141,23 @@ mutual
 -- And each t/x is one of them.
 pub subtree-to : {t s : Tree} → Subtree t s → s ∈ subtrees t
 subtree-to {t} a = rooted-in t (a .position) (a .is)
+
+-- What stands strictly below a tree's own line is t/x for a position x other than λ,
+pub below-from : (t : Tree) {s : Tree} → s ∈ below t → StrictlyBelow t s
+unfolding below rootedAt
+below-from (node c f) m =
+    let r = subtreeF-from f m in
+    record { position = r .0 ∷ r .1; not-top = λ e. let z : _≡_ {A = ℕ} 0 1 = cc in omega arith; is = r .2 }
+
+-- and each such t/x stands there.
+pub below-to : {t s : Tree} → StrictlyBelow t s → s ∈ below t
+unfolding below rootedAt
+below-to {t} {s} a = go t (a .position) (a .not-top) (a .is)
+  where
+    -- By the position.
+    go : (u : Tree) (x : Position) → (x ≡ [] → ⊥) → rootedAt x u ≡ found s → s ∈ below u
+    go u [] n e = absurd (n refl)
+    go (node c f) (i ∷ x) n e = rooted-inF f i x e
 
 -- ---- a tree is its mapping
 

@@ -42,6 +42,12 @@ pub record Subtree (t s : Tree) : Type 0 where
   pub position : Position
   pub is : rootedAt position t ≡ found s
 
+-- A subtree that stands strictly below the top: t/x for a position x other than λ.
+pub record StrictlyBelow (t s : Tree) : Type 0 where
+  pub position : Position
+  pub not-top : position ≡ [] → ⊥
+  pub is : rootedAt position t ≡ found s
+
 -- x ∈ dom(t).
 pub record InDomain (t : Tree) (x : Position) : Type 0 where
   pub subtree : Tree

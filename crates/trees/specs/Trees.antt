@@ -55,6 +55,10 @@ unfoldable mutual
   subtreesF bare = []
   subtreesF (cons t f) = subtrees t ++ subtreesF f
 
+-- What stands strictly below a tree's own line: the subtrees of its row of children.
+unfoldable pub below : Tree → List Tree
+below (node c f) = subtreesF f
+
 -- Every code is 1 to 9999, and every node has at most 8 children.
 unfoldable mutual
   pub Good : Tree → Type 0

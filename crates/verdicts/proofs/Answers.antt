@@ -18,7 +18,7 @@ use Rattle.book.specs.Sound.{IsBook, WhyForm, shorter, longer, formless, book}
 use Rattle.book.specs.declared.BookForm.the-variants.{Refused}
 use Rattle.book.proofs.Sound.{why-is, why-only}
 use Rattle.verdicts.specs.Judging.{verdict, judgeOf}
-use Rattle.verdicts.specs.Verdicts.{Passes, Reached, Lent, PassesBy, TopUnknown, LowUnknown, MiddleUnknown, Verdict, passing, no-top, no-low, no-middle, Judged, no-book, no-order, judged}
+use Rattle.verdicts.specs.Verdicts.{Passes, Doubted, Lent, PassesBy, TopUnknown, LowUnknown, MiddleUnknown, Verdict, passing, no-top, no-low, no-middle, Judged, no-book, no-order, judged}
 use Rattle.verdicts.proofs.Judgements.{by-cause, by-verdict, judge-unheld}
 use Rattle.verdicts.proofs.Verdicts.{verdict-is, verdict-one}
 
@@ -57,7 +57,7 @@ module _ (ws os : List ℕ) where
   -- Of the verdicts only passing is 0.
   verdict-0 : (b : Book) (t : Tree) (a : Answer) → Verdict b t a → a .number ≡ done → Passes b t
   verdict-0 b t a (passing e p) f = p
-  verdict-0 b t a (no-top e n) f = absurd (omega (arith, ap (λ (x : Answer). x .number) e))
+  verdict-0 b t a (no-top e g n) f = absurd (omega (arith, ap (λ (x : Answer). x .number) e))
   verdict-0 b t a (no-low l s e r d n) f = absurd (omega (arith, ap (λ (x : Answer). x .number) e))
   verdict-0 b t a (no-middle l s e r d n) f = absurd (omega (arith, ap (λ (x : Answer). x .number) e))
 
@@ -109,48 +109,48 @@ module _ (ws os : List ℕ) where
       go (no-order b n f i c x) = absurd (omega (arith, numbered f, cause-small n c))
       go (judged b t i o v) = (record { book = b; tree = t; isBook = i; isOrder = o }, v)
 
-  -- What is answered by 20 has an unknown top,
+  -- What is answered by 20 has an unknown top and no unknown line,
   pub answered-top : judgeOf ws os .number ≡ top-unknown → TopUnknown ws os (judgeOf ws os .line)
   answered-top e = let x = verdict-row (omega arith) in go (x .0) (x .1)
     where
       go : (x : Lent ws os) → Verdict (x .book) (x .tree) (judgeOf ws os) → TopUnknown ws os (judgeOf ws os .line)
       go x (passing f p) = absurd (omega (arith, numbered f))
-      go x (no-top f n) = record { lent = x; first = ap (λ (c : Answer). c .line) f; unknown = n }
+      go x (no-top f g n) = record { lent = x; first = ap (λ (c : Answer). c .line) f; known = g; unknown = n }
       go x (no-low l s f r d n) = absurd (omega (arith, numbered f))
       go x (no-middle l s f r d n) = absurd (omega (arith, numbered f))
 
-  -- and an order with an unknown top is answered by 20 with line 1.
+  -- and such an order is answered by 20 with line 1.
   pub top-answered : (line : ℕ) → TopUnknown ws os line → judgeOf ws os ≡ record { number = top-unknown; line = line }
-  top-answered line x = judged-only _ (row (x .lent) (no-top (ap (λ (l : ℕ). record { number = top-unknown; line = l }) (x .first)) (x .unknown)))
+  top-answered line x = judged-only _ (row (x .lent) (no-top (ap (λ (l : ℕ). record { number = top-unknown; line = l }) (x .first)) (x .known) (x .unknown)))
 
-  -- What is answered by 21 has its first unknown part at the line, a low one,
+  -- What is answered by 21 has the line to fix there, a low one,
   pub answered-low : judgeOf ws os .number ≡ low-unknown → LowUnknown ws os (judgeOf ws os .line)
   answered-low e = let x = verdict-row (omega arith) in go (x .0) (x .1)
     where
       go : (x : Lent ws os) → Verdict (x .book) (x .tree) (judgeOf ws os) → LowUnknown ws os (judgeOf ws os .line)
       go x (passing f p) = absurd (omega (arith, numbered f))
-      go x (no-top f n) = absurd (omega (arith, numbered f))
+      go x (no-top f g n) = absurd (omega (arith, numbered f))
       go x (no-low l s f r d n) =
           let z : l ≡ judgeOf ws os .line = sym (ap (λ (c : Answer). c .line) f) in
-          record { lent = x; subtree = s; reached = subst (λ (m : ℕ). Reached (x .book) (x .tree) m s) z r; low = d; unknown = n }
+          record { lent = x; subtree = s; doubted = subst (λ (m : ℕ). Doubted (x .book) (x .tree) m s) z r; low = d; unknown = n }
       go x (no-middle l s f r d n) = absurd (omega (arith, numbered f))
 
   -- and such an order is answered by 21 with that line.
   pub low-answered : (line : ℕ) → LowUnknown ws os line → judgeOf ws os ≡ record { number = low-unknown; line = line }
-  low-answered line x = judged-only _ (row (x .lent) (no-low line (x .subtree) refl (x .reached) (x .low) (x .unknown)))
+  low-answered line x = judged-only _ (row (x .lent) (no-low line (x .subtree) refl (x .doubted) (x .low) (x .unknown)))
 
-  -- What is answered by 22 has its first unknown part at the line, a middle one,
+  -- What is answered by 22 has the line to fix there, a middle one,
   pub answered-middle : judgeOf ws os .number ≡ middle-unknown → MiddleUnknown ws os (judgeOf ws os .line)
   answered-middle e = let x = verdict-row (omega arith) in go (x .0) (x .1)
     where
       go : (x : Lent ws os) → Verdict (x .book) (x .tree) (judgeOf ws os) → MiddleUnknown ws os (judgeOf ws os .line)
       go x (passing f p) = absurd (omega (arith, numbered f))
-      go x (no-top f n) = absurd (omega (arith, numbered f))
+      go x (no-top f g n) = absurd (omega (arith, numbered f))
       go x (no-low l s f r d n) = absurd (omega (arith, numbered f))
       go x (no-middle l s f r d n) =
           let z : l ≡ judgeOf ws os .line = sym (ap (λ (c : Answer). c .line) f) in
-          record { lent = x; subtree = s; reached = subst (λ (m : ℕ). Reached (x .book) (x .tree) m s) z r; deep = d; unknown = n }
+          record { lent = x; subtree = s; doubted = subst (λ (m : ℕ). Doubted (x .book) (x .tree) m s) z r; deep = d; unknown = n }
 
   -- and such an order is answered by 22 with that line.
   pub middle-answered : (line : ℕ) → MiddleUnknown ws os line → judgeOf ws os ≡ record { number = middle-unknown; line = line }
-  middle-answered line x = judged-only _ (row (x .lent) (no-middle line (x .subtree) refl (x .reached) (x .deep) (x .unknown)))
+  middle-answered line x = judged-only _ (row (x .lent) (no-middle line (x .subtree) refl (x .doubted) (x .deep) (x .unknown)))

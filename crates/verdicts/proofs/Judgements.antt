@@ -1,23 +1,24 @@
 -- What is answered for a book in form, by the tests that the code makes in turn. Assumes nothing.
-use Prim.Native.Nat.{ℕ, zero, suc, _+_, _*_, _/_, _≤_}
-use mathlib.Core.Path.{_≡_, refl, ap, _∙_}
-use mathlib.Core.Bool.{Bool, true, false}
-use mathlib.Core.List.{List, [], _∷_}
-use native.Mathlib.Numerals.{add-one}
+use Prim.Native.Nat.{ℕ, suc, _-_, _*_, _/_, _≤_}
+use mathlib.Core.Path.{_≡_, refl, ap, sym, subst, _∙_}
+use mathlib.Core.Bool.{true, false}
+use mathlib.Core.List.{List}
 use native.Mathlib.Omega.{arith}
-use lib.ListN.{length, drop, drop-of-length-le}
+use lib.ListN.{length}
 use Rattle.words.specs.Base.{if_then_else_}
 use Rattle.figures.specs.Numbers.{done, top-unknown, low-unknown, middle-unknown}
 use Rattle.figures.specs.Answers.{answered}
-use Rattle.trees.specs.Trees.{Tree, subtrees}
-use Rattle.trees.specs.Reading.{order, byOrder, orderOf, causeOf}
+use Rattle.section.specs.Entries.{has}
+use Rattle.trees.specs.Trees.{Tree, words, subtrees}
+use Rattle.trees.specs.Reading.{found, order, byOrder, orderOf, causeOf}
 use Rattle.trees.specs.Causes.{Cause}
-use Rattle.trees.specs.Parts.{isLow}
+use Rattle.trees.specs.Answers.{treeAt}
+use Rattle.trees.specs.Parts.{top, isLow}
 use Rattle.trees.specs.Walks.{partAtOf}
 use Rattle.trees.specs.declared.PartAt.{PartAt}
 use Rattle.trees.specs.declared.PartAt.the-variants.{NoPart, LowTo, MiddleTo}
 use Rattle.trees.proofs.Causes.{Passed, has-tree, cause-is, cause-refuses}
-use Rattle.trees.proofs.Lines.{line-spot, tree-next}
+use Rattle.trees.proofs.Lines.{place-within, line-spot}
 use Rattle.book.specs.Book.{Book}
 use Rattle.book.specs.Decoding.{bookIn, bookFormOf}
 use Rattle.book.specs.Holding.{Holds}
@@ -26,11 +27,12 @@ use Rattle.book.specs.declared.Places.{Places}
 use Rattle.book.specs.declared.BookForm.the-variants.{Refused}
 use Rattle.book.proofs.Sound.{held-book, on-any}
 use Rattle.book.proofs.Holding.{refused-book}
-use Rattle.verdicts.specs.Judging.{knows, firstUnknown, verdict, judgeOf}
-use Rattle.verdicts.specs.Seeking.{unknownLine, topKnown, lineUnknown, unknownNumber, lineAnswer}
+use Rattle.verdicts.specs.Judging.{doubt, leastToFix, verdictOn, verdict, judgeOf}
+use Rattle.verdicts.specs.Seeking.{topKnown, doubtLine, lineToFix, unknownNumber, lineAnswer}
+use Rattle.verdicts.proofs.Fixes.{LeastIs, none-least, is-least, least-is, doubt-within}
 use Rattle.trees.proofs.Spots.{two-words-a-line, short-order, PartIs, part-told}
 
--- ---- the first unknown line and its number
+-- ---- the line to fix and its number
 
 -- The number of an unknown part, by the kind that its word tells.
 part-number : (k at : ℕ) (s : Tree) (w : PartAt) → PartIs k at s w → (if isLow k s then low-unknown else middle-unknown) ≡ unknownNumber w
@@ -39,48 +41,54 @@ part-number k at s NoPart h = absurd h
 part-number k at s (LowTo e) h = rw (h .0)
 part-number k at s (MiddleTo e c) h = rw (h .0)
 
--- The first unknown line is no line past the last.
-unknown-within : (b : Book) (line : ℕ) (ts : List Tree) → unknownLine b (suc line) ts ≤ line + length ts
-unfolding unknownLine if_then_else_
-unknown-within b line [] = omega arith
-unknown-within b line (s ∷ ss) = go (knows b s) (unknown-within b (suc line) ss)
-  where
-    go : (known : Bool) → unknownLine b (suc (suc line)) ss ≤ suc line + length ss → (if known then unknownLine b (suc (suc line)) ss else suc line) ≤ line + suc (length ss)
-    go true h = omega arith
-    go false h = omega arith
+-- The answer for a line has the number of the part that was told there.
+pub line-told : (k : ℕ) (os : List ℕ) (line : ℕ) (w v : PartAt) → w ≡ partAtOf os ((line - 1) * 2) k → w ≡ v
+    → record { number = unknownNumber v; line = line } ≡ lineAnswer k os line
+unfolding lineAnswer
+line-told k os line w v e f = ap (λ (x : PartAt). record { number = unknownNumber x; line = line }) (sym f ∙ e)
 
 -- An order's tree, and a book.
 module _ (b : Book) (os : List ℕ) (t : Tree) (p : Passed os t) where
-  -- One line's answer, known or not, and those of the lines past it.
-  answer-step : (i : ℕ) (s : Tree) (ss : List Tree) (known : Bool) → PartIs (b .k) (i * 2) s (partAtOf os (i * 2) (b .k))
-      → firstUnknown b (suc (suc i)) ss ≡ lineAnswer (b .k) os (unknownLine b (suc (suc i)) ss)
-      → (if known then firstUnknown b (suc (suc i)) ss else record { number = if isLow (b .k) s then low-unknown else middle-unknown; line = suc i })
-      ≡ lineAnswer (b .k) os (if known then unknownLine b (suc (suc i)) ss else suc i)
-  unfolding if_then_else_ lineAnswer
-  answer-step i s ss true h ih = ih
-  answer-step i s ss false h ih = ap (λ (n : ℕ). record { number = n; line = suc i }) (part-number (b .k) (i * 2) s (partAtOf os (i * 2) (b .k)) h)
+  -- The line to fix is that of the tree's subtrees.
+  line-is : lineToFix b os ≡ doubtLine (leastToFix b 1 (subtrees t))
+  unfolding lineToFix byOrder
+  line-is = rw (p .is)
 
-  -- The answer for the lines from one on is that of their first unknown line.
-  answers-from : (n i : ℕ) → i + n ≡ length (subtrees t) → firstUnknown b (suc i) (drop i (subtrees t)) ≡ lineAnswer (b .k) os (unknownLine b (suc i) (drop i (subtrees t)))
-  unfolding firstUnknown unknownLine
-  answers-from zero i h =
-      let past : length (subtrees t) ≤ i = omega arith in
-      rw (drop-of-length-le (subtrees t)) (unfold lineAnswer in refl)
-  answers-from (suc n) i h =
-      let q = line-spot os t i p (omega arith) in
-      let s = q .tree in
-      let next : drop i (subtrees t) ≡ s ∷ drop (suc i) (subtrees t) = tree-next (subtrees t) i s (q .is) ∙ rw add-one in
-      rw next (answer-step i s (drop (suc i) (subtrees t)) (knows b s) (part-told os (i * 2) _ q (b .k) (partAtOf os (i * 2) (b .k)) (partAtOf os (i * 2) (b .k)) (short-order os t p) refl refl) (answers-from n (suc i) (omega arith)))
+  -- It is one of the order's lines, or 0.
+  pub line-within : lineToFix b os ≤ length os / 2
+  line-within = omega (arith, line-is, doubt-within b 0 (subtrees t), two-words-a-line os t p)
 
-  -- The order's first unknown line is one of its lines, or 0.
-  pub line-within : lineUnknown b os ≤ length os / 2
-  unfolding lineUnknown byOrder
-  line-within = rw (p .is) (omega (arith, unknown-within b 0 (subtrees t), two-words-a-line os t p))
+  -- The number of the part that a line stands for.
+  number-at : (j : ℕ) (s : Tree) → treeAt (subtrees t) j ≡ found s → (if isLow (b .k) s then low-unknown else middle-unknown) ≡ unknownNumber (partAtOf os (j * 2) (b .k))
+  number-at j s at =
+      let q = line-spot os t j p (place-within (subtrees t) j s at) in
+      let same : found (q .tree) ≡ found s = sym (q .is) ∙ at in
+      let is : q .tree ≡ s = cc in
+      subst (λ (u : Tree). (if isLow (b .k) u then low-unknown else middle-unknown) ≡ unknownNumber (partAtOf os (j * 2) (b .k))) is
+      (part-number (b .k) (j * 2) (q .tree) (partAtOf os (j * 2) (b .k)) (part-told os (j * 2) _ q (b .k) (partAtOf os (j * 2) (b .k)) (partAtOf os (j * 2) (b .k)) (short-order os t p) refl refl))
 
-  -- The answer for all lines is that of the first unknown one.
-  line-answers : firstUnknown b 1 (subtrees t) ≡ lineAnswer (b .k) os (lineUnknown b os)
-  unfolding lineUnknown byOrder
-  line-answers = rw (p .is) (answers-from (length (subtrees t)) 0 (omega arith))
+  -- The verdict where a line is to be fixed.
+  pub verdict-line : (lineToFix b os ≡ 0 → ⊥) → verdict b t ≡ lineAnswer (b .k) os (lineToFix b os)
+  unfolding verdict verdictOn doubtLine lineAnswer
+  verdict-line h = go (least-is b 0 (subtrees t))
+    where
+      -- By the least line to fix.
+      go : LeastIs b 0 (subtrees t) (leastToFix b 1 (subtrees t)) → verdict b t ≡ lineAnswer (b .k) os (lineToFix b os)
+      go (none-least e f) = absurd (h (line-is ∙ ap doubtLine e))
+      go (is-least j s e at n f) =
+          let d : leastToFix b 1 (subtrees t) ≡ doubt (suc j) s = e ∙ ap (λ (m : ℕ). doubt m s) (omega arith) in
+          let i : (suc j - 1) * 2 ≡ j * 2 = omega arith in
+          rw (line-is, d, i) (ap (λ (m : ℕ). record { number = m; line = suc j }) (number-at j s at))
+
+  -- The verdict where no line is to be fixed.
+  pub verdict-top : lineToFix b os ≡ 0 → verdict b t ≡ (if has (words (top (b .k) t)) (b .R) then answered done else record { number = top-unknown; line = 1 })
+  unfolding verdict verdictOn doubtLine
+  verdict-top h = go (least-is b 0 (subtrees t))
+    where
+      -- By the least line to fix.
+      go : LeastIs b 0 (subtrees t) (leastToFix b 1 (subtrees t)) → verdict b t ≡ (if has (words (top (b .k) t)) (b .R) then answered done else record { number = top-unknown; line = 1 })
+      go (none-least e f) = rw e
+      go (is-least j s e at n f) = absurd (omega (arith, h, line-is ∙ ap doubtLine e))
 
 -- ---- a book in form
 
@@ -105,22 +113,28 @@ module _ (ws os : List ℕ) (p : Places) (H : Holds ws p) where
   judge-refused n = by-cause ws os (bookIn ws) (held-book ws p H) (causeOf os) (cause-is os) n
 
   module _ (e : causeOf os ≡ done) where
-    -- The order's tree is judged.
-    judge-tree : (t : Tree) → Passed os t → judgeOf ws os ≡ (if topKnown (bookIn ws) os then firstUnknown (bookIn ws) 1 (subtrees t) else record { number = top-unknown; line = 1 })
-    unfolding byOrder verdict topKnown
-    judge-tree t q = by-verdict ws os (bookIn ws) (held-book ws p H) t (q .is) ∙ rw (q .is)
-
-    -- "20 with line 1 if the top is unknown"
-    pub judge-top : topKnown (bookIn ws) os ≡ false → judgeOf ws os ≡ record { number = top-unknown; line = 1 }
-    unfolding if_then_else_
-    judge-top f = let x = has-tree os e in judge-tree (x .tree) (x .passes) ∙ rw f
-
-    -- Otherwise the first unknown line decides.
-    pub judge-lines : topKnown (bookIn ws) os ≡ true → judgeOf ws os ≡ lineAnswer (p .k .k) os (lineUnknown (bookIn ws) os)
-    unfolding if_then_else_
-    judge-lines f =
+    -- The line to fix, where there is one, is answered by its number.
+    pub judge-line : (lineToFix (bookIn ws) os ≡ 0 → ⊥) → judgeOf ws os ≡ lineAnswer (p .k .k) os (lineToFix (bookIn ws) os)
+    judge-line h =
         let x = has-tree os e in
-        judge-tree (x .tree) (x .passes) ∙ rw (f, H .depth) (line-answers (bookIn ws) os (x .tree) (x .passes))
+        by-verdict ws os (bookIn ws) (held-book ws p H) (x .tree) (x .passes .is) ∙ verdict-line (bookIn ws) os (x .tree) (x .passes) h ∙ rw (H .depth)
+
+    -- Otherwise the top decides.
+    judge-tops : lineToFix (bookIn ws) os ≡ 0 → judgeOf ws os ≡ (if topKnown (bookIn ws) os then answered done else record { number = top-unknown; line = 1 })
+    unfolding byOrder topKnown
+    judge-tops h =
+        let x = has-tree os e in
+        by-verdict ws os (bookIn ws) (held-book ws p H) (x .tree) (x .passes .is) ∙ verdict-top (bookIn ws) os (x .tree) (x .passes) h ∙ rw (x .passes .is)
+
+    -- 20 with line 1 where no line is unknown and the top is.
+    pub judge-top : lineToFix (bookIn ws) os ≡ 0 → topKnown (bookIn ws) os ≡ false → judgeOf ws os ≡ record { number = top-unknown; line = 1 }
+    unfolding if_then_else_
+    judge-top h f = judge-tops h ∙ rw f
+
+    -- 0 where the top is known too.
+    pub judge-passes : lineToFix (bookIn ws) os ≡ 0 → topKnown (bookIn ws) os ≡ true → judgeOf ws os ≡ answered done
+    unfolding if_then_else_
+    judge-passes h f = judge-tops h ∙ rw f
 
 -- ---- any words
 

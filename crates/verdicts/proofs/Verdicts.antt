@@ -1,14 +1,14 @@
 -- What a book in form says of an order, by document 000: it passes exactly if its r is in R, its l in L and its p in P, and otherwise the
 -- first of the rows of 01's table that holds is answered, with its line. Assumes nothing.
-use Prim.Native.Nat.{ℕ, zero, suc, _+_, _-_, _≤_, _<_}
+use Prim.Native.Nat.{ℕ, zero, suc, _-_, _≤_, _<_}
 use mathlib.Core.Path.{_≡_, refl, ap, sym, subst, _∙_}
 use mathlib.Core.Bool.{Bool, true, false}
-use mathlib.Core.List.{List, [], _∷_}
+use mathlib.Core.List.{List, [], _∷_, List·Memᴰ·head as here, List·Memᴰ·tail as there, List·Memᴰ·not-nil}
 use native.Mathlib.Decide.{decLt}
 use native.Mathlib.Omega.{arith}
 use borrow.Author.Tests.{leb-true, leb-false}
 use lib.Dec.{leb}
-use Rattle.words.specs.Base.{if_then_else_}
+use Rattle.words.specs.Base.{if_then_else_, _and_, _∈_}
 use Rattle.words.proofs.Tests.{no-test}
 use Rattle.figures.specs.Limits.{least-k}
 use Rattle.figures.specs.Numbers.{done, top-unknown, low-unknown, middle-unknown}
@@ -16,17 +16,18 @@ use Rattle.figures.specs.Answers.{answered}
 use Rattle.figures.specs.declared.Answer.{Answer}
 use Rattle.section.specs.Entries.{Entry, has}
 use Rattle.section.proofs.Counts.{has-entry, entry-has}
-use Rattle.trees.specs.Trees.{Tree, words, depth, subtrees}
+use Rattle.trees.specs.Trees.{Tree, words, depth, subtrees, below}
 use Rattle.trees.specs.Reading.{found}
 use Rattle.trees.specs.Parts.{top, isLow, middle}
 use Rattle.trees.specs.Answers.{treeAt, lineOf}
 use Rattle.trees.specs.Paper.{IsR, IsL, IsP}
 use Rattle.trees.proofs.Reading.{not-found}
-use Rattle.trees.proofs.Paper.{subtree-from, subtree-to, subtree-depth, cut-is-r, r-only, top-is-r}
+use Rattle.trees.proofs.Paper.{subtree-from, subtree-to, below-from, below-to, subtree-depth, cut-is-r, r-only, top-is-r}
 use Rattle.trees.proofs.LineParts.{line-in, in-line}
 use Rattle.book.specs.Book.{Book}
-use Rattle.verdicts.specs.Judging.{knows, firstUnknown, verdict}
-use Rattle.verdicts.specs.Verdicts.{In, Passes, Known, Reached, Verdict, passing, no-top, no-low, no-middle}
+use Rattle.verdicts.specs.Judging.{knows, knowsEach, toFix, no-doubt, doubt, leastToFix, verdictOn, verdict}
+use Rattle.verdicts.proofs.Fixes.{no-some, known-not, unknown-fix, some-tree, LeastIs, none-least, is-least, least-is}
+use Rattle.verdicts.specs.Verdicts.{In, Passes, Known, AllKnown, ToFix, Doubted, Verdict, passing, no-top, no-low, no-middle}
 
 -- ---- trees in a section
 
@@ -88,38 +89,56 @@ module _ (b : Book) (two : least-k ≤ b .k) where
         middle = λ m u r. subst (In (b .P)) (r-only (b .k) (omega arith) (middle-r s) r) (has-in (b .P) (middle (b .k) s) (h ∙ e));
       }
 
-  -- ---- the lines
-
-  -- What the first unknown part of some subtrees is, the first of them on line i + 1.
-  data First (i : ℕ) (ss : List Tree) (a : Answer) : Type 0 where
-    -- None is unknown.
-    none : a ≡ answered done → ((j : ℕ) (s : Tree) → treeAt ss j ≡ found s → knows b s ≡ true) → First i ss a
-    -- That of the subtree at place j.
-    some : (j : ℕ) (s : Tree) → a ≡ record { number = if isLow (b .k) s then low-unknown else middle-unknown; line = suc (i + j) } → treeAt ss j ≡ found s → knows b s ≡ false
-        → ((m : ℕ) (u : Tree) → m < j → treeAt ss m ≡ found u → knows b u ≡ true) → First i ss a
-
-  -- `firstUnknown` is it.
-  first : (i : ℕ) (ss : List Tree) → First i ss (firstUnknown b (suc i) ss)
-  unfolding firstUnknown treeAt if_then_else_
-  first i [] = none refl (λ j s e. not-found e)
-  first i (s ∷ ss) = go (knows b s) refl (first (suc i) ss)
+  -- And what is known is a part that the book knows.
+  knows-known : (s : Tree) → Known b s → knows b s ≡ true
+  knows-known s K = go (knows b s) refl (told s)
     where
-      here-known : knows b s ≡ true → (u : Tree) → found s ≡ found u → knows b u ≡ true
-      here-known e u f = let z : s ≡ u = cc in subst (λ (x : Tree). knows b x ≡ true) z e
+      go : (x : Bool) → knows b s ≡ x → Told s (knows b s) → knows b s ≡ true
+      go true e t = e
+      go false e (told-low d h l) = absurd (has-not-in (b .L) s (h ∙ e) (K .low d))
+      go false e (told-middle d h l) = absurd (has-not-in (b .P) (middle (b .k) s) (h ∙ e) (K .middle d (middle (b .k) s) (middle-r s)))
 
-      go : (t : Bool) → knows b s ≡ t → First (suc i) ss (firstUnknown b (suc (suc i)) ss)
-          → First i (s ∷ ss) (if t then firstUnknown b (suc (suc i)) ss else record { number = if isLow (b .k) s then low-unknown else middle-unknown; line = suc i })
-      go true e (none a f) = none a (each f)
-        where
-          each : ((j : ℕ) (u : Tree) → treeAt ss j ≡ found u → knows b u ≡ true) → (j : ℕ) (u : Tree) → treeAt (s ∷ ss) j ≡ found u → knows b u ≡ true
-          each f zero u q = here-known e u q
-          each f (suc j) u q = f j u q
-      go true e (some j u a at n f) = some (suc j) u (a ∙ same-line _ _ _ (omega arith)) at n (each f)
-        where
-          each : ((m : ℕ) (x : Tree) → m < j → treeAt ss m ≡ found x → knows b x ≡ true) → (m : ℕ) (x : Tree) → m < suc j → treeAt (s ∷ ss) m ≡ found x → knows b x ≡ true
-          each f zero x l q = here-known e x q
-          each f (suc m) x l q = f m x (omega arith) q
-      go false e r = some zero s (same-line _ _ _ (omega arith)) refl e (λ m u l q. absurd (omega arith))
+  -- A part that the book does not know is not known.
+  not-known : (s : Tree) → knows b s ≡ false → Known b s → ⊥
+  not-known s e K = no-test (sym e ∙ knows-known s K)
+
+  -- What is not known is a part that the book does not know.
+  unknown-is : (s : Tree) → (Known b s → ⊥) → knows b s ≡ false
+  unknown-is s n = go (knows b s) refl
+    where
+      go : (x : Bool) → knows b s ≡ x → knows b s ≡ false
+      go true e = absurd (n (known s e))
+      go false e = e
+
+  -- Where each part of some subtrees is known, that of every member is; and the other way round.
+  each-known : (ss : List Tree) → knowsEach b ss ≡ true → (u : Tree) → u ∈ ss → knows b u ≡ true
+  unfolding knowsEach _and_
+  each-known [] e u m = absurd (List·Memᴰ·not-nil m)
+  each-known (s ∷ ss) e u m = go (knows b s) refl e m (λ h n. each-known ss h u n)
+    where
+      go : (x : Bool) → knows b s ≡ x → (x and knowsEach b ss) ≡ true → u ∈ s ∷ ss → (knowsEach b ss ≡ true → u ∈ ss → knows b u ≡ true) → knows b u ≡ true
+      go true k h (here q) later = ap (knows b) q ∙ k
+      go true k h (there n) later = later h n
+      go false k h n later = no-test h
+
+  known-each : (ss : List Tree) → ((u : Tree) → u ∈ ss → knows b u ≡ true) → knowsEach b ss ≡ true
+  unfolding knowsEach _and_
+  known-each [] f = refl
+  known-each (s ∷ ss) f = rw (f s (here refl)) (known-each ss (λ u m. f u (there m)))
+
+  -- `toFix` tells a line to fix.
+  fix-is : (s : Tree) → toFix b s ≡ true → ToFix b s
+  fix-is s e = go (knows b s) refl
+    where
+      go : (x : Bool) → knows b s ≡ x → ToFix b s
+      go true k = no-test (sym (known-not b s k) ∙ e)
+      go false k = record { unknown = not-known s k; under = λ u m. known u (each-known (below s) (sym (unknown-fix b s k) ∙ e) u (below-to m)) }
+
+  -- And one that is none.
+  fix-not : (s : Tree) → toFix b s ≡ false → ToFix b s → ⊥
+  fix-not s e F =
+      let k : knows b s ≡ false = unknown-is s (F .unknown) in
+      no-test (sym e ∙ unknown-fix b s k ∙ known-each (below s) (λ u m. knows-known u (F .under u (below-from s m))))
 
   -- ---- the verdict
 
@@ -133,7 +152,7 @@ module _ (b : Book) (two : least-k ≤ b .k) where
     middles-in f u p = let x = in-line (subtree-to (p .subtree)) in f (x .0) (p .uncut) (x .1 .is) .middle (p .deep) u (p .is)
 
     -- A passing order has a known part on every line.
-    lines-known : Passes b t → (line : ℕ) (s : Tree) → lineOf line (subtrees t) ≡ found s → Known b s
+    pub lines-known : Passes b t → (line : ℕ) (s : Tree) → lineOf line (subtrees t) ≡ found s → Known b s
     lines-known p line s e =
         let m = subtree-from t (line-in t s line (record { is = e })) in
         record {
@@ -141,60 +160,59 @@ module _ (b : Book) (two : least-k ≤ b .k) where
           middle = λ d u r. p .middles u (record { some-middle = omega (arith, subtree-depth m); uncut = s; subtree = m; deep = d; is = r });
         }
 
-    -- Places and lines: the place before a line.
-    line-known : (n : ℕ) → ((j : ℕ) (s : Tree) → j < n → treeAt (subtrees t) j ≡ found s → knows b s ≡ true) → (line : ℕ) (s : Tree) → line < suc n → lineOf line (subtrees t) ≡ found s → Known b s
-    unfolding lineOf
-    line-known n f zero s l e = not-found e
-    line-known n f (suc i) s l e = known s (f i s (omega arith) e)
-
-    -- The verdict on lines, if the top is known.
-    lines-verdict : ((u : Tree) → IsR (b .k - 1) t u → In (b .R) u) → First 0 (subtrees t) (firstUnknown b 1 (subtrees t)) → Verdict b t (firstUnknown b 1 (subtrees t))
-    unfolding lineOf if_then_else_
-    lines-verdict r (none a f) =
-        let all : (line : ℕ) (s : Tree) → lineOf line (subtrees t) ≡ found s → Known b s = λ line s e. line-known line (λ j u l q. f j u q) line s (omega arith) e in
-        passing a (record { top = r; lows = lows-in all; middles = middles-in all })
-    lines-verdict r (some j s a e n f) = go (told s)
+    -- Where no line is to be fixed, each part is known.
+    none-all : leastToFix b 1 (subtrees t) ≡ no-doubt → AllKnown b t
+    none-all e line s on = known s (each-known (subtrees t) (go (knowsEach b (subtrees t)) refl) s (line-in t s line (record { is = on })))
       where
-        reached : Reached b t (suc (0 + j)) s
-        reached = record { top = r; on = ap (λ (i : ℕ). treeAt (subtrees t) i) (omega arith) ∙ e; earlier = λ m u l q. line-known j f m u (omega arith) q }
+        go : (x : Bool) → knowsEach b (subtrees t) ≡ x → knowsEach b (subtrees t) ≡ true
+        go true h = h
+        go false h = absurd (no-some (some-tree b t 1 h) e)
 
-        go : Told s (knows b s) → Verdict b t (firstUnknown b 1 (subtrees t))
-        go (told-low d h l) = no-low (suc (0 + j)) s (a ∙ rw l) reached d (has-not-in (b .L) s (h ∙ n))
-        go (told-middle d h l) = no-middle (suc (0 + j)) s (a ∙ rw l) reached d (λ u q i. has-not-in (b .P) (middle (b .k) s) (h ∙ n) (subst (In (b .P)) (r-only (b .k) (omega arith) q (middle-r s)) i))
+    -- The least line to fix is the doubted one.
+    doubted-at : (j : ℕ) (s : Tree) → treeAt (subtrees t) j ≡ found s → toFix b s ≡ true → ((m : ℕ) (u : Tree) → m < j → treeAt (subtrees t) m ≡ found u → toFix b u ≡ false) → Doubted b t (suc j) s
+    unfolding lineOf
+    doubted-at j s at e f = record { on = at; fix = fix-is s e; earlier = before }
+      where
+        before : (l : ℕ) (u : Tree) → l < suc j → lineOf l (subtrees t) ≡ found u → ToFix b u → ⊥
+        before zero u h q = not-found q
+        before (suc m) u h q = fix-not u (f m u (omega arith) q)
 
     -- The verdict is given by a row.
     pub verdict-is : Verdict b t (verdict b t)
-    unfolding verdict if_then_else_
-    verdict-is = go (has (words (top (b .k) t)) (b .R)) refl
+    unfolding verdict verdictOn if_then_else_
+    verdict-is = go (least-is b 0 (subtrees t))
       where
-        go : (x : Bool) → has (words (top (b .k) t)) (b .R) ≡ x → Verdict b t (if x then firstUnknown b 1 (subtrees t) else record { number = top-unknown; line = 1 })
-        go true e = lines-verdict (top-in t e) (first 0 (subtrees t))
-        go false e = no-top refl (top-out t e)
+        tops : AllKnown b t → (x : Bool) → has (words (top (b .k) t)) (b .R) ≡ x → Verdict b t (if x then answered done else record { number = top-unknown; line = 1 })
+        tops all true e = passing refl (record { top = top-in t e; lows = lows-in all; middles = middles-in all })
+        tops all false e = no-top refl all (top-out t e)
+
+        at : (line : ℕ) (s : Tree) → Doubted b t line s → Told s false → Verdict b t (record { number = if isLow (b .k) s then low-unknown else middle-unknown; line = line })
+        at line s D (told-low d h l) = no-low line s (rw l) D d (has-not-in (b .L) s h)
+        at line s D (told-middle d h l) = no-middle line s (rw l) D d (λ u q i. has-not-in (b .P) (middle (b .k) s) h (subst (In (b .P)) (r-only (b .k) (omega arith) q (middle-r s)) i))
+
+        go : LeastIs b 0 (subtrees t) (leastToFix b 1 (subtrees t)) → Verdict b t (verdictOn b t (leastToFix b 1 (subtrees t)))
+        go (none-least e f) = rw e (tops (none-all e) (has (words (top (b .k) t)) (b .R)) refl)
+        go (is-least j s e q n f) =
+            let d : leastToFix b 1 (subtrees t) ≡ doubt (suc j) s = e ∙ ap (λ (m : ℕ). doubt m s) (omega arith) in
+            let D = doubted-at j s q n f in
+            rw d (at (suc j) s D (subst (Told s) (unknown-is s (D .fix .unknown)) (told s)))
 
     -- ---- one verdict
 
-    -- A low subtree that L lacks is not known.
-    low-out : (s : Tree) → depth s ≤ b .k - 2 → (In (b .L) s → ⊥) → Known b s → ⊥
-    low-out s d n K = n (K .low d)
-
-    -- A deeper one whose cut P lacks is not known.
-    middle-out : (s : Tree) → b .k - 1 ≤ depth s → ((u : Tree) → IsR (b .k) s u → In (b .P) u → ⊥) → Known b s → ⊥
-    middle-out s d n K = n (middle (b .k) s) (middle-r s) (K .middle d (middle (b .k) s) (middle-r s))
-
-    -- An order with an unknown part does not pass.
-    passing-out : (line : ℕ) (s : Tree) → Passes b t → Reached b t line s → (Known b s → ⊥) → ⊥
-    passing-out line s p r n = n (lines-known p line s (r .on))
+    -- An order with a line to fix does not pass, nor is every line of it known.
+    doubted-out : (line : ℕ) (s : Tree) → AllKnown b t → Doubted b t line s → ⊥
+    doubted-out line s f D = D .fix .unknown (f line s (D .on))
 
     -- A top that is known is not unknown.
     top-known : ((u : Tree) → IsR (b .k - 1) t u → In (b .R) u) → ((u : Tree) → IsR (b .k - 1) t u → In (b .R) u → ⊥) → ⊥
     top-known f n = let r = top-is-r (b .k) t two in n (top (b .k) t) r (f (top (b .k) t) r)
 
-    -- Two lines that are reached, both with an unknown part, are one line.
-    one-line : (l m : ℕ) (s u : Tree) → Reached b t l s → Reached b t m u → (Known b s → ⊥) → (Known b u → ⊥) → (l ≡ m) × (s ≡ u)
-    one-line l m s u p q x y =
+    -- Two doubted lines are one line.
+    one-line : (l m : ℕ) (s u : Tree) → Doubted b t l s → Doubted b t m u → (l ≡ m) × (s ≡ u)
+    one-line l m s u p q =
         elim (decLt l m) [
-          | yes h ↦ absurd (x (q .earlier l s h (p .on)))
-          | no h ↦ elim (decLt m l) [ yes g ↦ absurd (y (p .earlier m u g (q .on))) | no g ↦ same (omega arith) ]
+          | yes h ↦ absurd (q .earlier l s h (p .on) (p .fix))
+          | no h ↦ elim (decLt m l) [ yes g ↦ absurd (p .earlier m u g (q .on) (q .fix)) | no g ↦ same (omega arith) ]
         ]
       where
         same : l ≡ m → (l ≡ m) × (s ≡ u)
@@ -203,22 +221,22 @@ module _ (b : Book) (two : least-k ≤ b .k) where
     -- Only one answer is given by a row.
     pub verdict-one : (a c : Answer) → Verdict b t a → Verdict b t c → a ≡ c
     verdict-one a c (passing e p) (passing f q) = e ∙ sym f
-    verdict-one a c (passing e p) (no-top f q) = absurd (top-known (p .top) q)
-    verdict-one a c (passing e p) (no-low l s f r d n) = absurd (passing-out l s p r (low-out s d n))
-    verdict-one a c (passing e p) (no-middle l s f r d n) = absurd (passing-out l s p r (middle-out s d n))
-    verdict-one a c (no-top e p) (passing f q) = absurd (top-known (q .top) p)
-    verdict-one a c (no-top e p) (no-top f q) = e ∙ sym f
-    verdict-one a c (no-top e p) (no-low l s f r d n) = absurd (top-known (r .top) p)
-    verdict-one a c (no-top e p) (no-middle l s f r d n) = absurd (top-known (r .top) p)
-    verdict-one a c (no-low l s e r d n) (passing f q) = absurd (passing-out l s q r (low-out s d n))
-    verdict-one a c (no-low l s e r d n) (no-top f q) = absurd (top-known (r .top) q)
-    verdict-one a c (no-low l s e r d n) (no-low m u f q g o) = e ∙ same-line _ l m (one-line l m s u r q (low-out s d n) (low-out u g o) .0) ∙ sym f
+    verdict-one a c (passing e p) (no-top f g q) = absurd (top-known (p .top) q)
+    verdict-one a c (passing e p) (no-low l s f r d n) = absurd (doubted-out l s (lines-known p) r)
+    verdict-one a c (passing e p) (no-middle l s f r d n) = absurd (doubted-out l s (lines-known p) r)
+    verdict-one a c (no-top e g p) (passing f q) = absurd (top-known (q .top) p)
+    verdict-one a c (no-top e g p) (no-top f h q) = e ∙ sym f
+    verdict-one a c (no-top e g p) (no-low l s f r d n) = absurd (doubted-out l s g r)
+    verdict-one a c (no-top e g p) (no-middle l s f r d n) = absurd (doubted-out l s g r)
+    verdict-one a c (no-low l s e r d n) (passing f q) = absurd (doubted-out l s (lines-known q) r)
+    verdict-one a c (no-low l s e r d n) (no-top f g q) = absurd (doubted-out l s g r)
+    verdict-one a c (no-low l s e r d n) (no-low m u f q g o) = e ∙ same-line _ l m (one-line l m s u r q .0) ∙ sym f
     verdict-one a c (no-low l s e r d n) (no-middle m u f q g o) =
-        let z : s ≡ u = one-line l m s u r q (low-out s d n) (middle-out u g o) .1 in
+        let z : s ≡ u = one-line l m s u r q .1 in
         absurd (omega (arith, ap depth z))
-    verdict-one a c (no-middle l s e r d n) (passing f q) = absurd (passing-out l s q r (middle-out s d n))
-    verdict-one a c (no-middle l s e r d n) (no-top f q) = absurd (top-known (r .top) q)
+    verdict-one a c (no-middle l s e r d n) (passing f q) = absurd (doubted-out l s (lines-known q) r)
+    verdict-one a c (no-middle l s e r d n) (no-top f g q) = absurd (doubted-out l s g r)
     verdict-one a c (no-middle l s e r d n) (no-low m u f q g o) =
-        let z : s ≡ u = one-line l m s u r q (middle-out s d n) (low-out u g o) .1 in
+        let z : s ≡ u = one-line l m s u r q .1 in
         absurd (omega (arith, ap depth z))
-    verdict-one a c (no-middle l s e r d n) (no-middle m u f q g o) = e ∙ same-line _ l m (one-line l m s u r q (middle-out s d n) (middle-out u g o) .0) ∙ sym f
+    verdict-one a c (no-middle l s e r d n) (no-middle m u f q g o) = e ∙ same-line _ l m (one-line l m s u r q .0) ∙ sym f

@@ -1,13 +1,13 @@
 -- What `judge` answers, for all inputs (01, "Parts" and "Numbers the desk hears"). Assumes nothing: these are definitions.
 use Prim.Native.Nat.{ℕ, suc}
-use mathlib.Core.Bool.{Bool}
+use mathlib.Core.Bool.{Bool, true, false}
 use mathlib.Core.List.{List, [], _∷_}
-use Rattle.words.specs.Base.{if_then_else_}
+use Rattle.words.specs.Base.{if_then_else_, _and_}
 use Rattle.figures.specs.Numbers.{done, top-unknown, low-unknown, middle-unknown}
 use Rattle.figures.specs.Answers.{answered}
 use Rattle.figures.specs.declared.Answer.{Answer}
 use Rattle.section.specs.Entries.{has}
-use Rattle.trees.specs.Trees.{Tree, words, subtrees}
+use Rattle.trees.specs.Trees.{Tree, words, subtrees, below}
 use Rattle.trees.specs.Reading.{byOrder, orderOf}
 use Rattle.trees.specs.Parts.{top, isLow, middle}
 use Rattle.book.specs.Book.{Book}
@@ -17,17 +17,33 @@ use Rattle.book.specs.Decoding.{onBook}
 unfoldable pub knows : Book → Tree → Bool
 knows b s = if isLow (b .k) s then has (words s) (b .L) else has (words (middle (b .k) s)) (b .P)
 
--- The answer for the first unknown part of the subtrees from a line on: "21 or 22 by its depth"; 0 where every part is known.
-unfoldable pub firstUnknown : Book → ℕ → List Tree → Answer
-firstUnknown b line [] = answered done
-firstUnknown b line (s ∷ ss) =
-    if knows b s then firstUnknown b (suc line) ss
-    else record { number = if isLow (b .k) s then low-unknown else middle-unknown; line = line }
+-- Each of the subtrees' parts is in the book.
+unfoldable pub knowsEach : Book → List Tree → Bool
+knowsEach b [] = true
+knowsEach b (s ∷ ss) = knows b s and knowsEach b ss
 
--- "20 with line 1 if the top is unknown; otherwise the least line whose subtree's part is unknown, 21 or 22 by its depth."
+-- "whose part is unknown while nothing strictly below it is unknown"
+unfoldable pub toFix : Book → Tree → Bool
+toFix b s = if knows b s then false else knowsEach b (below s)
+
+-- A line that is doubted, with its subtree; or none.
+pub data Doubt : Type 0 where
+  no-doubt : Doubt
+  doubt : ℕ → Tree → Doubt
+
+-- "The line wanted is the least one" to fix, of the subtrees from a line on.
+unfoldable pub leastToFix : Book → ℕ → List Tree → Doubt
+leastToFix b line [] = no-doubt
+leastToFix b line (s ∷ ss) = if toFix b s then doubt line s else leastToFix b (suc line) ss
+
+-- The answer: 21 or 22 by the depth of the doubted line's subtree. "Answer 20 is given only when no line is unknown", and its line is 1.
+unfoldable pub verdictOn : Book → Tree → Doubt → Answer
+verdictOn b t no-doubt = if has (words (top (b .k) t)) (b .R) then answered done else record { number = top-unknown; line = 1 }
+verdictOn b t (doubt line s) = record { number = if isLow (b .k) s then low-unknown else middle-unknown; line = line }
+
+-- The verdict of a book on an order.
 unfoldable pub verdict : Book → Tree → Answer
-verdict b t =
-    if has (words (top (b .k) t)) (b .R) then firstUnknown b 1 (subtrees t) else record { number = top-unknown; line = 1 }
+verdict b t = verdictOn b t (leastToFix b 1 (subtrees t))
 
 -- "Judge: 4, 5, 1, 2, verdict."
 unfoldable pub judgeOf : List ℕ → List ℕ → Answer

@@ -1,12 +1,11 @@
 -- What the inner functions of `judge` look up in a book, by the trees that stand in the order's words. Assumes nothing: these are definitions.
-use Prim.Native.Nat.{ℕ, zero, suc, _+_, _*_, _-_, _≤_}
+use Prim.Native.Nat.{ℕ, suc, _+_, _*_, _-_, _≤_}
 use mathlib.Core.Bool.{Bool, true, false}
 use mathlib.Core.List.{List, [], _∷_}
 use mathlib.Core.Path.{_≡_}
 use lib.ListN.{length, take, drop}
 use Rattle.words.specs.Base.{if_then_else_}
-use Rattle.figures.specs.Numbers.{done, low-unknown, middle-unknown}
-use Rattle.figures.specs.Answers.{answered}
+use Rattle.figures.specs.Numbers.{low-unknown, middle-unknown}
 use Rattle.figures.specs.declared.Answer.{Answer}
 use Rattle.section.specs.Entries.{Entry, entries, span, has, Sorted}
 use Rattle.trees.specs.Trees.{Tree, words, subtrees}
@@ -16,21 +15,31 @@ use Rattle.trees.specs.Walks.{treeFrom, partAtOf}
 use Rattle.trees.specs.declared.PartAt.{PartAt}
 use Rattle.trees.specs.declared.PartAt.the-variants.{NoPart, LowTo, MiddleTo}
 use Rattle.book.specs.Book.{Book}
-use Rattle.verdicts.specs.Judging.{knows}
+use Rattle.verdicts.specs.Judging.{knows, Doubt, no-doubt, doubt, leastToFix}
 use Rattle.verdicts.specs.declared.Sought.{Sought}
 
 -- The top of the order is in the book.
 unfoldable pub topKnown : Book → List ℕ → Bool
 topKnown b os = byOrder (orderOf os) (λ n. false) (λ t. has (words (top (b .k) t)) (b .R))
 
--- "the least line whose subtree's part is unknown", of the subtrees from a line on; 0 where every part is known.
+-- The least line whose subtree's part is unknown, of the subtrees from a line on; 0 where every part is known.
 unfoldable pub unknownLine : Book → ℕ → List Tree → ℕ
 unknownLine b line [] = 0
 unknownLine b line (s ∷ ss) = if knows b s then unknownLine b (suc line) ss else line
 
--- The first line of the order whose part is unknown, or 0.
-unfoldable pub lineUnknown : Book → List ℕ → ℕ
-lineUnknown b os = byOrder (orderOf os) (λ n. 0) (λ t. unknownLine b 1 (subtrees t))
+-- The first line of the order whose part is unknown, of the lines from one up to another, both counted from 0; the line is counted from 1, and is 0 where
+-- there is none.
+unfoldable pub unknownWithin : Book → List ℕ → ℕ → ℕ → ℕ
+unknownWithin b os from to = byOrder (orderOf os) (λ n. 0) (λ t. unknownLine b (suc from) (take (to - from) (drop from (subtrees t))))
+
+-- The line of a doubt; 0 where there is none.
+unfoldable pub doubtLine : Doubt → ℕ
+doubtLine no-doubt = 0
+doubtLine (doubt line s) = line
+
+-- The line of the order that is to be fixed, or 0.
+unfoldable pub lineToFix : Book → List ℕ → ℕ
+lineToFix b os = byOrder (orderOf os) (λ n. 0) (λ t. doubtLine (leastToFix b 1 (subtrees t)))
 
 -- The number for an unknown part by what stands at a word: 21 for a low part, 22 for a middle part; 21 where there is none, which no line of an
 -- order meets.
@@ -39,10 +48,9 @@ unknownNumber NoPart = low-unknown
 unknownNumber (LowTo e) = low-unknown
 unknownNumber (MiddleTo e c) = middle-unknown
 
--- The answer for the first unknown line of an order; 0 for line 0.
+-- The answer for a line of an order that is to be fixed, counted from 1.
 unfoldable pub lineAnswer : ℕ → List ℕ → ℕ → Answer
-lineAnswer k os zero = answered done
-lineAnswer k os (suc i) = record { number = unknownNumber (partAtOf os (i * 2) k); line = suc i }
+lineAnswer k os line = record { number = unknownNumber (partAtOf os ((line - 1) * 2) k); line = line }
 
 -- The words that a part is in: a low part is in the order's own words, and a middle part in those of its cut.
 abbrev pub speltIn : Bool → List ℕ → List ℕ → List ℕ

@@ -13,7 +13,7 @@ use Rattle.trees.specs.Reading.{found}
 use Rattle.trees.specs.Causes.{Cause}
 use Rattle.trees.specs.Fits.{IsOrder}
 use Rattle.trees.specs.Answers.{lineOf}
-use Rattle.trees.specs.Paper.{IsR, IsL, IsP}
+use Rattle.trees.specs.Paper.{StrictlyBelow, IsR, IsL, IsP}
 use Rattle.book.specs.Book.{Book}
 use Rattle.book.specs.Sound.{IsBook, WhyForm}
 use Rattle.book.specs.declared.BookForm.the-variants.{Refused}
@@ -35,22 +35,31 @@ pub record Known (b : Book) (s : Tree) : Type 0 where
   pub low : depth s ≤ b .k - 2 → In (b .L) s
   pub middle : b .k - 1 ≤ depth s → (u : Tree) → IsR (b .k) s u → In (b .P) u
 
--- The top is known, s is the subtree of the line, and on every line before it the part is known.
-pub record Reached (b : Book) (t : Tree) (line : ℕ) (s : Tree) : Type 0 where
-  pub top : (u : Tree) → IsR (b .k - 1) t u → In (b .R) u
+-- Every line's part is in the book.
+abbrev pub AllKnown : Book → Tree → Type 0
+AllKnown b t = (line : ℕ) (s : Tree) → lineOf line (subtrees t) ≡ found s → Known b s
+
+-- A subtree "whose part is unknown while nothing strictly below it is unknown".
+pub record ToFix (b : Book) (s : Tree) : Type 0 where
+  pub unknown : Known b s → ⊥
+  pub under : (u : Tree) → StrictlyBelow s u → Known b u
+
+-- s is the subtree of the line, which is the least one to fix.
+pub record Doubted (b : Book) (t : Tree) (line : ℕ) (s : Tree) : Type 0 where
   pub on : lineOf line (subtrees t) ≡ found s
-  pub earlier : (j : ℕ) (u : Tree) → j < line → lineOf j (subtrees t) ≡ found u → Known b u
+  pub fix : ToFix b s
+  pub earlier : (j : ℕ) (u : Tree) → j < line → lineOf j (subtrees t) ≡ found u → ToFix b u → ⊥
 
 -- Why a book answers an order by a.
 pub data Verdict (b : Book) (t : Tree) (a : Answer) : Type 0 where
   -- 0: "passes"
   passing : a ≡ answered done → Passes b t → Verdict b t a
-  -- 20: "top not in R", with line 1, whatever the lines say
-  no-top : a ≡ record { number = top-unknown; line = 1 } → ((u : Tree) → IsR (b .k - 1) t u → In (b .R) u → ⊥) → Verdict b t a
-  -- 21: "low part unknown", at "the least line whose subtree's part is unknown"
-  no-low : (line : ℕ) (s : Tree) → a ≡ record { number = low-unknown; line = line } → Reached b t line s → depth s ≤ b .k - 2 → (In (b .L) s → ⊥) → Verdict b t a
+  -- 20: "top not in R", with line 1, "only when no line is unknown"
+  no-top : a ≡ record { number = top-unknown; line = 1 } → AllKnown b t → ((u : Tree) → IsR (b .k - 1) t u → In (b .R) u → ⊥) → Verdict b t a
+  -- 21: "low part unknown", at "the least one whose part is unknown while nothing strictly below it is unknown"
+  no-low : (line : ℕ) (s : Tree) → a ≡ record { number = low-unknown; line = line } → Doubted b t line s → depth s ≤ b .k - 2 → (In (b .L) s → ⊥) → Verdict b t a
   -- 22: "middle part unknown", at that line
-  no-middle : (line : ℕ) (s : Tree) → a ≡ record { number = middle-unknown; line = line } → Reached b t line s → b .k - 1 ≤ depth s → ((u : Tree) → IsR (b .k) s u → In (b .P) u → ⊥) → Verdict b t a
+  no-middle : (line : ℕ) (s : Tree) → a ≡ record { number = middle-unknown; line = line } → Doubted b t line s → b .k - 1 ≤ depth s → ((u : Tree) → IsR (b .k) s u → In (b .P) u → ⊥) → Verdict b t a
 
 -- Why judging answers a: "Judge: 4, 5, 1, 2, verdict."
 pub data Judged (ws os : List ℕ) (a : Answer) : Type 0 where
@@ -73,24 +82,25 @@ pub record PassesBy (ws os : List ℕ) : Type 0 where
   pub lent : Lent ws os
   pub passes : Passes (lent .book) (lent .tree)
 
--- What 20 with a line says: the line is 1, and the order's top is not in R.
+-- What 20 with a line says: the line is 1, every line's part is known, and the order's top is not in R.
 pub record TopUnknown (ws os : List ℕ) (line : ℕ) : Type 0 where
   pub lent : Lent ws os
   pub first : line ≡ 1
+  pub known : AllKnown (lent .book) (lent .tree)
   pub unknown : (u : Tree) → IsR (lent .book .k - 1) (lent .tree) u → In (lent .book .R) u → ⊥
 
--- What 21 with a line says: it is the first line whose part is unknown, and its subtree is low and not in L.
+-- What 21 with a line says: it is the least one to fix, and its subtree is low and not in L.
 pub record LowUnknown (ws os : List ℕ) (line : ℕ) : Type 0 where
   pub lent : Lent ws os
   pub subtree : Tree
-  pub reached : Reached (lent .book) (lent .tree) line subtree
+  pub doubted : Doubted (lent .book) (lent .tree) line subtree
   pub low : depth subtree ≤ lent .book .k - 2
   pub unknown : In (lent .book .L) subtree → ⊥
 
--- What 22 with a line says: it is the first line whose part is unknown, and its subtree is deeper and its r of index k not in P.
+-- What 22 with a line says: it is the least one to fix, and its subtree is deeper and its r of index k not in P.
 pub record MiddleUnknown (ws os : List ℕ) (line : ℕ) : Type 0 where
   pub lent : Lent ws os
   pub subtree : Tree
-  pub reached : Reached (lent .book) (lent .tree) line subtree
+  pub doubted : Doubted (lent .book) (lent .tree) line subtree
   pub deep : lent .book .k - 1 ≤ depth subtree
   pub unknown : (u : Tree) → IsR (lent .book .k) subtree u → In (lent .book .P) u → ⊥

@@ -10,29 +10,29 @@ use Rattle.section.specs.Entries.{entries, span, has, Sorted}
 use Rattle.section.proofs.Words.{span-at}
 use Rattle.section.proofs.Searches.{sorted-past, has-past, has-here, has-not, has-none}
 use Rattle.book.specs.Decoding.{bookIn}
-use Rattle.verdicts.specs.Seeking.{lineUnknown, keyOf}
-use Rattle.verdicts.proofs.Rounds.{unknownFrom, from-first, from-last, from-known, from-unknown}
+use Rattle.verdicts.specs.Seeking.{unknownWithin, keyOf}
+use Rattle.verdicts.proofs.Rounds.{within-last, within-known, within-unknown}
 use Rattle.judge.proofs.first_unknown.Statement.{statement}
 use Rattle.judge.proofs.first_unknown.Tie as tie
 
 -- The entries left lie within the book and are sorted, and the section has what is sought exactly if they have it.
 abbrev Inv-loop : tie.InvT-loop
-Inv-loop book places order levels cut lines line part at₀ left₀ at left =
+Inv-loop book places order levels from to cut line part at₀ left₀ at left =
     (at + span left (drop at book) ≤ length book) × Sorted (entries left (drop at book))
     × (has (keyOf part order cut) (entries (part .many) (drop (part .at) book)) ≡ has (keyOf part order cut) (entries left (drop at book)))
 
 -- Each turn leaves one entry fewer.
 abbrev μ-loop : tie.MeasureT-loop
-μ-loop book places order levels cut lines line part at₀ left₀ at left = left
+μ-loop book places order levels from to cut line part at₀ left₀ at left = left
 
--- The first unknown line is that of the lines left.
+-- The first unknown line of the range is that of the lines left.
 abbrev Inv-lines : tie.InvT-lines
-Inv-lines book places order levels cut₀ lines line₀ cut line =
-    (line ≤ lines) × (length cut ≡ most-words) × (lineUnknown (bookIn book) order ≡ unknownFrom (bookIn book) order line)
+Inv-lines book places order levels from to cut₀ line₀ cut line =
+    (line ≤ to) × (length cut ≡ most-words) × (unknownWithin (bookIn book) order from to ≡ unknownWithin (bookIn book) order line to)
 
 -- Each turn leaves one line fewer.
 abbrev μ-lines : tie.MeasureT-lines
-μ-lines book places order levels cut₀ lines line₀ cut line = lines - line
+μ-lines book places order levels from to cut₀ line₀ cut line = to - line
 
 -- The words of the book, seen from the inner loop.
 abbrev book : tie.At-loop Inv-loop μ-loop Inv-lines μ-lines → List ℕ
@@ -45,7 +45,7 @@ room c =
     omega (arith, k .loop .inv .0, span-at (book k) (k .loop .at) (k .loop .left) (k .loop .at + 2 + 2 * getD (book k) (k .loop .at) 0) (c .loop-test .taken) refl)
 
 lines-holds : tie.Need-lines-holds Inv-loop μ-loop Inv-lines μ-lines
-lines-holds c = (omega arith, refl, from-first _ _)
+lines-holds c = (omega (arith, c .before .before .pre .1 .1 .0 .0), refl, refl)
 
 slice-aggregate-seek : tie.Need-slice-aggregate-seek Inv-loop μ-loop Inv-lines μ-lines
 slice-aggregate-seek c = sym (c .before .before .lines .inv .1)
@@ -53,7 +53,7 @@ slice-aggregate-seek c = sym (c .before .before .lines .inv .1)
 seek-requires : tie.Need-seek-requires Inv-loop μ-loop Inv-lines μ-lines
 seek-requires c κs =
     let s = c .before .before .before .before .before in
-    (s .pre .0, (s .pre .1 .0, (omega (arith, c .before .if1 .left), (omega arith, s .pre .1 .1))))
+    (s .pre .0, (s .pre .1 .0, (omega (arith, c .before .if1 .left, s .pre .1 .1 .0 .1), (omega arith, s .pre .1 .1 .1))))
 
 add-line : tie.Need-add-line Inv-loop μ-loop Inv-lines μ-lines
 add-line c = omega (arith, c .before .before .before .if1 .left)
@@ -121,7 +121,7 @@ lines-again c =
     let l = sk .before .before .before in (
       omega (arith, sk .before .before .if1 .left),
       sk .seek .kept .1 .1 .1 .1 .1 .0 ∙ l .lines .inv .1,
-      l .lines .inv .2 ∙ from-known _ _ _ _ _ _ (l .before .before .before .pre .1 .0) (omega (arith, sk .before .before .if1 .left)) (sk .seek .ensures) (k .loop .inv .2 ∙ has-here (book k) (k .loop .at) (k .loop .left) (p .result) (i .loop-test .taken) (p .ensures) _ (sym (a .against .ensures) ∙ c .enum-told2 .given .1)),
+      l .lines .inv .2 ∙ within-known _ _ _ _ _ _ (l .before .before .before .pre .1 .0) (omega (arith, sk .before .before .if1 .left, l .before .before .before .pre .1 .1 .0 .1)) (sk .seek .ensures) _ (sk .before .before .if1 .left) (k .loop .inv .2 ∙ has-here (book k) (k .loop .at) (k .loop .left) (p .result) (i .loop-test .taken) (p .ensures) _ (sym (a .against .ensures) ∙ c .enum-told2 .given .1)),
     )
 
 enum-told-3 : tie.Need-enum-told-3 Inv-loop μ-loop Inv-lines μ-lines
@@ -130,7 +130,7 @@ enum-told-3 c = search needs
 returns : tie.Need-returns Inv-loop μ-loop Inv-lines μ-lines
 returns c =
     let k = c .before in
-    sym (k .lines .inv .2 ∙ from-last _ _ _ (k .before .before .before .pre .1 .0) (c .if1 .taken))
+    sym (k .lines .inv .2 ∙ within-last _ _ _ _ (k .before .before .before .pre .1 .0) (c .if1 .taken))
 
 returns-2 : tie.Need-returns-2 Inv-loop μ-loop Inv-lines μ-lines
 returns-2 c =
@@ -140,14 +140,14 @@ returns-2 c =
     let p = a .before .before .before .past in
     let sk = k .before .before in
     let l = sk .before .before .before in
-    sym (l .lines .inv .2 ∙ from-unknown _ _ _ _ _ _ (l .before .before .before .pre .1 .0) (omega (arith, sk .before .before .if1 .left)) (sk .seek .ensures) (k .loop .inv .2 ∙ has-not (book k) (k .loop .at) (k .loop .left) (p .result) (i .loop-test .taken) (p .ensures) _ (k .loop .inv .1) (sym (a .against .ensures) ∙ c .enum-told3 .given .1)))
+    sym (l .lines .inv .2 ∙ within-unknown _ _ _ _ _ _ (l .before .before .before .pre .1 .0) (omega (arith, sk .before .before .if1 .left, l .before .before .before .pre .1 .1 .0 .1)) (sk .seek .ensures) _ (sk .before .before .if1 .left) (k .loop .inv .2 ∙ has-not (book k) (k .loop .at) (k .loop .left) (p .result) (i .loop-test .taken) (p .ensures) _ (k .loop .inv .1) (sym (a .against .ensures) ∙ c .enum-told3 .given .1)))
 
 returns-3 : tie.Need-returns-3 Inv-loop μ-loop Inv-lines μ-lines
 returns-3 c =
     let k = c .before in
     let sk = k .before .before in
     let l = sk .before .before .before in
-    sym (l .lines .inv .2 ∙ from-unknown _ _ _ _ _ _ (l .before .before .before .pre .1 .0) (omega (arith, sk .before .before .if1 .left)) (sk .seek .ensures) (k .loop .inv .2 ∙ has-none (book k) _ (k .loop .at) (k .loop .left) (c .loop-test .left)))
+    sym (l .lines .inv .2 ∙ within-unknown _ _ _ _ _ _ (l .before .before .before .pre .1 .0) (omega (arith, sk .before .before .if1 .left, l .before .before .before .pre .1 .1 .0 .1)) (sk .seek .ensures) _ (sk .before .before .if1 .left) (k .loop .inv .2 ∙ has-none (book k) _ (k .loop .at) (k .loop .left) (c .loop-test .left)))
 
 pub first-unknown-spec : {M : Type 1} → statement M
 first-unknown-spec =
