@@ -1,5 +1,5 @@
-// Judging: whether an order's parts are all in the book, and the first line whose part is not. Nothing lent is changed. Assumes nothing
-// beyond each inner function's `requires`.
+// Judging: whether an order's top and parts are all in the book, and otherwise the line to fix: the first one whose part is not, while all that stands strictly
+// below it is. Nothing lent is changed. Assumes nothing beyond each inner function's `requires`.
 ghost use mathlib.Core.Path.{_≡_};
 ghost use Prim.Native.Nat.{_*_, _/_, _≤_, _<_};
 ghost use lib.ListN.{length};
@@ -146,7 +146,7 @@ fn first_unknown(
     }
 }
 
-// The line to fix, counted from 1; 0 where every part is known. It is the first unknown line if all below it are known, and otherwise the one to fix
+// The line to fix, counted from 1; 0 where every part is known. It is the first unknown line if all strictly below it are known, and otherwise the one to fix
 // among those: each line is looked up at most once.
 fn line_to_fix(
     book: &[u16],

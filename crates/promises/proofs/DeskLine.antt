@@ -35,11 +35,11 @@ use Rattle.calls.specs.Steps.{Run, stepOf}
 use Rattle.calls.proofs.Lines.{feeds-append, line-feeds, calls-feeds, letter-no-feed}
 use Rattle.calls.proofs.Runs.{Finished, run-goes-on, run-prints, run-from}
 use Rattle.promises.specs.AtTheDesk.{WhyAnswered, no-text, text-at-fault, teaches, withdraws, judges, InDecimal, Says, PrintedFor}
-use Rattle.promises.specs.Forms.{LineOfText, ComesBack}
+use Rattle.promises.specs.Forms.{LineOfText, ComesBack, Told}
 use Rattle.promises.proofs.FormLines.{spell-feeds}
 use Rattle.promises.proofs.Handing.{asks-order, book-then}
 use Rattle.promises.proofs.Demand1.{Exactly}
-use Rattle.promises.proofs.Demand2.{comes-back}
+use Rattle.promises.proofs.Demand2.{comes-back, doubted-least}
 use Rattle.promises.proofs.AtTheDesk.{blank, opened, desk-book, line-of-each}
 use Rattle.promises.proofs.DeskFigures.{desk-figures-small}
 
@@ -185,17 +185,27 @@ pub fault-place : (text : List ℕ) (n line : ℕ) → FirstFault text n line
     → (front : List ℕ) × (rest : List ℕ) × (text ≡ front ++ rest) × (0 < length rest) × (line ≡ suc (feeds front))
 fault-place text n line f = (spell (f .before), f .rest, f .text, f .some, f .place ∙ ap suc (sym (spell-feeds (f .before))))
 
+-- The text of an order below J is judged.
+desk-judges : (text : List ℕ) (t : Tree) → text ≡ textOf t → IsOrder (words t) t → (book : List ℕ)
+    → callOf (record { letter = Judge; text = text }) book .answer ≡ judgeOf book (words t)
+desk-judges text t e o book =
+    ap (λ (r : Outcome). r .answer) (ap (λ (s : List ℕ). callOf (record { letter = Judge; text = s }) book) e ∙ desk-answers t o book .2)
+
 -- "any other comes back to the order clerk with a number and a line": a form below J with the text of an order that does not pass by a book in form is
 -- answered by 20, 21 or 22 and the number of a line of the form as it was handed in.
 pub desk-comes-back : (text : List ℕ) (t : Tree) → text ≡ textOf t → IsOrder (words t) t → (book : List ℕ) (b : Book) → IsBook book b
     → let a = callOf (record { letter = Judge; text = text }) book .answer in (a .number ≡ done → ⊥) → ComesBack t a × ((x : Line) × LineOfText text (a .line) x)
 desk-comes-back text t e o book b is not =
-    let q : callOf (record { letter = Judge; text = text }) book ≡ outcome (judgeOf book (words t)) book =
-    ap (λ (s : List ℕ). callOf (record { letter = Judge; text = s }) book) e ∙ desk-answers t o book .2 in
-    let a : callOf (record { letter = Judge; text = text }) book .answer ≡ judgeOf book (words t) = ap (λ (r : Outcome). r .answer) q in
+    let a = desk-judges text t e o book in
     let r : ComesBack t (callOf (record { letter = Judge; text = text }) book .answer) =
     subst (ComesBack t) (sym a) (comes-back book (words t) b t is o (λ z. not (ap (λ (v : Answer). v .number) a ∙ z))) in
     (r, (r .read-aloud, subst (λ (s : List ℕ). LineOfText s (callOf (record { letter = Judge; text = text }) book .answer .line) (r .read-aloud)) (sym e) (r .stands)))
+
+-- "point at the line I can fix": of such a form, by a book in form, the desk tells the line wanted, or 20 where no line is unknown, and 0 to none that does not
+-- pass.
+pub desk-points : (text : List ℕ) (t : Tree) → text ≡ textOf t → IsOrder (words t) t → (book : List ℕ) (b : Book) → IsBook book b
+    → Told b t (callOf (record { letter = Judge; text = text }) book .answer)
+desk-points text t e o book b is = subst (Told b t) (sym (desk-judges text t e o book)) (doubted-least book (words t) b t is o)
 
 -- ---- the steps of the library
 

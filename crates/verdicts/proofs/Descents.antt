@@ -24,7 +24,9 @@ use Rattle.verdicts.proofs.Fixes.{orDoubt, least-known, least-past, lea
 
 -- What the first unknown line of some subtrees is, the first of them on this line.
 pub data FirstOf (b : Book) (line : ℕ) (ss : List Tree) (r : ℕ) : Type 0 where
+  -- All are known, and it is 0.
   all-known : r ≡ 0 → knowsEach b ss ≡ true → FirstOf b line ss r
+  -- Behind known ones an unknown one.
   unknown-at : (us : List Tree) (s : Tree) (vs : List Tree) → r ≡ line + length us → ss ≡ us ++ (s ∷ vs) → knowsEach b us ≡ true → knows b s ≡ false → FirstOf b line ss r
 
 -- `unknownLine` is it.
@@ -33,6 +35,7 @@ unfolding unknownLine knowsEach _and_ if_then_else_
 first-of b line [] = all-known refl refl
 first-of b line (s ∷ ss) = go (knows b s) refl (first-of b (suc line) ss)
   where
+    -- By whether the first is known, and by the others.
     go : (x : Bool) → knows b s ≡ x → FirstOf b (suc line) ss (unknownLine b (suc line) ss) → FirstOf b line (s ∷ ss) (if x then unknownLine b (suc line) ss else line)
     go true k (all-known z e) = all-known z (rw (k, e) refl)
     go true k (unknown-at us u vs z e f g) = unknown-at (s ∷ us) u vs (z ∙ omega arith) (rw e refl) (rw (k, f) refl) g
@@ -80,6 +83,7 @@ down-first b os e =
       fix = rw (p .is) (rw (append-nil (subtrees t)) (go (leastToFix b 1 (subtrees t))));
     }
   where
+    -- 0 was found before.
     go : (d : Doubt) → doubtLine d ≡ orLine 0 d
     go no-doubt = refl
     go (doubt l s) = refl
@@ -97,6 +101,7 @@ module _ (b : Book) (os : List ℕ) (line from to r : ℕ) (D : Down b os line f
   unfolding orLine
   down-last z = go (first-of b (suc from) (subtreesF (D .row)))
     where
+      -- By the first unknown line.
       go : FirstOf b (suc from) (subtreesF (D .row)) (unknownLine b (suc from) (subtreesF (D .row))) → line ≡ lineToFix b os
       go (all-known q e) = sym (D .fix ∙ rw (least-known b (suc from) (subtreesF (D .row)) e))
       go (unknown-at us s vs q e f g) = absurd (omega (arith, in-row, q))

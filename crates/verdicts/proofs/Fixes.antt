@@ -35,12 +35,13 @@ or-some : {d : Doubt} (e : Doubt) → Some d → orDoubt d e ≡ d
 or-some e (some line s p) = rw p
 
 module _ (b : Book) where
-  -- Where all are known, each is; and the other way round.
+  -- All of two runs are known exactly if all of each are.
   each-both : (us vs : List Tree) → knowsEach b (us ++ vs) ≡ (knowsEach b us and knowsEach b vs)
   unfolding knowsEach _and_
   each-both [] vs = refl
   each-both (u ∷ us) vs = go (knows b u) (each-both us vs)
     where
+      -- By whether the first is known.
       go : (x : Bool) → knowsEach b (us ++ vs) ≡ (knowsEach b us and knowsEach b vs) → (x and knowsEach b (us ++ vs)) ≡ ((x and knowsEach b us) and knowsEach b vs)
       go true h = h
       go false h = refl
@@ -61,9 +62,11 @@ module _ (b : Book) where
   least-both line [] vs = ap (λ (n : ℕ). leastToFix b n vs) (omega arith)
   least-both line (u ∷ us) vs = go (toFix b u) (least-both (suc line) us vs)
     where
+      -- The line of the second run.
       next : suc line + length us ≡ line + suc (length us)
       next = omega arith
 
+      -- By whether the first is to be fixed.
       go : (x : Bool) → leastToFix b (suc line) (us ++ vs) ≡ orDoubt (leastToFix b (suc line) us) (leastToFix b (suc line + length us) vs)
           → (if x then doubt line u else leastToFix b (suc line) (us ++ vs)) ≡ orDoubt (if x then doubt line u else leastToFix b (suc line) us) (leastToFix b (line + suc (length us)) vs)
       go true h = refl
@@ -75,6 +78,7 @@ module _ (b : Book) where
   least-known line [] e = refl
   least-known line (s ∷ ss) e = go (knows b s) refl e (λ h. least-known (suc line) ss h)
     where
+      -- By whether the first is known.
       go : (x : Bool) → knows b s ≡ x → (x and knowsEach b ss) ≡ true → (knowsEach b ss ≡ true → leastToFix b (suc line) ss ≡ no-doubt) → leastToFix b line (s ∷ ss) ≡ no-doubt
       go true k h later = rw (known-not s k) (later h)
       go false k h later = no-test h
@@ -86,6 +90,7 @@ module _ (b : Book) where
     pub some-tree : (t : Tree) (line : ℕ) → knowsEach b (subtrees t) ≡ false → Some (leastToFix b line (subtrees t))
     some-tree (node c f) line e = go (knows b (node c f)) refl (knowsEach b (subtreesF f)) refl (λ l. some-row f (suc line) l)
       where
+        -- By whether the line itself, and all below it, are known.
         go : (x : Bool) → knows b (node c f) ≡ x → (y : Bool) → knowsEach b (subtreesF f) ≡ y → (knowsEach b (subtreesF f) ≡ false → Some (leastToFix b (suc line) (subtreesF f))) → Some (leastToFix b line (node c f ∷ subtreesF f))
         go true k true l later = let z : true ≡ false = rw (k, l) at e in no-test (sym z)
         go true k false l later = rw (known-not (node c f) k) (later l)
@@ -96,6 +101,7 @@ module _ (b : Book) where
     some-row bare line e = no-test (sym e)
     some-row (cons t f) line e = go (knowsEach b (subtrees t)) refl (λ k. some-tree t line k) (λ l. some-row f (line + length (subtrees t)) l)
       where
+        -- By whether all of the first tree is known.
         go : (x : Bool) → knowsEach b (subtrees t) ≡ x → (knowsEach b (subtrees t) ≡ false → Some (leastToFix b line (subtrees t)))
             → (knowsEach b (subtreesF f) ≡ false → Some (leastToFix b (line + length (subtrees t)) (subtreesF f))) → Some (leastToFix b line (subtrees t ++ subtreesF f))
         go true k first later =
@@ -115,6 +121,7 @@ module _ (b : Book) where
   unfolding leastToFix below if_then_else_
   least-below line c f rest k = go (knowsEach b (subtreesF f)) refl
     where
+      -- By whether all strictly below it are known.
       go : (y : Bool) → knowsEach b (subtreesF f) ≡ y
           → (if toFix b (node c f) then doubt line (node c f) else leastToFix b (suc line) (subtreesF f ++ rest)) ≡ orDoubt (leastToFix b (suc line) (subtreesF f)) (doubt line (node c f))
       go true l = rw (unknown-fix (node c f) k, l, least-known (suc line) (subtreesF f) l) refl
@@ -136,19 +143,23 @@ module _ (b : Book) where
   least-is i [] = none-least refl (λ j s e. not-found e)
   least-is i (s ∷ ss) = go (toFix b s) refl (least-is (suc i) ss)
     where
+      -- The first is none to fix.
       here-not : toFix b s ≡ false → (u : Tree) → found s ≡ found u → toFix b u ≡ false
       here-not e u f = let z : s ≡ u = cc in subst (λ (x : Tree). toFix b x ≡ false) z e
 
+      -- By whether the first is to be fixed, and by the others.
       go : (x : Bool) → toFix b s ≡ x → LeastIs (suc i) ss (leastToFix b (suc (suc i)) ss)
           → LeastIs i (s ∷ ss) (if x then doubt (suc i) s else leastToFix b (suc (suc i)) ss)
       go true e r = is-least zero s (ap (λ (n : ℕ). doubt n s) (omega arith)) refl e (λ m u l q. absurd (omega arith))
       go false e (none-least a f) = none-least a (each f)
         where
+          -- So none is.
           each : ((j : ℕ) (u : Tree) → treeAt ss j ≡ found u → toFix b u ≡ false) → (j : ℕ) (u : Tree) → treeAt (s ∷ ss) j ≡ found u → toFix b u ≡ false
           each f zero u q = here-not e u q
           each f (suc j) u q = f j u q
       go false e (is-least j u a at n f) = is-least (suc j) u (a ∙ ap (λ (n : ℕ). doubt n u) (omega arith)) at n (each f)
         where
+          -- So none before it is.
           each : ((m : ℕ) (x : Tree) → m < j → treeAt ss m ≡ found x → toFix b x ≡ false) → (m : ℕ) (x : Tree) → m < suc j → treeAt (s ∷ ss) m ≡ found x → toFix b x ≡ false
           each f zero x l q = here-not e x q
           each f (suc m) x l q = f m x (omega arith) q

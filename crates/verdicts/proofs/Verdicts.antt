@@ -93,6 +93,7 @@ module _ (b : Book) (two : least-k ≤ b .k) where
   knows-known : (s : Tree) → Known b s → knows b s ≡ true
   knows-known s K = go (knows b s) refl (told s)
     where
+      -- By whether the book knows it, and by the depth.
       go : (x : Bool) → knows b s ≡ x → Told s (knows b s) → knows b s ≡ true
       go true e t = e
       go false e (told-low d h l) = absurd (has-not-in (b .L) s (h ∙ e) (K .low d))
@@ -106,21 +107,24 @@ module _ (b : Book) (two : least-k ≤ b .k) where
   unknown-is : (s : Tree) → (Known b s → ⊥) → knows b s ≡ false
   unknown-is s n = go (knows b s) refl
     where
+      -- By whether the book knows it.
       go : (x : Bool) → knows b s ≡ x → knows b s ≡ false
       go true e = absurd (n (known s e))
       go false e = e
 
-  -- Where each part of some subtrees is known, that of every member is; and the other way round.
+  -- Where each part of some subtrees is known, that of every member is.
   each-known : (ss : List Tree) → knowsEach b ss ≡ true → (u : Tree) → u ∈ ss → knows b u ≡ true
   unfolding knowsEach _and_
   each-known [] e u m = absurd (List·Memᴰ·not-nil m)
   each-known (s ∷ ss) e u m = go (knows b s) refl e m (λ h n. each-known ss h u n)
     where
+      -- By whether the first is known, and by where the member is.
       go : (x : Bool) → knows b s ≡ x → (x and knowsEach b ss) ≡ true → u ∈ s ∷ ss → (knowsEach b ss ≡ true → u ∈ ss → knows b u ≡ true) → knows b u ≡ true
       go true k h (here q) later = ap (knows b) q ∙ k
       go true k h (there n) later = later h n
       go false k h n later = no-test h
 
+  -- Where that of every member is, each is.
   known-each : (ss : List Tree) → ((u : Tree) → u ∈ ss → knows b u ≡ true) → knowsEach b ss ≡ true
   unfolding knowsEach _and_
   known-each [] f = refl
@@ -130,6 +134,7 @@ module _ (b : Book) (two : least-k ≤ b .k) where
   fix-is : (s : Tree) → toFix b s ≡ true → ToFix b s
   fix-is s e = go (knows b s) refl
     where
+      -- By whether the book knows it.
       go : (x : Bool) → knows b s ≡ x → ToFix b s
       go true k = no-test (sym (known-not b s k) ∙ e)
       go false k = record { unknown = not-known s k; under = λ u m. known u (each-known (below s) (sym (unknown-fix b s k) ∙ e) u (below-to m)) }
@@ -164,6 +169,7 @@ module _ (b : Book) (two : least-k ≤ b .k) where
     none-all : leastToFix b 1 (subtrees t) ≡ no-doubt → AllKnown b t
     none-all e line s on = known s (each-known (subtrees t) (go (knowsEach b (subtrees t)) refl) s (line-in t s line (record { is = on })))
       where
+        -- By whether all are known.
         go : (x : Bool) → knowsEach b (subtrees t) ≡ x → knowsEach b (subtrees t) ≡ true
         go true h = h
         go false h = absurd (no-some (some-tree b t 1 h) e)
@@ -173,6 +179,7 @@ module _ (b : Book) (two : least-k ≤ b .k) where
     unfolding lineOf
     doubted-at j s at e f = record { on = at; fix = fix-is s e; earlier = before }
       where
+        -- No line before it is one to fix.
         before : (l : ℕ) (u : Tree) → l < suc j → lineOf l (subtrees t) ≡ found u → ToFix b u → ⊥
         before zero u h q = not-found q
         before (suc m) u h q = fix-not u (f m u (omega arith) q)
@@ -182,14 +189,17 @@ module _ (b : Book) (two : least-k ≤ b .k) where
     unfolding verdict verdictOn if_then_else_
     verdict-is = go (least-is b 0 (subtrees t))
       where
+        -- Where every line is known, by the top.
         tops : AllKnown b t → (x : Bool) → has (words (top (b .k) t)) (b .R) ≡ x → Verdict b t (if x then answered done else record { number = top-unknown; line = 1 })
         tops all true e = passing refl (record { top = top-in t e; lows = lows-in all; middles = middles-in all })
         tops all false e = no-top refl all (top-out t e)
 
+        -- At the doubted line, by its depth.
         at : (line : ℕ) (s : Tree) → Doubted b t line s → Told s false → Verdict b t (record { number = if isLow (b .k) s then low-unknown else middle-unknown; line = line })
         at line s D (told-low d h l) = no-low line s (rw l) D d (has-not-in (b .L) s h)
         at line s D (told-middle d h l) = no-middle line s (rw l) D d (λ u q i. has-not-in (b .P) (middle (b .k) s) h (subst (In (b .P)) (r-only (b .k) (omega arith) q (middle-r s)) i))
 
+        -- By the least line to fix.
         go : LeastIs b 0 (subtrees t) (leastToFix b 1 (subtrees t)) → Verdict b t (verdictOn b t (leastToFix b 1 (subtrees t)))
         go (none-least e f) = rw e (tops (none-all e) (has (words (top (b .k) t)) (b .R)) refl)
         go (is-least j s e q n f) =

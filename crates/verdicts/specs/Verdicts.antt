@@ -1,5 +1,5 @@
--- The rows of 01's table that judging can answer, by document 000's r, l and p and by sound books, apart from the tests of `judgeOf`. That
--- judging answers exactly by these rows is shown in proofs/Verdicts.antt. Assumes nothing: these are definitions.
+-- The rows of 01's table that judging can answer, with the line that 02 wants ("Point at the line I can fix"), by document 000's positions, r, l and p and by
+-- sound books, apart from the tests of `judgeOf`. That judging answers exactly by these rows is shown in proofs/Verdicts.antt. Assumes nothing: these are definitions.
 use Prim.Native.Nat.{ℕ, _-_, _≤_, _<_}
 use mathlib.Core.Path.{_≡_}
 use mathlib.Core.List.{List}
@@ -35,16 +35,16 @@ pub record Known (b : Book) (s : Tree) : Type 0 where
   pub low : depth s ≤ b .k - 2 → In (b .L) s
   pub middle : b .k - 1 ≤ depth s → (u : Tree) → IsR (b .k) s u → In (b .P) u
 
--- Every line's part is in the book.
+-- "no line is unknown": every line's part is in the book.
 abbrev pub AllKnown : Book → Tree → Type 0
 AllKnown b t = (line : ℕ) (s : Tree) → lineOf line (subtrees t) ≡ found s → Known b s
 
--- A subtree "whose part is unknown while nothing strictly below it is unknown".
+-- A subtree "whose part is unknown while nothing strictly below it is unknown", which is s/x at no position x but λ.
 pub record ToFix (b : Book) (s : Tree) : Type 0 where
   pub unknown : Known b s → ⊥
   pub under : (u : Tree) → StrictlyBelow s u → Known b u
 
--- s is the subtree of the line, which is the least one to fix.
+-- s is the subtree of the line, which is "the least one" to fix.
 pub record Doubted (b : Book) (t : Tree) (line : ℕ) (s : Tree) : Type 0 where
   pub on : lineOf line (subtrees t) ≡ found s
   pub fix : ToFix b s

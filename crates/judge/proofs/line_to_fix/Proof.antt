@@ -7,9 +7,11 @@ use Rattle.verdicts.proofs.Descents.{Down, down-first, down-last, down-next}
 use Rattle.judge.proofs.line_to_fix.Statement.{statement}
 use Rattle.judge.proofs.line_to_fix.Tie as tie
 
+-- The lines left are those of a row of trees, and the line to fix is the one among them, or the one found before.
 abbrev Inv-loop : tie.InvT-loop
 Inv-loop book places order levels found₀ from₀ to₀ found from to = Down (bookIn book) order found from to
 
+-- Each turn leaves fewer lines.
 abbrev μ-loop : tie.MeasureT-loop
 μ-loop book places order levels found₀ from₀ to₀ found from to = to - from
 
