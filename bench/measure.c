@@ -97,6 +97,15 @@ static unsigned long batch_judge(const struct implementation *which, struct task
     return sum;
 }
 
+/* Judges the order by the book, which doubts it: 0 is given where each call tells a line. */
+static unsigned long batch_doubt(const struct implementation *which, struct task *task, unsigned long calls)
+{
+    unsigned long sum = 0;
+    for (unsigned long i = 0; i < calls; i++)
+        sum += which->judge(task->book, task->slice, task->order.at, task->order.words).line == 0;
+    return sum;
+}
+
 /* Checks the book. */
 static unsigned long batch_check(const struct implementation *which, struct task *task, unsigned long calls)
 {
@@ -321,8 +330,7 @@ static void measure_all(struct task *task)
         for (unsigned size = 0; size < SIZES; size++) {
             fill_book(task, &dice, sizes[size]);
             measure_changes(task, "teach new", "withdraw new", sizes[size], shapes[shape]);
-            demand(plain.judge(task->book, task->slice, task->order.at, task->order.words).line != 0, "the new order passes");
-            measure_steady(add_row("judge new", sizes[size], task, shapes[shape]), batch_judge, task);
+            measure_steady(add_row("judge new", sizes[size], task, shapes[shape]), batch_doubt, task);
         }
     }
 }
