@@ -61,7 +61,7 @@ other-version = 13
 abbrev pub no-stored-book : ℕ
 no-stored-book = 14
 
--- judged: the order's top is not in the book, though every part of it is
+-- judged: the order's top is not in the book, though the part of every line is
 abbrev pub top-unknown : ℕ
 top-unknown = 20
 

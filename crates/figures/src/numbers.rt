@@ -45,7 +45,7 @@ pub const OTHER_VERSION: u16 = 13;
 // stored: the rest is not the used words of a book in form
 pub const NO_STORED_BOOK: u16 = 14;
 
-// judged: the order's top is not in the book, though every part of it is
+// judged: the order's top is not in the book, though the part of every line is
 pub const TOP_UNKNOWN: u16 = 20;
 
 // judged: the low part of the line to fix is not in the book

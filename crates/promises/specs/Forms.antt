@@ -1,5 +1,5 @@
--- What stands on a line of a form and which line it is, by its bytes: levels and codes in tens, and lines counted by their LF (01, "Order form text").
--- Assumes nothing: these are definitions.
+-- What stands on a line of a form and which line it is, by its bytes: levels and codes in tens, and lines counted by their LF (01, "Order form text"); and
+-- which line comes back of an order that does not pass (02, "Point at the line I can fix"). Assumes nothing: these are definitions.
 use Prim.Native.Nat.{ℕ, suc, _+_, _*_, _-_, _≤_, _<_}
 use mathlib.Core.Path.{_≡_}
 use mathlib.Core.List.{List, [], _∷_, _++_}

@@ -71,7 +71,7 @@ mutual
       go (in-second ws p) first later = later ws p
 
 -- The lines behind one are first those of what stands strictly below it.
-pub below-next : (t s : Tree) (i : ℕ) → treeAt (subtrees t) i ≡ found s → (rest : List Tree) × (drop (i + 1) (subtrees t) ≡ below s ++ rest)
+below-next : (t s : Tree) (i : ℕ) → treeAt (subtrees t) i ≡ found s → (rest : List Tree) × (drop (i + 1) (subtrees t) ≡ below s ++ rest)
 unfolding below
 below-next t s i e = go s (follows-tree t (take i (subtrees t)) s (drop (i + 1) (subtrees t)) split)
   where

@@ -23,14 +23,14 @@ use Rattle.verdicts.proofs.Fixes.{orDoubt, least-known, least-past, lea
 -- ---- the first unknown line
 
 -- What the first unknown line of some subtrees is, the first of them on this line.
-pub data FirstOf (b : Book) (line : ℕ) (ss : List Tree) (r : ℕ) : Type 0 where
+data FirstOf (b : Book) (line : ℕ) (ss : List Tree) (r : ℕ) : Type 0 where
   -- All are known, and it is 0.
   all-known : r ≡ 0 → knowsEach b ss ≡ true → FirstOf b line ss r
   -- Behind known ones an unknown one.
   unknown-at : (us : List Tree) (s : Tree) (vs : List Tree) → r ≡ line + length us → ss ≡ us ++ (s ∷ vs) → knowsEach b us ≡ true → knows b s ≡ false → FirstOf b line ss r
 
 -- `unknownLine` is it.
-pub first-of : (b : Book) (line : ℕ) (ss : List Tree) → FirstOf b line ss (unknownLine b line ss)
+first-of : (b : Book) (line : ℕ) (ss : List Tree) → FirstOf b line ss (unknownLine b line ss)
 unfolding unknownLine knowsEach _and_ if_then_else_
 first-of b line [] = all-known refl refl
 first-of b line (s ∷ ss) = go (knows b s) refl (first-of b (suc line) ss)

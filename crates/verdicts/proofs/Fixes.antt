@@ -97,7 +97,7 @@ module _ (b : Book) where
         go false k true l later = rw (unknown-fix (node c f) k, l) (some line (node c f) refl)
         go false k false l later = rw (unknown-fix (node c f) k, l) (later l)
 
-    pub some-row : (f : Forest) (line : ℕ) → knowsEach b (subtreesF f) ≡ false → Some (leastToFix b line (subtreesF f))
+    some-row : (f : Forest) (line : ℕ) → knowsEach b (subtreesF f) ≡ false → Some (leastToFix b line (subtreesF f))
     some-row bare line e = no-test (sym e)
     some-row (cons t f) line e = go (knowsEach b (subtrees t)) refl (λ k. some-tree t line k) (λ l. some-row f (line + length (subtrees t)) l)
       where

@@ -68,7 +68,7 @@ module _ (b : Book) (os : List ℕ) (t : Tree) (p : Passed os t) where
       (part-number (b .k) (j * 2) (q .tree) (partAtOf os (j * 2) (b .k)) (part-told os (j * 2) _ q (b .k) (partAtOf os (j * 2) (b .k)) (partAtOf os (j * 2) (b .k)) (short-order os t p) refl refl))
 
   -- The verdict where a line is to be fixed.
-  pub verdict-line : (lineToFix b os ≡ 0 → ⊥) → verdict b t ≡ lineAnswer (b .k) os (lineToFix b os)
+  verdict-line : (lineToFix b os ≡ 0 → ⊥) → verdict b t ≡ lineAnswer (b .k) os (lineToFix b os)
   unfolding verdict verdictOn doubtLine lineAnswer
   verdict-line h = go (least-is b 0 (subtrees t))
     where
@@ -81,7 +81,7 @@ module _ (b : Book) (os : List ℕ) (t : Tree) (p : Passed os t) where
           rw (line-is, d, i) (ap (λ (m : ℕ). record { number = m; line = suc j }) (number-at j s at))
 
   -- The verdict where no line is to be fixed.
-  pub verdict-top : lineToFix b os ≡ 0 → verdict b t ≡ (if has (words (top (b .k) t)) (b .R) then answered done else record { number = top-unknown; line = 1 })
+  verdict-top : lineToFix b os ≡ 0 → verdict b t ≡ (if has (words (top (b .k) t)) (b .R) then answered done else record { number = top-unknown; line = 1 })
   unfolding verdict verdictOn doubtLine
   verdict-top h = go (least-is b 0 (subtrees t))
     where
