@@ -3,3 +3,6 @@ pub mod Sections
 pub mod Standing
 pub mod Stages
 pub mod Weights
+pub mod Changed
+pub mod Sums
+pub mod Room

@@ -132,16 +132,16 @@ set-head Middles es b r u v n p q h = rw (p, q, h)
 -- The book b stands in the words, a section of it from `at` on.
 module _ (ws : List ℕ) (s : Section) (b : Book) (laid : lay (length ws) b ≡ ws) (even : Even (sectionOf s b)) (fits : used b ≤ length ws) (at : ℕ) (starts : at ≡ startOf s (placesOf b)) where
   -- The words of the section.
-  own : List ℕ
-  own = sectionWords (sectionOf s b)
+  other : List ℕ
+  other = sectionWords (sectionOf s b)
 
   -- The zeros at the end.
   rest : List ℕ
   rest = replicate (length ws - used b) 0
 
   -- The words are the head and what stands before the section, the section, and what stands behind it.
-  words-split : ws ≡ headed b (before s b) ++ (own ++ (behind s b ++ rest))
-  unfolding own rest
+  words-split : ws ≡ headed b (before s b) ++ (other ++ (behind s b ++ rest))
+  unfolding other rest
   words-split = sym laid ∙ lay-headed (length ws) b ∙ rw (body-split s b) (simp append-assoc)
 
   -- The section starts behind its front.
@@ -153,42 +153,42 @@ module _ (ws : List ℕ) (s : Section) (b : Book) (laid : lay (length ws) b ≡ 
   start-used = omega (arith, start-is s b, used-split s b)
 
   -- The words from the section's start on.
-  part-is : drop at ws ≡ own ++ (behind s b ++ rest)
-  part-is = ap (drop at) words-split ∙ drop-at (headed b (before s b)) (own ++ (behind s b ++ rest)) at front-long
+  part-is : drop at ws ≡ other ++ (behind s b ++ rest)
+  part-is = ap (drop at) words-split ∙ drop-at (headed b (before s b)) (other ++ (behind s b ++ rest)) at front-long
 
   -- The words up to the section's start.
   front-is : take at ws ≡ headed b (before s b)
-  front-is = ap (take at) words-split ∙ take-at (headed b (before s b)) (own ++ (behind s b ++ rest)) at front-long
+  front-is = ap (take at) words-split ∙ take-at (headed b (before s b)) (other ++ (behind s b ++ rest)) at front-long
 
   -- Its entries are read there.
   pub part-entries : (many : ℕ) → many ≡ length (sectionOf s b) → entries many (drop at ws) ≡ sectionOf s b
-  unfolding own
+  unfolding other
   part-entries many e = rw (e, part-is) (words-entries (sectionOf s b) (behind s b ++ rest) even)
 
   -- They take its words.
   pub part-span : (many : ℕ) → many ≡ length (sectionOf s b) → span many (drop at ws) ≡ length (sectionWords (sectionOf s b))
-  unfolding own
+  unfolding other
   part-span many e = rw (e, part-is) (words-span (sectionOf s b) (behind s b ++ rest) even)
 
   -- What is used from its start on.
-  uses-long : (uses : ℕ) → uses ≡ used b → uses - at ≡ length (own ++ behind s b)
-  unfolding own
+  uses-long : (uses : ℕ) → uses ≡ used b → uses - at ≡ length (other ++ behind s b)
+  unfolding other
   uses-long uses e = simp length-append (omega (arith, start-is s b, used-split s b))
 
   -- The entries stand so that they can be edited.
   pub part-laid : (many uses : ℕ) → many ≡ length (sectionOf s b) → uses ≡ used b → Laid (drop at ws) many (uses - at)
-  unfolding own rest
+  unfolding other rest
   part-laid many uses e f = record {
     within = rw (part-span many e) (omega (arith, start-is s b, used-split s b));
     room = simp length-drop (omega (arith, start-used));
     zeros =
         let long : length (drop at ws) - (uses - at) ≡ length ws - used b = simp length-drop (omega (arith, start-used)) in
-        ap (drop (uses - at)) (part-is ∙ sym (append-assoc own (behind s b) rest)) ∙ drop-at (own ++ behind s b) rest (uses - at) (sym (uses-long uses f)) ∙ ap (λ (n : ℕ). replicate n 0) (sym long);
+        ap (drop (uses - at)) (part-is ∙ sym (append-assoc other (behind s b) rest)) ∙ drop-at (other ++ behind s b) rest (uses - at) (sym (uses-long uses f)) ∙ ap (λ (n : ℕ). replicate n 0) (sym long);
   }
 
   -- What is kept behind the entries.
   kept : (many uses : ℕ) → many ≡ length (sectionOf s b) → uses ≡ used b → take (uses - at - span many (drop at ws)) (drop (span many (drop at ws)) (drop at ws)) ≡ behind s b
-  unfolding own
+  unfolding other
   kept many uses e f =
       rw (part-span many e, part-is, drop-at (sectionWords (sectionOf s b)) (behind s b ++ rest) (length (sectionWords (sectionOf s b))) refl)
       (take-at (behind s b) rest (uses - at - length (sectionWords (sectionOf s b))) (omega (arith, start-is s b, used-split s b)))

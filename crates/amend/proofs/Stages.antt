@@ -68,61 +68,61 @@ module _ (n : ℕ) (b : Book) (ws : List ℕ) (g : Stage n b ws) where
         end = f ∙ ap used (sym (g .reads));
       }
 
-  module _ (c : Change) (s : Section) (own : Book) (r : Ready n c s own b) where
+  module _ (c : Change) (s : Section) (other : Book) (r : Ready n c s other b) where
     -- What is ready for the book is ready for the words.
-    pub stage-ready : Ready (length ws) c s own (bookIn ws)
+    pub stage-ready : Ready (length ws) c s other (bookIn ws)
     stage-ready = rw (g .words, g .reads) r
 
     -- Once a section is changed the next stage stands in the words.
-    pub next-stage : (last : List ℕ) → last ≡ lay (length ws) (changedIn c s own (bookIn ws)) → Stage n (changedIn c s own b) last
-    next-stage last e = staged n (changedIn c s own b) last (g .long) (g .short) (r .form) (r .room) (e ∙ rw (g .words, g .reads))
+    pub next-stage : (last : List ℕ) → last ≡ lay (length ws) (changedIn c s other (bookIn ws)) → Stage n (changedIn c s other b) last
+    next-stage last e = staged n (changedIn c s other b) last (g .long) (g .short) (r .form) (r .room) (e ∙ rw (g .words, g .reads))
 
     -- The words used then.
-    pub next-used : (u : ℕ) → u ≡ used (changedIn c s own (bookIn ws)) → u ≡ used (changedIn c s own b)
+    pub next-used : (u : ℕ) → u ≡ used (changedIn c s other (bookIn ws)) → u ≡ used (changedIn c s other b)
     next-used u e = e ∙ rw (g .reads)
 
   -- What a section of the book lacks, the same section lacks in the words.
-  pub stage-lacks : (c : Change) (s : Section) (own : Book) (l : ℕ) → Lacks c l (sectionOf s own) (sectionOf s b)
-      → Lacks c l (sectionOf s own) (sectionOf s (bookIn ws))
-  stage-lacks c s own l h = rw (g .reads) h
+  pub stage-lacks : (c : Change) (s : Section) (other : Book) (l : ℕ) → Lacks c l (sectionOf s other) (sectionOf s b)
+      → Lacks c l (sectionOf s other) (sectionOf s (bookIn ws))
+  stage-lacks c s other l h = rw (g .reads) h
 
 -- ---- the sections before a changed one start where they did
-module _ (c : Change) (own b : Book) where
+module _ (c : Change) (other b : Book) where
   -- Section L does once P is changed.
-  pub lows-start : startOf Lows (placesOf (changedIn c Middles own b)) ≡ startOf Lows (placesOf b)
+  pub lows-start : startOf Lows (placesOf (changedIn c Middles other b)) ≡ startOf Lows (placesOf b)
   unfolding placesOf changedIn withSection
   lows-start = refl
 
   -- Section R does once P or L is changed.
-  pub tops-start : startOf Tops (placesOf (changedIn c Lows own (changedIn c Middles own b))) ≡ startOf Tops (placesOf b)
+  pub tops-start : startOf Tops (placesOf (changedIn c Lows other (changedIn c Middles other b))) ≡ startOf Tops (placesOf b)
   unfolding placesOf changedIn withSection
   tops-start = refl
 
 -- ---- the sections before a changed one lack what they did
 
 -- Section P lacks what the book lacks of it.
-pub middles-lack : (c : Change) (l : Lacking) (own b : Book) → LacksEach c l own b → Lacks c (l .middles) (sectionOf Middles own) (sectionOf Middles b)
+pub middles-lack : (c : Change) (l : Lacking) (other b : Book) → LacksEach c l other b → Lacks c (l .middles) (sectionOf Middles other) (sectionOf Middles b)
 unfolding lackingEach sectionOf
-middles-lack Teach l own b h = ap (λ (x : Lacking). x .middles) h
-middles-lack Withdraw l own b h = h
+middles-lack Teach l other b h = ap (λ (x : Lacking). x .middles) h
+middles-lack Withdraw l other b h = h
 
 -- Section L does once P is changed.
-pub lows-lack : (c : Change) (l : Lacking) (own b : Book) → LacksEach c l own b
-    → Lacks c (l .lows) (sectionOf Lows own) (sectionOf Lows (changedIn c Middles own b))
+pub lows-lack : (c : Change) (l : Lacking) (other b : Book) → LacksEach c l other b
+    → Lacks c (l .lows) (sectionOf Lows other) (sectionOf Lows (changedIn c Middles other b))
 unfolding lackingEach sectionOf changedIn withSection
-lows-lack Teach l own b h = ap (λ (x : Lacking). x .lows) h
-lows-lack Withdraw l own b h = h
+lows-lack Teach l other b h = ap (λ (x : Lacking). x .lows) h
+lows-lack Withdraw l other b h = h
 
 -- Section R does once L is changed too.
-pub tops-lack : (c : Change) (l : Lacking) (own b : Book) → LacksEach c l own b
-    → Lacks c (l .tops) (sectionOf Tops own) (sectionOf Tops (changedIn c Lows own (changedIn c Middles own b)))
+pub tops-lack : (c : Change) (l : Lacking) (other b : Book) → LacksEach c l other b
+    → Lacks c (l .tops) (sectionOf Tops other) (sectionOf Tops (changedIn c Lows other (changedIn c Middles other b)))
 unfolding lackingEach sectionOf changedIn withSection
-tops-lack Teach l own b h = ap (λ (x : Lacking). x .tops) h
-tops-lack Withdraw l own b h = h
+tops-lack Teach l other b h = ap (λ (x : Lacking). x .tops) h
+tops-lack Withdraw l other b h = h
 
 -- Section T does once R is changed too.
-pub taught-lacks : (c : Change) (l : Lacking) (own b : Book) → LacksEach c l own b
-    → Lacks c (l .taught) (sectionOf Taught own) (sectionOf Taught (changedIn c Tops own (changedIn c Lows own (changedIn c Middles own b))))
+pub taught-lacks : (c : Change) (l : Lacking) (other b : Book) → LacksEach c l other b
+    → Lacks c (l .taught) (sectionOf Taught other) (sectionOf Taught (changedIn c Tops other (changedIn c Lows other (changedIn c Middles other b))))
 unfolding lackingEach sectionOf changedIn withSection
-taught-lacks Teach l own b h = ap (λ (x : Lacking). x .taught) h
-taught-lacks Withdraw l own b h = h
+taught-lacks Teach l other b h = ap (λ (x : Lacking). x .taught) h
+taught-lacks Withdraw l other b h = h

@@ -74,15 +74,15 @@ module _ (ws : List ℕ) (s : Section) (at uses : ℕ) (h : Stands ws s at uses)
 
 -- ---- a section changed by the same section of another book
 
-module _ (ws own : List ℕ) (c : Change) (s : Section) (at uses from ends : ℕ) (h : Stands ws s at uses) (o : Stands own s from ends) (r : Ready (length ws) c s (bookIn own) (bookIn ws)) (word : ℕ) (slot : word ≡ slotOf s) where
+module _ (ws vs : List ℕ) (c : Change) (s : Section) (at uses from ends : ℕ) (h : Stands ws s at uses) (o : Stands vs s from ends) (r : Ready (length ws) c s (bookIn vs) (bookIn ws)) (word : ℕ) (slot : word ≡ slotOf s) where
   -- The section's entries then.
   entries-then : List Entry
-  entries-then = changed c (sectionOf s (bookIn own)) (sectionOf s (bookIn ws))
+  entries-then = changed c (sectionOf s (bookIn vs)) (sectionOf s (bookIn ws))
 
   -- The entries read and changed are these.
-  changed-read : changed c (entries (getD own word 0) (drop from own)) (entries (getD ws word 0) (drop at ws)) ≡ entries-then
+  changed-read : changed c (entries (getD vs word 0) (drop from vs)) (entries (getD ws word 0) (drop at ws)) ≡ entries-then
   unfolding entries-then
-  changed-read = rw (stand-entries ws s at uses h word slot, stand-entries own s from ends o word slot)
+  changed-read = rw (stand-entries ws s at uses h word slot, stand-entries vs s from ends o word slot)
 
   -- The words used then.
   room-then : used (withSection s entries-then (bookIn ws)) ≤ length ws
@@ -90,43 +90,43 @@ module _ (ws own : List ℕ) (c : Change) (s : Section) (at uses from ends : ℕ
   room-then = r .room
 
   -- The live teachings then.
-  live-then : live (withSection s entries-then (bookIn ws)) ≡ livesThen c s (getD ws 2 0) (getD own 2 0)
+  live-then : live (withSection s entries-then (bookIn ws)) ≡ livesThen c s (getD ws 2 0) (getD vs 2 0)
   unfolding entries-then changedIn
-  live-then = r .lives ∙ rw (stand-live ws s at uses h, stand-live own s from ends o)
+  live-then = r .lives ∙ rw (stand-live ws s at uses h, stand-live vs s from ends o)
 
   -- They can be changed so.
-  pub lives-ready : LivesReady c s (getD ws 2 0) (getD own 2 0)
-  lives-ready = rw (stand-live ws s at uses h, stand-live own s from ends o) (r .counts)
+  pub lives-ready : LivesReady c s (getD ws 2 0) (getD vs 2 0)
+  lives-ready = rw (stand-live ws s at uses h, stand-live vs s from ends o) (r .counts)
 
   -- What the change of the entries asks.
-  pub entries-ready : (part other : List ℕ) → part ≡ drop at ws → other ≡ drop from own
+  pub entries-ready : (part other : List ℕ) → part ≡ drop at ws → other ≡ drop from vs
       → (Laid part (getD ws word 0) (uses - at) × Sorted (entries (getD ws word 0) part))
-      × ((span (getD own word 0) other ≤ length other) × Sorted (entries (getD own word 0) other))
-      × ((length (sectionWords (changed c (entries (getD own word 0) other) (entries (getD ws word 0) part))) + (uses - at - span (getD ws word 0) part) ≤ length part)
-      × (fitting (changed c (entries (getD own word 0) other) (entries (getD ws word 0) part)) ≡ true))
+      × ((span (getD vs word 0) other ≤ length other) × Sorted (entries (getD vs word 0) other))
+      × ((length (sectionWords (changed c (entries (getD vs word 0) other) (entries (getD ws word 0) part))) + (uses - at - span (getD ws word 0) part) ≤ length part)
+      × (fitting (changed c (entries (getD vs word 0) other) (entries (getD ws word 0) part)) ≡ true))
   unfolding entries-then changedIn
   entries-ready part other e f = rw (e, f, changed-read) (
     (stand-laid ws s at uses h word slot, stand-sorted ws s at uses h word slot),
-    (stand-whole own s from ends o word slot, stand-sorted own s from ends o word slot),
+    (stand-whole vs s from ends o word slot, stand-sorted vs s from ends o word slot),
     (
       rw (stand-span ws s at uses h word slot, length-drop) (omega (arith, h .end, h .start, start-is s (bookIn ws), used-split s (bookIn ws), used-with s entries-then (bookIn ws), room-then)),
-      ap fitting (sym (section-with s entries-then (bookIn ws))) ∙ form-fitting (changedIn c s (bookIn own) (bookIn ws)) (r .form) s,
+      ap fitting (sym (section-with s entries-then (bookIn ws))) ∙ form-fitting (changedIn c s (bookIn vs) (bookIn ws)) (r .form) s,
     ),
   )
 
   -- What is lacking of the section is lacking of the entries that are read.
-  pub lacks-ready : (part other : List ℕ) → part ≡ drop at ws → other ≡ drop from own → (n : ℕ) → Lacks c n (sectionOf s (bookIn own)) (sectionOf s (bookIn ws))
-      → Lacks c n (entries (getD own word 0) other) (entries (getD ws word 0) part)
-  lacks-ready part other e f n l = rw (e, f, stand-entries ws s at uses h word slot, stand-entries own s from ends o word slot) l
+  pub lacks-ready : (part other : List ℕ) → part ≡ drop at ws → other ≡ drop from vs → (n : ℕ) → Lacks c n (sectionOf s (bookIn vs)) (sectionOf s (bookIn ws))
+      → Lacks c n (entries (getD vs word 0) other) (entries (getD ws word 0) part)
+  lacks-ready part other e f n l = rw (e, f, stand-entries ws s at uses h word slot, stand-entries vs s from ends o word slot) l
 
   -- The words once the entries are changed.
-  module _ (part other last : List ℕ) (size : Size) (e : part ≡ drop at ws) (f : other ≡ drop from own) (edit : Edited part (getD ws word 0) (uses - at) (changed c (entries (getD own word 0) other) (entries (getD ws word 0) part)) last size) where
+  module _ (part other last : List ℕ) (size : Size) (e : part ≡ drop at ws) (f : other ≡ drop from vs) (edit : Edited part (getD ws word 0) (uses - at) (changed c (entries (getD vs word 0) other) (entries (getD ws word 0) part)) last size) where
     -- The change by the section's entries.
     edited : Edited (drop at ws) (getD ws word 0) (uses - at) entries-then last size
     edited = rw (e, f, changed-read) at edit
 
     -- The words used are those of the changed book.
-    pub end-then : at + size .used ≡ used (changedIn c s (bookIn own) (bookIn ws))
+    pub end-then : at + size .used ≡ used (changedIn c s (bookIn vs) (bookIn ws))
     unfolding entries-then changedIn
     end-then =
         used-then ws s (bookIn ws) (h .laid) (stand-even ws s at uses h) (stand-fits ws s at uses h) at (h .start) (getD ws word 0) uses (stand-many ws s at uses h word slot) (h .end) entries-then last size edited room-then
@@ -136,8 +136,8 @@ module _ (ws own : List ℕ) (c : Change) (s : Section) (at uses from ends : ℕ
     many-then = omega (arith, edited .counts, edited .uses, length-size entries-then)
 
     -- With the head's words written the words are the changed book's.
-    pub words-then : (live′ : ℕ) → live′ ≡ livesThen c s (getD ws 2 0) (getD own 2 0)
-        → set (set (set (putMid at (length ws - at) ws last) 1 (at + size .used)) 2 live′) word (size .many) ≡ lay (length ws) (changedIn c s (bookIn own) (bookIn ws))
+    pub words-then : (live′ : ℕ) → live′ ≡ livesThen c s (getD ws 2 0) (getD vs 2 0)
+        → set (set (set (putMid at (length ws - at) ws last) 1 (at + size .used)) 2 live′) word (size .many) ≡ lay (length ws) (changedIn c s (bookIn vs) (bookIn ws))
     unfolding entries-then changedIn
     words-then live′ g =
         rw (tail-back at ws (omega (arith, stand-start ws s at uses h, stand-fits ws s at uses h)) last)

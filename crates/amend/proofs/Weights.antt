@@ -79,15 +79,15 @@ pub weighed-few : (ws : List ℕ) (p : Places) (h : Holds ws p) (s : Section) (b
 weighed-few ws p h s b w e = rw e (lacking-few ws p h s (sectionOf s b))
 
 -- What three sections lack is what the parts of the other book would enter.
-pub parts-weighed : (own b : Book) (r l p : Weighed) → r ≡ weighedIn Tops own b → l ≡ weighedIn Lows own b → p ≡ weighedIn Middles own b
-    → r .lacking + l .lacking + p .lacking ≡ lackingParts own b
+pub parts-weighed : (other b : Book) (r l p : Weighed) → r ≡ weighedIn Tops other b → l ≡ weighedIn Lows other b → p ≡ weighedIn Middles other b
+    → r .lacking + l .lacking + p .lacking ≡ lackingParts other b
 unfolding lackingParts sectionOf
-parts-weighed own b r l p d e f = rw (d, e, f)
+parts-weighed other b r l p d e f = rw (d, e, f)
 
 -- What four sections lack, and whether a count of one of them would pass 65,535, is what the other book would do.
-pub book-weighed : (own b : Book) (t r l p : Weighed) → t ≡ weighedIn Taught own b → r ≡ weighedIn Tops own b → l ≡ weighedIn Lows own b → p ≡ weighedIn Middles own b
+pub book-weighed : (other b : Book) (t r l p : Weighed) → t ≡ weighedIn Taught other b → r ≡ weighedIn Tops other b → l ≡ weighedIn Lows other b → p ≡ weighedIn Middles other b
     → (x y z : Bool) → x ≡ (if l .overfull then true else p .overfull) → y ≡ (if r .overfull then true else x) → z ≡ (if t .overfull then true else y)
     → let each : Lacking = record { taught = t .lacking; tops = r .lacking; lows = l .lacking; middles = p .lacking } in
-    _≡_ {A = BookWeighed} (record { each = each; lacking = t .lacking + (r .lacking + l .lacking + p .lacking); overfull = z }) (weighedBook own b)
+    _≡_ {A = BookWeighed} (record { each = each; lacking = t .lacking + (r .lacking + l .lacking + p .lacking); overfull = z }) (weighedBook other b)
 unfolding lackingEach lackingAll lackingParts overfullAny sectionOf
-book-weighed own b t r l p c d e f x y z h i j = rw (j, i, h, c, d, e, f)
+book-weighed other b t r l p c d e f x y z h i j = rw (j, i, h, c, d, e, f)

@@ -1,5 +1,5 @@
--- A book changed by another, section by section: teaching adds an order's own book, in which every count is 1, and withdrawing takes it
--- away. Assumes nothing: these are definitions.
+-- A book changed by another, section by section: teaching adds an order's own book, in which every count is 1, withdrawing takes it away, and
+-- joining adds a book of any counts. Assumes nothing: these are definitions.
 use Prim.Native.Nat.{ℕ, _+_, _-_, _≤_}
 use mathlib.Core.Path.{_≡_}
 use mathlib.Core.Bool.{Bool, true}
@@ -33,11 +33,11 @@ withSection Middles es b = record { k = b .k; T = b .T; R = b .R; L = b .L; P = 
 
 -- One section of the book, changed by the same section of another.
 unfoldable pub changedIn : Change → Section → Book → Book → Book
-changedIn c s own b = withSection s (changed c (sectionOf s own) (sectionOf s b)) b
+changedIn c s other b = withSection s (changed c (sectionOf s other) (sectionOf s b)) b
 
 -- All four sections, the last first.
 unfoldable pub changedBook : Change → Book → Book → Book
-changedBook c own b = changedIn c Taught own (changedIn c Tops own (changedIn c Lows own (changedIn c Middles own b)))
+changedBook c other b = changedIn c Taught other (changedIn c Tops other (changedIn c Lows other (changedIn c Middles other b)))
 
 -- The live teachings, changed by those of another book, each of whose orders counts 1 if they are taken; only section T has them.
 abbrev pub livesThen : Change → Section → ℕ → ℕ → ℕ
@@ -62,17 +62,17 @@ Lacks Withdraw n os es = Unit {0}
 
 -- How many words of each of another book's sections the book lacks.
 unfoldable pub lackingEach : Book → Book → Lacking
-lackingEach own b = record {
-  taught = lackingWords (own .T) (b .T);
-  tops = lackingWords (own .R) (b .R);
-  lows = lackingWords (own .L) (b .L);
-  middles = lackingWords (own .P) (b .P);
+lackingEach other b = record {
+  taught = lackingWords (other .T) (b .T);
+  tops = lackingWords (other .R) (b .R);
+  lows = lackingWords (other .L) (b .L);
+  middles = lackingWords (other .P) (b .P);
 }
 
 -- A book that another is added to lacks so many words of each section; for taking it away any numbers will do.
 abbrev pub LacksEach : Change → Lacking → Book → Book → Type 0
-LacksEach Teach l own b = l ≡ lackingEach own b
-LacksEach Withdraw l own b = Unit {0}
+LacksEach Teach l other b = l ≡ lackingEach other b
+LacksEach Withdraw l other b = Unit {0}
 
 -- The words are a book in form, one section of which starts at a word, and so many words are used.
 pub record Stands (ws : List ℕ) (s : Section) (at uses : ℕ) : Type 0 where
@@ -84,38 +84,38 @@ pub record Stands (ws : List ℕ) (s : Section) (at uses : ℕ) : Type 0 where
   pub end : uses ≡ used (bookIn ws)
 
 -- The changed book is in form and has room, and its live teachings are those that `livesThen` says.
-pub record Ready (n : ℕ) (c : Change) (s : Section) (own b : Book) : Type 0 where
-  pub form : inForm (changedIn c s own b) ≡ true
-  pub room : used (changedIn c s own b) ≤ n
-  pub lives : live (changedIn c s own b) ≡ livesThen c s (live b) (live own)
-  pub counts : LivesReady c s (live b) (live own)
+pub record Ready (n : ℕ) (c : Change) (s : Section) (other b : Book) : Type 0 where
+  pub form : inForm (changedIn c s other b) ≡ true
+  pub room : used (changedIn c s other b) ≤ n
+  pub lives : live (changedIn c s other b) ≡ livesThen c s (live b) (live other)
+  pub counts : LivesReady c s (live b) (live other)
 
 -- Each section can be changed once those behind it are.
-pub record ReadyAll (n : ℕ) (c : Change) (own b : Book) : Type 0 where
-  pub middles : Ready n c Middles own b
-  pub lows : Ready n c Lows own (changedIn c Middles own b)
-  pub tops : Ready n c Tops own (changedIn c Lows own (changedIn c Middles own b))
-  pub taught : Ready n c Taught own (changedIn c Tops own (changedIn c Lows own (changedIn c Middles own b)))
+pub record ReadyAll (n : ℕ) (c : Change) (other b : Book) : Type 0 where
+  pub middles : Ready n c Middles other b
+  pub lows : Ready n c Lows other (changedIn c Middles other b)
+  pub tops : Ready n c Tops other (changedIn c Lows other (changedIn c Middles other b))
+  pub taught : Ready n c Taught other (changedIn c Tops other (changedIn c Lows other (changedIn c Middles other b)))
 
 -- What another book would do to a section of a book.
 abbrev pub weighedIn : Section → Book → Book → Weighed
-weighedIn s own b = weighed (sectionOf s own) (sectionOf s b)
+weighedIn s other b = weighed (sectionOf s other) (sectionOf s b)
 
 -- How many words of another book's sections R, L and P the book lacks.
 unfoldable pub lackingParts : Book → Book → ℕ
-lackingParts own b = lackingWords (own .R) (b .R) + lackingWords (own .L) (b .L) + lackingWords (own .P) (b .P)
+lackingParts other b = lackingWords (other .R) (b .R) + lackingWords (other .L) (b .L) + lackingWords (other .P) (b .P)
 
 -- How many words of another book's sections the book lacks.
 unfoldable pub lackingAll : Book → Book → ℕ
-lackingAll own b = lackingWords (own .T) (b .T) + lackingParts own b
+lackingAll other b = lackingWords (other .T) (b .T) + lackingParts other b
 
 -- "a touched count would pass 65,535", in one of the sections
 unfoldable pub overfullAny : Book → Book → Bool
-overfullAny own b =
-    if overfull (own .T) (b .T) then true else
-    (if overfull (own .R) (b .R) then true else
-    (if overfull (own .L) (b .L) then true else overfull (own .P) (b .P)))
+overfullAny other b =
+    if overfull (other .T) (b .T) then true else
+    (if overfull (other .R) (b .R) then true else
+    (if overfull (other .L) (b .L) then true else overfull (other .P) (b .P)))
 
 -- What another book would do to the book.
 abbrev pub weighedBook : Book → Book → BookWeighed
-weighedBook own b = record { each = lackingEach own b; lacking = lackingAll own b; overfull = overfullAny own b }
+weighedBook other b = record { each = lackingEach other b; lacking = lackingAll other b; overfull = overfullAny other b }

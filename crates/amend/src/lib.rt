@@ -1,8 +1,9 @@
-// A book amended by another: weighed against it, and then changed by it, section by section. Teaching adds an order's own book, and withdrawing
-// takes it away. Assumes nothing beyond each function's `requires`.
+// A book amended by another: weighed against it, and then changed by it, section by section. Teaching adds an order's own book, withdrawing
+// takes it away, and joining adds a book of many orders. Assumes nothing beyond each function's `requires`.
 ghost use mathlib.Core.Path.{_≡_};
 ghost use mathlib.Core.Bool.{true};
 ghost use Prim.Native.Nat.{_+_, _-_, _≤_};
+ghost use lib.Dec.{leb};
 ghost use lib.ListN.{length};
 ghost use Rattle.words.specs.Base.{if_then_else_};
 ghost use Rattle.section.specs.Entries.{sectionWords, entries, span, Sorted};
@@ -10,7 +11,9 @@ ghost use Rattle.changes.specs.Editing.{fitting, Laid, Edited};
 ghost use Rattle.book.specs.Book.{sectionOf, used, lay};
 ghost use Rattle.book.specs.Decoding.{bookIn};
 ghost use Rattle.book.specs.Holding.{Holds};
+ghost use Rattle.amend.specs.Counts.{withinCounts};
 ghost use Rattle.amend.specs.Changing.{changed, changedIn, changedBook, livesThen, LivesReady, Lacks, LacksEach, Stands, Ready, ReadyAll, weighedIn, weighedBook, lackingParts};
+ghost use Rattle.amend.specs.declared.Change.the-variants.{Teach};
 use book::Places;
 use book::Section;
 use changes::Size;
@@ -23,7 +26,7 @@ pub enum Change {
     Withdraw,
 }
 
-// How many words the book lacks of each of the own book's sections.
+// How many words the book lacks of each of the other book's sections.
 pub struct Lacking {
     pub taught: usize,
     pub tops: usize,
@@ -31,7 +34,7 @@ pub struct Lacking {
     pub middles: usize,
 }
 
-// What the own book would do to the book: how many words of its sections are lacking, of each and of all, and whether a count would pass
+// What the other book would do to the book: how many words of its sections are lacking, of each and of all, and whether a count would pass
 // 65,535.
 pub struct BookWeighed {
     pub each: Lacking,
@@ -39,35 +42,35 @@ pub struct BookWeighed {
     pub overfull: bool,
 }
 
-// What a section of the own book would do to the same section of the book.
+// What a section of the other book would do to the same section of the book.
 pub fn weigh_section(
     book: &[u16],
     section: Section,
     places: Places,
-    own: &[u16],
-    owns: Places,
+    other: &[u16],
+    others: Places,
 ) -> Weighed
     requires { ⌜ Holds (now book) places ⌝ }
-    requires { ⌜ Holds (now own) owns ⌝ }
-    ensures { λ r. ⌜ r ≡ weighedIn section (bookIn (now (own .entry))) (bookIn (now (book .entry))) ⌝ }
+    requires { ⌜ Holds (now other) others ⌝ }
+    ensures { λ r. ⌜ r ≡ weighedIn section (bookIn (now (other .entry))) (bookIn (now (book .entry))) ⌝ }
 {
     let word = book::slot(section);
     let at = book::start(section, places);
-    let from = book::start(section, owns);
+    let from = book::start(section, others);
     let many = book[word] as usize;
-    let more = own[word] as usize;
-    changes::weigh(&book[at..], many, &own[from..], more)
+    let more = other[word] as usize;
+    changes::weigh(&book[at..], many, &other[from..], more)
 }
 
-// How many words of the own book's tops, low parts and middle parts the book lacks.
-pub fn lacking_parts(book: &[u16], places: Places, own: &[u16], owns: Places) -> usize
+// How many words of the other book's tops, low parts and middle parts the book lacks.
+pub fn lacking_parts(book: &[u16], places: Places, other: &[u16], others: Places) -> usize
     requires { ⌜ Holds (now book) places ⌝ }
-    requires { ⌜ Holds (now own) owns ⌝ }
-    ensures { λ r. ⌜ r ≡ lackingParts (bookIn (now (own .entry))) (bookIn (now (book .entry))) ⌝ }
+    requires { ⌜ Holds (now other) others ⌝ }
+    ensures { λ r. ⌜ r ≡ lackingParts (bookIn (now (other .entry))) (bookIn (now (book .entry))) ⌝ }
 {
-    let tops = weigh_section(book, Section::Tops, places, own, owns);
-    let lows = weigh_section(book, Section::Lows, places, own, owns);
-    let middles = weigh_section(book, Section::Middles, places, own, owns);
+    let tops = weigh_section(book, Section::Tops, places, other, others);
+    let lows = weigh_section(book, Section::Lows, places, other, others);
+    let middles = weigh_section(book, Section::Middles, places, other, others);
     tops.lacking + lows.lacking + middles.lacking
 }
 
@@ -81,16 +84,16 @@ fn either(one: bool, other: bool) -> bool
     other
 }
 
-// What the own book would do to the book.
-pub fn weigh_book(book: &[u16], places: Places, own: &[u16], owns: Places) -> BookWeighed
+// What the other book would do to the book.
+pub fn weigh_book(book: &[u16], places: Places, other: &[u16], others: Places) -> BookWeighed
     requires { ⌜ Holds (now book) places ⌝ }
-    requires { ⌜ Holds (now own) owns ⌝ }
-    ensures { λ r. ⌜ r ≡ weighedBook (bookIn (now (own .entry))) (bookIn (now (book .entry))) ⌝ }
+    requires { ⌜ Holds (now other) others ⌝ }
+    ensures { λ r. ⌜ r ≡ weighedBook (bookIn (now (other .entry))) (bookIn (now (book .entry))) ⌝ }
 {
-    let taught = weigh_section(book, Section::Taught, places, own, owns);
-    let tops = weigh_section(book, Section::Tops, places, own, owns);
-    let lows = weigh_section(book, Section::Lows, places, own, owns);
-    let middles = weigh_section(book, Section::Middles, places, own, owns);
+    let taught = weigh_section(book, Section::Taught, places, other, others);
+    let tops = weigh_section(book, Section::Tops, places, other, others);
+    let lows = weigh_section(book, Section::Lows, places, other, others);
+    let middles = weigh_section(book, Section::Middles, places, other, others);
     let lacking = taught.lacking + (tops.lacking + lows.lacking + middles.lacking);
     let parts = either(tops.overfull, either(lows.overfull, middles.overfull));
     let overfull = either(taught.overfull, parts);
@@ -107,26 +110,26 @@ pub fn weigh_book(book: &[u16], places: Places, own: &[u16], owns: Places) -> Bo
     }
 }
 
-// Changes the first `many` entries of a part of the book by the first `more` of the own book's part. If these are added, `lacking` says how
+// Changes the first `many` entries of a part of the book by the first `more` of the other book's part. If these are added, `lacking` says how
 // many of their words the part lacks.
 fn change_entries(
     part: &mut [u16],
     many: usize,
     used: usize,
-    own: &[u16],
+    other: &[u16],
     more: usize,
     lacking: usize,
     change: Change,
 ) -> Size
     requires { ⌜ Laid (now part) many used × Sorted (entries many (now part)) ⌝ }
-    requires { ⌜ (span more (now own) ≤ length (now own)) × Sorted (entries more (now own)) ⌝ }
-    requires { ⌜ (length (sectionWords (changed change (entries more (now own)) (entries many (now part)))) + (used - span many (now part)) ≤ length (now part)) × (fitting (changed change (entries more (now own)) (entries many (now part))) ≡ true) ⌝ }
-    requires { ⌜ Lacks change lacking (entries more (now own)) (entries many (now part)) ⌝ }
-    ensures { λ r. ⌜ Edited (now (part .entry)) many used (changed change (entries more (now (own .entry))) (entries many (now (part .entry)))) (now (part .exit)) r ⌝ }
+    requires { ⌜ (span more (now other) ≤ length (now other)) × Sorted (entries more (now other)) ⌝ }
+    requires { ⌜ (length (sectionWords (changed change (entries more (now other)) (entries many (now part)))) + (used - span many (now part)) ≤ length (now part)) × (fitting (changed change (entries more (now other)) (entries many (now part))) ≡ true) ⌝ }
+    requires { ⌜ Lacks change lacking (entries more (now other)) (entries many (now part)) ⌝ }
+    ensures { λ r. ⌜ Edited (now (part .entry)) many used (changed change (entries more (now (other .entry))) (entries many (now (part .entry)))) (now (part .exit)) r ⌝ }
 {
     match change {
-        Change::Teach => changes::add_all(part, many, used, own, more, lacking),
-        Change::Withdraw => changes::lower_all(part, many, used, own, more),
+        Change::Teach => changes::add_all(part, many, used, other, more, lacking),
+        Change::Withdraw => changes::lower_all(part, many, used, other, more),
     }
 }
 
@@ -146,39 +149,39 @@ fn lives(change: Change, section: Section, live: u16, more: u16) -> u16
     }
 }
 
-// Changes a section of the book, which starts at word `at`, by the same section of the own book, which starts there at word `from`, and
+// Changes a section of the book, which starts at word `at`, by the same section of the other book, which starts there at word `from`, and
 // keeps the head right. If it is added, `lacking` says how many of its words the book lacks. Answers how many words are used then.
 fn change_section(
     book: &mut [u16],
     section: Section,
     at: usize,
     uses: usize,
-    own: &[u16],
+    other: &[u16],
     from: usize,
     lacking: usize,
     change: Change,
 ) -> usize
     requires { ⌜ Stands (now book) section at uses ⌝ }
-    requires { ⌜ Stands (now own) section from (used (bookIn (now own))) ⌝ }
-    requires { ⌜ Ready (length (now book)) change section (bookIn (now own)) (bookIn (now book)) ⌝ }
-    requires { ⌜ Lacks change lacking (sectionOf section (bookIn (now own))) (sectionOf section (bookIn (now book))) ⌝ }
-    ensures came { λ r. ⌜ r ≡ used (changedIn change section (bookIn (now (own .entry))) (bookIn (now (book .entry)))) ⌝ }
-    ensures wrote { λ _. ⌜ now (book .exit) ≡ lay (length (now (book .entry))) (changedIn change section (bookIn (now (own .entry))) (bookIn (now (book .entry)))) ⌝ }
+    requires { ⌜ Stands (now other) section from (used (bookIn (now other))) ⌝ }
+    requires { ⌜ Ready (length (now book)) change section (bookIn (now other)) (bookIn (now book)) ⌝ }
+    requires { ⌜ Lacks change lacking (sectionOf section (bookIn (now other))) (sectionOf section (bookIn (now book))) ⌝ }
+    ensures came { λ r. ⌜ r ≡ used (changedIn change section (bookIn (now (other .entry))) (bookIn (now (book .entry)))) ⌝ }
+    ensures wrote { λ _. ⌜ now (book .exit) ≡ lay (length (now (book .entry))) (changedIn change section (bookIn (now (other .entry))) (bookIn (now (book .entry)))) ⌝ }
 {
     let word = book::slot(section);
     let many = book[word] as usize;
-    let more = own[word] as usize;
+    let more = other[word] as usize;
     let live = lives(
         change,
         section,
         book[limits::LIVE_WORD],
-        own[limits::LIVE_WORD],
+        other[limits::LIVE_WORD],
     );
     let size = change_entries(
         &mut book[at..],
         many,
         uses - at,
-        &own[from..],
+        &other[from..],
         more,
         lacking,
         change,
@@ -190,29 +193,29 @@ fn change_section(
     end
 }
 
-// Changes the book by the own book, its last section first, so that the sections before it still start where they did. If it is
+// Changes the book by the other book, its last section first, so that the sections before it still start where they did. If it is
 // added, `lacks` says how many words of each of its sections the book lacks.
 pub fn change_book(
     book: &mut [u16],
     places: Places,
-    own: &[u16],
-    owns: Places,
+    other: &[u16],
+    others: Places,
     lacks: Lacking,
     change: Change,
 )
     requires { ⌜ Holds (now book) places ⌝ }
-    requires { ⌜ Holds (now own) owns ⌝ }
-    requires { ⌜ ReadyAll (length (now book)) change (bookIn (now own)) (bookIn (now book)) ⌝ }
-    requires { ⌜ LacksEach change lacks (bookIn (now own)) (bookIn (now book)) ⌝ }
-    ensures { λ _. ⌜ now (book .exit) ≡ lay (length (now (book .entry))) (changedBook change (bookIn (now (own .entry))) (bookIn (now (book .entry)))) ⌝ }
+    requires { ⌜ Holds (now other) others ⌝ }
+    requires { ⌜ ReadyAll (length (now book)) change (bookIn (now other)) (bookIn (now book)) ⌝ }
+    requires { ⌜ LacksEach change lacks (bookIn (now other)) (bookIn (now book)) ⌝ }
+    ensures { λ _. ⌜ now (book .exit) ≡ lay (length (now (book .entry))) (changedBook change (bookIn (now (other .entry))) (bookIn (now (book .entry)))) ⌝ }
 {
     let p = change_section(
         book,
         Section::Middles,
         places.middles,
         places.used,
-        own,
-        owns.middles,
+        other,
+        others.middles,
         lacks.middles,
         change,
     );
@@ -221,8 +224,8 @@ pub fn change_book(
         Section::Lows,
         places.lows,
         p,
-        own,
-        owns.lows,
+        other,
+        others.lows,
         lacks.lows,
         change,
     );
@@ -231,11 +234,37 @@ pub fn change_book(
         Section::Tops,
         places.tops,
         l,
-        own,
-        owns.tops,
+        other,
+        others.tops,
         lacks.tops,
         change,
     );
     let at = limits::HEAD_WORDS;
-    change_section(book, Section::Taught, at, r, own, at, lacks.taught, change);
+    change_section(
+        book,
+        Section::Taught,
+        at,
+        r,
+        other,
+        at,
+        lacks.taught,
+        change,
+    );
+}
+
+// Adds another book of the same k, if there is room for what the book lacks of it. Answers whether there was.
+pub fn add_book(book: &mut [u16], places: Places, other: &[u16], others: Places) -> bool
+    requires { ⌜ Holds (now book) places ⌝ }
+    requires { ⌜ Holds (now other) others ⌝ }
+    requires { ⌜ (bookIn (now other) .k ≡ bookIn (now book) .k) × (withinCounts (changedBook Teach (bookIn (now other)) (bookIn (now book))) ≡ true) ⌝ }
+    ensures came { λ r. ⌜ r ≡ leb (used (changedBook Teach (bookIn (now (other .entry))) (bookIn (now (book .entry))))) (length (now (book .entry))) ⌝ }
+    ensures wrote { λ r. ⌜ now (book .exit) ≡
+        (if r then lay (length (now (book .entry))) (changedBook Teach (bookIn (now (other .entry))) (bookIn (now (book .entry)))) else now (book .entry)) ⌝ }
+{
+    let weighed = weigh_book(book, places, other, others);
+    if book.len() - places.used < weighed.lacking {
+        return false;
+    }
+    change_book(book, places, other, others, weighed.each, Change::Teach);
+    true
 }

@@ -7,5 +7,6 @@ pub mod Heads
 pub mod Holding
 pub mod Openings
 pub mod Sound
+pub mod Sections
 pub mod Taught
 pub mod Checking

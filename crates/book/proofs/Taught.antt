@@ -164,7 +164,7 @@ each-keys P n [] es p h = h
 each-keys P n (t ∷ ts) es p h = add-keys P n (words t) (addEach n ts es) (p t (here refl)) (each-keys P n ts es (λ s m. p s (there m)) h)
 
 -- Of orders within the limits, the keys of each section fit.
-taught-fits : (k : ℕ) (os : List Teaching) → ((o : Teaching) → o ∈ os → Fits 0 greatest-depth (words (o .order))) → (s : Section) (e : Entry)
+pub taught-fits : (k : ℕ) (os : List Teaching) → ((o : Teaching) → o ∈ os → Fits 0 greatest-depth (words (o .order))) → (s : Section) (e : Entry)
     → e ∈ sectionOf s (bookOf k os) → Fits (shallowest s k) (deepest s k) (e .key)
 unfolding bookOf taught sectionOf
 taught-fits k [] f Taught e m = absurd (List·Memᴰ·not-nil m)

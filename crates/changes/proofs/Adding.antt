@@ -14,9 +14,9 @@ use Rattle.words.specs.declared.Compared.the-variants.{Equal, Higher}
 use Rattle.words.proofs.Ordered.{compare-equal, compare-flip}
 use Rattle.words.proofs.Tests.{and-left, and-right, and-both}
 use Rattle.figures.specs.Limits.{greatest-count}
-use Rattle.section.specs.Entries.{Entry, counted, sectionWords, entries, countOf, Below, Sorted, add}
+use Rattle.section.specs.Entries.{Entry, counted, sectionWords, entries, countOf, total, Below, Sorted, add}
 use Rattle.changes.specs.Editing.{addAll, fitting, firstAgainst}
-use Rattle.section.proofs.Counts.{below-trans, count-add}
+use Rattle.section.proofs.Counts.{below-trans, count-add, total-add}
 use Rattle.section.proofs.Sorting.{below-add, sorted-add}
 use Rattle.section.proofs.Sizes.{size-grows}
 
@@ -47,6 +47,12 @@ pub count-add-all : (z : List ℕ) (os es : List Entry) → countOf z (addAll os
 unfolding addAll countOf
 count-add-all z [] es = omega arith
 count-add-all z (o ∷ os) es = omega (arith, count-add (o .count) (o .key) z (addAll os es), count-add-all z os es)
+
+-- It counts in all what both count.
+pub total-add-all : (os es : List Entry) → total (addAll os es) ≡ total es + total os
+unfolding addAll total
+total-add-all [] es = omega arith
+total-add-all (o ∷ os) es = omega (arith, total-add (o .count) (o .key) (addAll os es), total-add-all os es)
 
 -- The sum takes no fewer words.
 pub size-add-all : (os es : List Entry) → length (sectionWords es) ≤ length (sectionWords (addAll os es))

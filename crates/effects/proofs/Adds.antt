@@ -19,37 +19,23 @@ use Rattle.section.proofs.Counts.{counts-own, counts-other, count-add, count-lo
 use Rattle.section.proofs.Sorting.{sorted-lower, same-counts}
 use Rattle.changes.proofs.Adding.{sorted-add-all, count-add-all}
 use Rattle.changes.proofs.Lowering.{sorted-lower-all, count-lower-all}
-use Rattle.changes.proofs.Weighing.{lacking-size, lacking-none, none-lacking, overfull-fitting}
+use Rattle.changes.proofs.Weighing.{lacking-none, none-lacking, overfull-fitting}
 use Rattle.book.specs.Book.{Book, sectionOf, used, live, inForm}
 use Rattle.book.specs.Taught.{addEach, taught, bookOf}
 use Rattle.book.specs.declared.Section.{Section}
 use Rattle.book.specs.declared.Section.the-variants.{Taught, Tops, Lows, Middles}
-use Rattle.book.proofs.Meaning.{used-is}
+use Rattle.book.proofs.Sections.{each-section, same-books}
 use Rattle.book.proofs.Taught.{lacks-any, count-each, lows-once, middles-once, sorted-each, each-keys}
-use Rattle.effects.specs.Calls.{withinCounts, lowerEach, withdrawn, hasEach, hasParts, treesIn}
+use Rattle.effects.specs.Calls.{lowerEach, withdrawn, hasEach, hasParts, treesIn}
 use Rattle.own.specs.Own.{ownBook}
-use Rattle.amend.specs.Changing.{changed, withSection, changedIn, changedBook, lackingParts, lackingAll, overfullAny}
+use Rattle.amend.specs.Counts.{withinCounts}
+use Rattle.amend.specs.Changing.{withSection, changedIn, changedBook, lackingParts, lackingAll, overfullAny}
 use Rattle.amend.specs.declared.Change.{Change}
 use Rattle.amend.specs.declared.Change.the-variants.{Teach, Withdraw}
 use Rattle.amend.proofs.Sections.{form-sorted, form-fitting}
+use Rattle.amend.proofs.Changed.{changed-section, used-changed}
 
 -- ---- the sections, one by one
-
--- What holds of each of the four sections holds of any.
-pub each-section : (Q : Section → Type 0) → Q Taught → Q Tops → Q Lows → Q Middles → (s : Section) → Q s
-each-section Q t r l p Taught = t
-each-section Q t r l p Tops = r
-each-section Q t r l p Lows = l
-each-section Q t r l p Middles = p
-
--- Two books with the same k and the same sections are the same.
-pub same-books : (a b : Book) → a .k ≡ b .k → ((s : Section) → sectionOf s a ≡ sectionOf s b) → a ≡ b
-unfolding sectionOf
-same-books a b k e = same k (e Taught) (e Tops) (e Lows) (e Middles)
-  where
-    same : {k k′ : ℕ} {t t′ r r′ l l′ p p′ : List Entry} → k ≡ k′ → t ≡ t′ → r ≡ r′ → l ≡ l′ → p ≡ p′
-        → _≡_ {A = Book} (record { k = k; T = t; R = r; L = l; P = p }) (record { k = k′; T = t′; R = r′; L = l′; P = p′ })
-    same e f g h i = cc
 
 -- A section after n teachings of an order.
 pub taught-section : (n : ℕ) (t : Tree) (b : Book) (s : Section) → sectionOf s (taught n t b) ≡ addEach n (treesIn s (b .k) t) (sectionOf s b)
@@ -65,11 +51,6 @@ withdrawn-section t b = each-section _ refl refl refl refl
 pub own-section : (n k : ℕ) (t : Tree) (s : Section) → sectionOf s (bookOf k (record { order = t; times = n } ∷ [])) ≡ addEach n (treesIn s k t) []
 unfolding sectionOf bookOf taught addEach
 own-section n k t = each-section _ refl refl refl refl
-
--- A section of a book changed by another book.
-pub changed-section : (c : Change) (own b : Book) (s : Section) → sectionOf s (changedBook c own b) ≡ changed c (sectionOf s own) (sectionOf s b)
-unfolding sectionOf changedBook changedIn withSection
-changed-section c own b = each-section _ refl refl refl refl
 
 -- A teaching counts each tree of a section once.
 pub trees-once : (k : ℕ) (t : Tree) (s : Section) → NoRepeats (treesIn s k t)
@@ -162,13 +143,6 @@ module _ (t : Tree) (b : Book) (sorted : (s : Section) → Sorted (sectionOf s b
       ∙ sym (changed-section Withdraw _ b s ∙ ap (λ (os : List Entry). lowerAll os (sectionOf s b)) (own-section 1 (b .k) t s)))
 
 -- ---- the words used
-
--- A book to which another is added uses the words that were lacking more.
-pub used-changed : (own b : Book) → ((s : Section) → Sorted (sectionOf s own)) → ((s : Section) → Sorted (sectionOf s b))
-    → used (changedBook Teach own b) ≡ used b + lackingAll own b
-unfolding changedBook changedIn withSection sectionOf lackingAll lackingParts
-used-changed own b p s =
-    omega (arith, used-is b, used-is (changedBook Teach own b), lacking-size (own .T) (b .T) (p Taught) (s Taught), lacking-size (own .R) (b .R) (p Tops) (s Tops), lacking-size (own .L) (b .L) (p Lows) (s Lows), lacking-size (own .P) (b .P) (p Middles) (s Middles))
 
 -- Once an order is taught the book uses the words more that its own book has and the book lacked.
 pub used-taught : (t : Tree) (b : Book) → ((s : Section) → Sorted (sectionOf s b)) → used (taught 1 t b) ≡ used b + lackingAll (ownBook (b .k) t) b

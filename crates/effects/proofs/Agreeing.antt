@@ -28,7 +28,8 @@ use Rattle.book.specs.declared.Section.the-variants.{Taught}
 use Rattle.book.proofs.Sound.{form-sound}
 use Rattle.book.proofs.Taught.{taught-k, taught-sorted, sorted-each, same-section, section-same}
 use Rattle.effects.specs.Calls.{withdrawn, hasParts, treesIn}
-use Rattle.effects.proofs.Adds.{each-section, same-books, taught-section, count-each-apart}
+use Rattle.book.proofs.Sections.{each-section, same-books}
+use Rattle.effects.proofs.Adds.{taught-section, count-each-apart}
 use Rattle.amend.proofs.Sections.{form-sorted}
 use Rattle.effects.proofs.Formed.{withdrawn-keeps-form}
 use Rattle.effects.proofs.Undoing.{undo, commute}
@@ -71,7 +72,7 @@ first e es o =
     record { tree = f .tree; spelt = f .isOrder .spelt; reads = read-entry e es (f .tree) (f .isOrder .spelt) f }
 
 -- Each of the teachings is live.
-teachings-live : (es : List Entry) → TaughtOrders es → (o : Teaching) → o ∈ teachingsIn es → 1 ≤ o .times
+pub teachings-live : (es : List Entry) → TaughtOrders es → (o : Teaching) → o ∈ teachingsIn es → 1 ≤ o .times
 unfolding teachingsIn Sorted
 teachings-live [] s o m = absurd (List·Memᴰ·not-nil m)
 teachings-live (e ∷ es) s o m = let f = first e es s in go (f .tree) (rw (f .reads) at m) (teachings-live es (later-taught e es s) o)
@@ -132,7 +133,7 @@ taught-twice m n t b p q sorted = same-books _ _ refl (λ s.
     ∙ sym (taught-section n t (taught m t b) s ∙ ap (addEach n ts) (taught-section m t b s)))
 
 -- The book of the teachings that a T counts with n more of an order is the one of those that it counts, with n teachings more.
-more-taught : (k n : ℕ) (t : Tree) (es : List Entry) → 1 ≤ n → Fits 0 greatest-depth (words t) → TaughtOrders es
+pub more-taught : (k n : ℕ) (t : Tree) (es : List Entry) → 1 ≤ n → Fits 0 greatest-depth (words t) → TaughtOrders es
     → bookOf k (teachingsIn (add n (words t) es)) ≡ taught n t (bookOf k (teachingsIn es))
 unfolding add bookOf
 more-taught k n t [] p l o = ap (bookOf k) (read-entry (counted (words t) n) [] t refl l) ∙ unfold teachingsIn in refl

@@ -25,7 +25,8 @@ use Rattle.book.proofs.Meaning.{decoded, read-back, lay-long}
 use Rattle.book.proofs.Heads.{on-unsized, on-unformed, form-formed}
 use Rattle.book.proofs.Holding.{holds}
 use Rattle.book.proofs.Sound.{held-book}
-use Rattle.effects.specs.Calls.{onOrder, withinCounts, teachTree, teachOf, withdrawn, hasParts, withdrawTree, withdrawOf}
+use Rattle.amend.specs.Counts.{withinCounts}
+use Rattle.effects.specs.Calls.{onOrder, teachTree, teachOf, withdrawn, hasParts, withdrawTree, withdrawOf}
 use Rattle.amend.proofs.Sections.{form-sorted}
 use Rattle.effects.proofs.Formed.{passed-fits}
 use Rattle.effects.proofs.Outcomes.{by-cause}

@@ -33,7 +33,8 @@ use Rattle.book.specs.declared.BookForm.the-variants.{Refused, InForm}
 use Rattle.book.proofs.Meaning.{used-is, laid-read, lay-long, used-fits}
 use Rattle.book.proofs.Holding.{holds, refused-book}
 use Rattle.book.proofs.Sound.{form-sound, held-book, on-any, why-only}
-use Rattle.effects.specs.Calls.{onOrder, withinCounts, teachTree, teachOf, withdrawn, hasParts, withdrawTree, withdrawOf}
+use Rattle.amend.specs.Counts.{withinCounts}
+use Rattle.effects.specs.Calls.{onOrder, teachTree, teachOf, withdrawn, hasParts, withdrawTree, withdrawOf}
 use Rattle.own.specs.Own.{own-words, ownBook, ownOf}
 use Rattle.amend.specs.Changing.{changedBook, ReadyAll, weighedIn, weighedBook, lackingParts, lackingAll, overfullAny}
 use Rattle.amend.specs.declared.Change.the-variants.{Teach, Withdraw}

@@ -23,10 +23,11 @@ use Rattle.book.specs.declared.Section.{Section}
 use Rattle.book.specs.declared.Section.the-variants.{Taught, Tops, Lows, Middles}
 use Rattle.book.proofs.Sound.{form-sound}
 use Rattle.book.proofs.Taught.{lacks-any, count-each, sorted-each}
-use Rattle.effects.specs.Calls.{withinCounts, hasEach, hasParts, treesIn}
+use Rattle.amend.specs.Counts.{withinCounts}
+use Rattle.effects.specs.Calls.{hasEach, hasParts, treesIn}
 use Rattle.effects.proofs.Adds.{taught-section, trees-once, live-taught, has-each}
 use Rattle.amend.proofs.Sections.{form-sorted, form-fitting}
-use Rattle.effects.proofs.Formed.{within-fits}
+use Rattle.amend.proofs.Changed.{within-fits}
 use Rattle.effects.proofs.Undoing.{times-counted, count-after-taught}
 use Rattle.effects.specs.Conditions.{WouldPass, lives, touched, PartMissing, from-tops, from-lows, from-middles}
 use Rattle.effects.proofs.Counted.{after-sorted}

@@ -20,7 +20,8 @@ use Rattle.book.specs.Taught.{taught, agreeing}
 use Rattle.book.specs.Opening.{outcome, leave, writeBook}
 use Rattle.book.proofs.Meaning.{decoded, lay-long}
 use Rattle.book.proofs.Sound.{form-sound}
-use Rattle.effects.specs.Calls.{withinCounts, teachOf, withdrawn, withdrawOf}
+use Rattle.amend.specs.Counts.{withinCounts}
+use Rattle.effects.specs.Calls.{teachOf, withdrawn, withdrawOf}
 use Rattle.effects.proofs.Adds.{live-taught}
 use Rattle.amend.proofs.Sections.{form-sorted, form-fitting}
 use Rattle.effects.proofs.Formed.{taught-keeps-form}

@@ -13,7 +13,8 @@ use Rattle.book.specs.Taught.{addEach, taught}
 use Rattle.book.specs.declared.Section.{Section}
 use Rattle.book.proofs.Taught.{in-any, lacks-any, count-each, sorted-each}
 use Rattle.effects.specs.Calls.{lowerEach, withdrawn, treesIn, timesIn}
-use Rattle.effects.proofs.Adds.{same-books, taught-section, withdrawn-section, trees-once, count-each-apart, sorted-lower-each, count-lower-each}
+use Rattle.book.proofs.Sections.{same-books}
+use Rattle.effects.proofs.Adds.{taught-section, withdrawn-section, trees-once, count-each-apart, sorted-lower-each, count-lower-each}
 
 -- ---- undone, and in any order
 

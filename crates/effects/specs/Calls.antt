@@ -6,14 +6,13 @@ use mathlib.Core.List.{List, [], _∷_}
 use lib.Dec.{leb}
 use lib.ListN.{length}
 use Rattle.words.specs.Base.{_and_, if_then_else_}
-use Rattle.figures.specs.Limits.{greatest-count}
 use Rattle.figures.specs.Numbers.{no-room, too-many, not-taught, not-agreeing}
 use Rattle.section.specs.Entries.{Entry, has, lower}
-use Rattle.changes.specs.Editing.{fitting}
+use Rattle.amend.specs.Counts.{withinCounts}
 use Rattle.trees.specs.Trees.{Tree, words}
 use Rattle.trees.specs.Reading.{byOrder, orderOf}
 use Rattle.trees.specs.Parts.{top, lowParts, middleParts}
-use Rattle.book.specs.Book.{Book, used, live}
+use Rattle.book.specs.Book.{Book, used}
 use Rattle.book.specs.Decoding.{onBook}
 use Rattle.book.specs.Taught.{taught, anyTree}
 use Rattle.book.specs.Opening.{Outcome, leave, writeBook}
@@ -25,11 +24,6 @@ unfoldable pub onOrder : List ℕ → List ℕ → (Book → Tree → Outcome) �
 onOrder ws os f = onBook (leave ws) ws (λ b. byOrder (orderOf os) (leave ws) (f b))
 
 -- ---- teaching
-
--- Neither "live teachings" nor a count passes 65,535.
-unfoldable pub withinCounts : Book → Bool
-withinCounts b =
-    leb (live b) greatest-count and fitting (b .T) and fitting (b .R) and fitting (b .L) and fitting (b .P)
 
 -- What teaching does, once the book and the order are in form: 7 where "live teachings or a touched count would pass 65,535", 6 where "the
 -- result needs more words than the book slice has".

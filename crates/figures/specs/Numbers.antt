@@ -1,4 +1,5 @@
--- The numbers of 01, "Numbers the desk hears", that an order, a part, a form, a book or a file can be answered with. Assumes nothing: these are definitions.
+-- The numbers of 01, "Numbers the desk hears", and of 02 that an order, a part, a form, a book, a file or two books can be answered with. Assumes nothing:
+-- these are definitions.
 use Prim.Native.Nat.{ℕ}
 
 -- done
@@ -60,6 +61,10 @@ other-version = 13
 -- stored: the rest is not the used words of a book in form
 abbrev pub no-stored-book : ℕ
 no-stored-book = 14
+
+-- joined: the two books look differently deep
+abbrev pub other-k : ℕ
+other-k = 15
 
 -- judged: the order's top is not in the book, though the part of every line is
 abbrev pub top-unknown : ℕ

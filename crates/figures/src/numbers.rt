@@ -1,4 +1,4 @@
-// The numbers of 01, "Numbers the desk hears", named as the definitions of `specs/Numbers.antt` name them.
+// The numbers of 01, "Numbers the desk hears", and of 02, named as the definitions of `specs/Numbers.antt` name them.
 
 // done
 pub const DONE: u16 = 0;
@@ -44,6 +44,9 @@ pub const OTHER_VERSION: u16 = 13;
 
 // stored: the rest is not the used words of a book in form
 pub const NO_STORED_BOOK: u16 = 14;
+
+// joined: the two books look differently deep
+pub const OTHER_K: u16 = 15;
 
 // judged: the order's top is not in the book, though the part of every line is
 pub const TOP_UNKNOWN: u16 = 20;

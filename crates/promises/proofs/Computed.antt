@@ -16,7 +16,8 @@ use Rattle.book.specs.Decoding.{topsAt, lowsAt, middlesAt, bookIn, formed, deco
 use Rattle.book.specs.Taught.{addEach, taught, bookOf, teachingsIn, sameSection, agreeing}
 use Rattle.book.specs.Opening.{openOf}
 use Rattle.verdicts.specs.Judging.{knows, knowsEach, toFix, leastToFix, verdictOn, verdict, judgeOf}
-use Rattle.effects.specs.Calls.{onOrder, withinCounts, teachTree, teachOf, lowerEach, withdrawn, hasEach, hasParts, withdrawTree, withdrawOf}
+use Rattle.amend.specs.Counts.{withinCounts}
+use Rattle.effects.specs.Calls.{onOrder, teachTree, teachOf, lowerEach, withdrawn, hasEach, hasParts, withdrawTree, withdrawOf}
 use Rattle.book.specs.Checking.{checkOf}
 use Rattle.form.specs.Text.{linesOf, levelText, codeText, lineText, spell, textOf}
 use Rattle.reply.specs.Replies.{lastDigits, withoutZeros, decimal, field, reply}

@@ -29,7 +29,8 @@ use Rattle.book.proofs.Heads.{is-sized}
 use Rattle.book.proofs.Openings.{opened as opening-is}
 use Rattle.verdicts.specs.Judging.{verdict}
 use Rattle.verdicts.proofs.Judgements.{by-verdict}
-use Rattle.effects.specs.Calls.{withinCounts, withdrawn, hasParts}
+use Rattle.amend.specs.Counts.{withinCounts}
+use Rattle.effects.specs.Calls.{withdrawn, hasParts}
 use Rattle.section.specs.Entries.{has}
 use Rattle.effects.specs.Conditions.{BookAndOrder}
 use Rattle.effects.proofs.Calling.{words-are, teach-does, withdraw-does}

@@ -25,7 +25,8 @@ use Rattle.book.specs.declared.Section.{Section}
 use Rattle.book.specs.declared.Section.the-variants.{Taught, Tops, Lows, Middles}
 use Rattle.book.proofs.Openings.{opened-formed}
 use Rattle.book.proofs.Taught.{any-in, in-any, taught-sorted, none-in}
-use Rattle.effects.specs.Calls.{withinCounts, treesIn, timesIn}
+use Rattle.amend.specs.Counts.{withinCounts}
+use Rattle.effects.specs.Calls.{treesIn, timesIn}
 use Rattle.effects.proofs.Adds.{live-taught}
 use Rattle.effects.proofs.Formed.{taught-keeps-form}
 use Rattle.effects.specs.Conditions.{WouldPass, lives, touched}

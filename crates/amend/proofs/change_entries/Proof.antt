@@ -44,7 +44,7 @@ returns : tie.Need-returns
 returns c =
     let s = c .before .before .before .before .before .before .before .before in
     let x = s .args in
-    subst (λ (d : Change). Edited (x .part .now) (x .many) (x .used) (changed d (entries (x .more) (x .own .now)) (entries (x .many) (x .part .now))) (c .before .before .add-all .last .0) (c .before .before .add-all .result)) (sym (c .before .before .before .before .enum-told .given .1)) (c .before .before .add-all .ensures)
+    subst (λ (d : Change). Edited (x .part .now) (x .many) (x .used) (changed d (entries (x .more) (x .other .now)) (entries (x .many) (x .part .now))) (c .before .before .add-all .last .0) (c .before .before .add-all .result)) (sym (c .before .before .before .before .enum-told .given .1)) (c .before .before .add-all .ensures)
 
 same-length-2 : tie.Need-same-length-2
 same-length-2 c = search needs
@@ -53,7 +53,7 @@ returns-2 : tie.Need-returns-2
 returns-2 c =
     let s = c .before .before .before .before .before .before .before .before in
     let x = s .args in
-    subst (λ (d : Change). Edited (x .part .now) (x .many) (x .used) (changed d (entries (x .more) (x .own .now)) (entries (x .many) (x .part .now))) (c .before .before .lower-all .last .0) (c .before .before .lower-all .result)) (sym (c .before .before .before .before .enum-told2 .given .1)) (c .before .before .lower-all .ensures)
+    subst (λ (d : Change). Edited (x .part .now) (x .many) (x .used) (changed d (entries (x .more) (x .other .now)) (entries (x .many) (x .part .now))) (c .before .before .lower-all .last .0) (c .before .before .lower-all .result)) (sym (c .before .before .before .before .enum-told2 .given .1)) (c .before .before .lower-all .ensures)
 
 pub change-entries-spec : {M : Type 1} → statement M
 change-entries-spec =

@@ -17,8 +17,8 @@ use Rattle.amend.proofs.change_section.Tie as tie
 abbrev start : tie.After-slot → tie.Start
 start v = v .before .before .before
 
--- The head's word for the section lies in the book and in the own book.
-slot-in : (v : tie.After-slot) → (v .slot .result < length (start v .args .book .now)) × (v .slot .result < length (start v .args .own .now))
+-- The head's word for the section lies in the book and in the other book.
+slot-in : (v : tie.After-slot) → (v .slot .result < length (start v .args .book .now)) × (v .slot .result < length (start v .args .other .now))
 slot-in v =
     let s = start v in
     let x = s .args in
@@ -34,12 +34,12 @@ at-in s =
     let g = stand-fits (x .book .now) (x .section) (x .at) (x .uses) h in
     (omega (arith, h .end), omega (arith, h .end))
 
--- It starts within the own book.
-from-in : (s : tie.Start) → s .args .from ≤ length (s .args .own .now)
+-- It starts within the other book.
+from-in : (s : tie.Start) → s .args .from ≤ length (s .args .other .now)
 from-in s =
     let x = s .args in
     let o = s .pre .1 .0 in
-    omega (arith, stand-start (x .own .now) (x .section) (x .from) _ o, stand-fits (x .own .now) (x .section) (x .from) _ o)
+    omega (arith, stand-start (x .other .now) (x .section) (x .from) _ o, stand-fits (x .other .now) (x .section) (x .from) _ o)
 
 -- What was known when the live teachings were.
 abbrev slotted : tie.After-lives → tie.After-slot
@@ -53,18 +53,18 @@ lived z = z .before .before .before
 lent : (s : tie.Start) → take (length (s .args .book .now) - s .args .at) (drop (s .args .at) (s .args .book .now)) ≡ drop (s .args .at) (s .args .book .now)
 lent s = let b = at-in s in tail-all (s .args .at) (s .args .book .now) (omega arith)
 
--- The part of the own book that is lent.
-lent-own : (s : tie.Start) → take (length (s .args .own .now) - s .args .from) (drop (s .args .from) (s .args .own .now)) ≡ drop (s .args .from) (s .args .own .now)
-lent-own s = tail-all (s .args .from) (s .args .own .now) (from-in s)
+-- The part of the other book that is lent.
+lent-other : (s : tie.Start) → take (length (s .args .other .now) - s .args .from) (drop (s .args .from) (s .args .other .now)) ≡ drop (s .args .from) (s .args .other .now)
+lent-other s = tail-all (s .args .from) (s .args .other .now) (from-in s)
 
 -- The words used are those of the changed book.
 ends : (z : tie.After-change-entries) → let s = start (slotted (lived z)) in
-    s .args .at + z .change-entries .result .used ≡ used (changedIn (s .args .change) (s .args .section) (bookIn (s .args .own .now)) (bookIn (s .args .book .now)))
+    s .args .at + z .change-entries .result .used ≡ used (changedIn (s .args .change) (s .args .section) (bookIn (s .args .other .now)) (bookIn (s .args .book .now)))
 ends z =
     let v = slotted (lived z) in
     let s = start v in
     let x = s .args in
-    end-then (x .book .now) (x .own .now) (x .change) (x .section) (x .at) (x .uses) (x .from) _ (s .pre .0) (s .pre .1 .0) (s .pre .1 .1 .0) (v .slot .result) (v .slot .ensures) _ _ _ (z .change-entries .result) (lent s) (lent-own s) (z .change-entries .ensures)
+    end-then (x .book .now) (x .other .now) (x .change) (x .section) (x .at) (x .uses) (x .from) _ (s .pre .0) (s .pre .1 .0) (s .pre .1 .1 .0) (v .slot .result) (v .slot .ensures) _ _ _ (z .change-entries .result) (lent s) (lent-other s) (z .change-entries .ensures)
 
 -- They and the entries are few.
 few : (z : tie.After-change-entries) → let s = start (slotted (lived z)) in
@@ -74,7 +74,7 @@ few z =
     let s = start v in
     let x = s .args in
     let m =
-    many-then (x .book .now) (x .own .now) (x .change) (x .section) (x .at) (x .uses) (x .from) _ (s .pre .0) (s .pre .1 .0) (s .pre .1 .1 .0) (v .slot .result) (v .slot .ensures) _ _ _ (z .change-entries .result) (lent s) (lent-own s) (z .change-entries .ensures) in
+    many-then (x .book .now) (x .other .now) (x .change) (x .section) (x .at) (x .uses) (x .from) _ (s .pre .0) (s .pre .1 .0) (s .pre .1 .1 .0) (v .slot .result) (v .slot .ensures) _ _ _ (z .change-entries .result) (lent s) (lent-other s) (z .change-entries .ensures) in
     (omega (arith, ends z, s .pre .1 .1 .0 .room), omega (arith, ends z, s .pre .1 .1 .0 .room))
 
 slot-requires : tie.Need-slot-requires
@@ -109,7 +109,7 @@ lives-requires c κs =
     let v = c .before .before .before .before in
     let s = start v in
     let x = s .args in
-    lives-ready (x .book .now) (x .own .now) (x .change) (x .section) (x .at) (x .uses) (x .from) _ (s .pre .0) (s .pre .1 .0) (s .pre .1 .1 .0) (v .slot .result) (v .slot .ensures)
+    lives-ready (x .book .now) (x .other .now) (x .change) (x .section) (x .at) (x .uses) (x .from) _ (s .pre .0) (s .pre .1 .0) (s .pre .1 .1 .0) (v .slot .result) (v .slot .ensures)
 
 mul-change-entries : tie.Need-mul-change-entries
 mul-change-entries c = let s = start (slotted c) in omega (arith, at-in s, s .pre .0 .short)
@@ -144,9 +144,9 @@ change-entries-requires c κs =
     let s = start v in
     let x = s .args in
     let part = take (length (x .book .now) - x .at) (drop (x .at) (x .book .now)) in
-    let own = take (length (x .own .now) - x .from) (drop (x .from) (x .own .now)) in
-    let a = entries-ready (x .book .now) (x .own .now) (x .change) (x .section) (x .at) (x .uses) (x .from) _ (s .pre .0) (s .pre .1 .0) (s .pre .1 .1 .0) (v .slot .result) (v .slot .ensures) part own (lent s) (lent-own s) in
-    let l = lacks-ready (x .book .now) (x .own .now) (x .change) (x .section) (x .at) (x .uses) (x .from) _ (s .pre .0) (s .pre .1 .0) (s .pre .1 .1 .0) (v .slot .result) (v .slot .ensures) part own (lent s) (lent-own s) (x .lacking) (s .pre .1 .1 .1) in
+    let other = take (length (x .other .now) - x .from) (drop (x .from) (x .other .now)) in
+    let a = entries-ready (x .book .now) (x .other .now) (x .change) (x .section) (x .at) (x .uses) (x .from) _ (s .pre .0) (s .pre .1 .0) (s .pre .1 .1 .0) (v .slot .result) (v .slot .ensures) part other (lent s) (lent-other s) in
+    let l = lacks-ready (x .book .now) (x .other .now) (x .change) (x .section) (x .at) (x .uses) (x .from) _ (s .pre .0) (s .pre .1 .0) (s .pre .1 .1 .0) (v .slot .result) (v .slot .ensures) part other (lent s) (lent-other s) (x .lacking) (s .pre .1 .1 .1) in
     (a .0, (a .1, (a .2, l)))
 
 add-end : tie.Need-add-end
@@ -191,10 +191,10 @@ returns c =
     let v = slotted (lived z) in
     let s = start v in
     let x = s .args in
-    let own = take (length (x .own .now) - x .from) (drop (x .from) (x .own .now)) in
+    let other = take (length (x .other .now) - x .from) (drop (x .from) (x .other .now)) in
     let part = take (length (x .book .now) - x .at) (drop (x .at) (x .book .now)) in (
       ends z,
-      words-then (x .book .now) (x .own .now) (x .change) (x .section) (x .at) (x .uses) (x .from) _ (s .pre .0) (s .pre .1 .0) (s .pre .1 .1 .0) (v .slot .result) (v .slot .ensures) part own (z .change-entries .last .0) (z .change-entries .result) (lent s) (lent-own s) (z .change-entries .ensures) (lived z .lives .result) (lived z .lives .ensures),
+      words-then (x .book .now) (x .other .now) (x .change) (x .section) (x .at) (x .uses) (x .from) _ (s .pre .0) (s .pre .1 .0) (s .pre .1 .1 .0) (v .slot .result) (v .slot .ensures) part other (z .change-entries .last .0) (z .change-entries .result) (lent s) (lent-other s) (z .change-entries .ensures) (lived z .lives .result) (lived z .lives .ensures),
     )
 
 pub change-section-spec : {M : Type 1} → statement M

@@ -23,9 +23,9 @@ word-small c = omega (arith, slot-small (called c .args .section), c .before .be
 book-start : (c : tie.After-start2) → c .before .start .result ≤ length (called c .args .book .now)
 book-start c = start-within _ _ (called c .pre .0) (called c .args .section) _ _ (c .before .start .ensures) (c .before .before .slot .ensures)
 
--- The section starts within the own book.
-own-start : (c : tie.After-start2) → c .start2 .result ≤ length (called c .args .own .now)
-own-start c = start-within _ _ (called c .pre .1) (called c .args .section) _ _ (c .start2 .ensures) (c .before .before .slot .ensures)
+-- The section starts within the other book.
+other-start : (c : tie.After-start2) → c .start2 .result ≤ length (called c .args .other .now)
+other-start c = start-within _ _ (called c .pre .1) (called c .args .section) _ _ (c .start2 .ensures) (c .before .before .slot .ensures)
 
 slot-requires : tie.Need-slot-requires
 slot-requires c κs = search needs
@@ -67,13 +67,13 @@ part-weigh-end : tie.Need-part-weigh-end
 part-weigh-end c = search needs
 
 mul-weigh-2 : tie.Need-mul-weigh-2
-mul-weigh-2 c = omega (arith, own-start (c .before .before .before), called (c .before .before .before) .pre .1 .short)
+mul-weigh-2 c = omega (arith, other-start (c .before .before .before), called (c .before .before .before) .pre .1 .short)
 
 sub-weigh-2 : tie.Need-sub-weigh-2
-sub-weigh-2 c = own-start (c .before .before .before)
+sub-weigh-2 c = other-start (c .before .before .before)
 
 part-weigh-start-2 : tie.Need-part-weigh-start-2
-part-weigh-start-2 c = own-start (c .before .before .before)
+part-weigh-start-2 c = other-start (c .before .before .before)
 
 part-weigh-end-2 : tie.Need-part-weigh-end-2
 part-weigh-end-2 c = search needs

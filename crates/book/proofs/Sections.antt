@@ -1,0 +1,48 @@
+-- The four sections of a book, one by one: what holds of each holds of any, and a book is known by k and its sections. Assumes nothing.
+use Prim.Native.Nat.{ℕ, _≤_}
+use mathlib.Core.Path.{_≡_}
+use mathlib.Core.Bool.{true}
+use mathlib.Core.List.{List}
+use Rattle.words.specs.Base.{_∈_}
+use Rattle.figures.specs.Limits.{least-k, greatest-k, greatest-count}
+use Rattle.section.specs.Entries.{Entry}
+use Rattle.trees.specs.Fits.{Fits}
+use Rattle.book.specs.Book.{Book, sectionOf, shallowest, deepest, live, inForm}
+use Rattle.book.specs.Sound.{SoundSection}
+use Rattle.book.specs.declared.Section.{Section}
+use Rattle.book.specs.declared.Section.the-variants.{Taught, Tops, Lows, Middles}
+use Rattle.book.proofs.Sound.{sound-section, form-sound, sound-form}
+
+-- What holds of each of the four sections holds of any.
+pub each-section : (Q : Section → Type 0) → Q Taught → Q Tops → Q Lows → Q Middles → (s : Section) → Q s
+each-section Q t r l p Taught = t
+each-section Q t r l p Tops = r
+each-section Q t r l p Lows = l
+each-section Q t r l p Middles = p
+
+-- Two books with the same k and the same sections are the same.
+pub same-books : (a b : Book) → a .k ≡ b .k → ((s : Section) → sectionOf s a ≡ sectionOf s b) → a ≡ b
+unfolding sectionOf
+same-books a b k e = same k (e Taught) (e Tops) (e Lows) (e Middles)
+  where
+    same : {k k′ : ℕ} {t t′ r r′ l l′ p p′ : List Entry} → k ≡ k′ → t ≡ t′ → r ≡ r′ → l ≡ l′ → p ≡ p′
+        → _≡_ {A = Book} (record { k = k; T = t; R = r; L = l; P = p }) (record { k = k′; T = t′; R = r′; L = l′; P = p′ })
+    same e f g h i = cc
+
+-- The keys of a book in form fit.
+pub form-keys : (b : Book) → inForm b ≡ true → (s : Section) (e : Entry) → e ∈ sectionOf s b → Fits (shallowest s (b .k)) (deepest s (b .k)) (e .key)
+form-keys b f s e m = sound-section b (form-sound b f) s .entry e m .tree
+
+-- A book with a k and live teachings within limits is in form if its sections are sound.
+pub sections-form : (k : ℕ) (b : Book) → b .k ≡ k → least-k ≤ k → k ≤ greatest-k → live b ≤ greatest-count
+    → ((s : Section) → SoundSection (shallowest s k) (deepest s k) (sectionOf s b)) → inForm b ≡ true
+unfolding sectionOf
+sections-form k b is l g f sound = sound-form b (record {
+  least = rw is l;
+  greatest = rw is g;
+  few = f;
+  taught = sound Taught;
+  tops = rw is (sound Tops);
+  lows = rw is (sound Lows);
+  middles = rw is (sound Middles);
+})
