@@ -1,5 +1,5 @@
 /*
- * Compares the library with plain C on many random calls of the ten functions, sound and damaged.
+ * Compares the library with plain C on many random calls of the eleven functions, sound and damaged.
  *
  *     compare [CALLS [SEED]]
  *
@@ -28,10 +28,12 @@ enum {
     SINGLE_WORDS = 12,          /* words that an order of one node takes in a book of such orders */
     TOLD = 20,                  /* differences that are told one by one */
     SIGNAL_STACK = 65536,
-    NUMBERS = 23                /* all answers' numbers are below it */
+    NUMBERS = 23,               /* all answers' numbers are below it */
+    NO_NUMBER = 16,             /* from this one on, up to the verdicts, there is none */
+    VERDICTS = 20
 };
 
-enum function { OPEN, TEACH, WITHDRAW, JUDGE, CHECK, WRITE_FILE, READ_FILE, READ_TEXT, WRITE_TEXT, SUBTREE, FUNCTIONS };
+enum function { OPEN, TEACH, WITHDRAW, JOIN, JUDGE, CHECK, WRITE_FILE, READ_FILE, READ_TEXT, WRITE_TEXT, SUBTREE, FUNCTIONS };
 
 /* What is known of each function: its name, how many of 100 calls are of it, and the numbers that it may answer. */
 static const struct {
@@ -40,15 +42,16 @@ static const struct {
     uint32_t numbers;
 } functions[FUNCTIONS] = {
     {"open", 3, 1u << 0 | 1u << 3 | 1u << 4},
-    {"teach", 26, 1u << 0 | 1u << 1 | 1u << 2 | 1u << 4 | 1u << 5 | 1u << 6 | 1u << 7},
-    {"withdraw", 17, 1u << 0 | 1u << 1 | 1u << 2 | 1u << 4 | 1u << 5 | 1u << 8 | 1u << 9},
-    {"judge", 16, 1u << 0 | 1u << 1 | 1u << 2 | 1u << 4 | 1u << 5 | 1u << 20 | 1u << 21 | 1u << 22},
-    {"check", 7, 1u << 0 | 1u << 4 | 1u << 5 | 1u << 9},
+    {"teach", 23, 1u << 0 | 1u << 1 | 1u << 2 | 1u << 4 | 1u << 5 | 1u << 6 | 1u << 7},
+    {"withdraw", 15, 1u << 0 | 1u << 1 | 1u << 2 | 1u << 4 | 1u << 5 | 1u << 8 | 1u << 9},
+    {"join", 10, 1u << 0 | 1u << 4 | 1u << 5 | 1u << 6 | 1u << 7 | 1u << 9 | 1u << 15},
+    {"judge", 14, 1u << 0 | 1u << 1 | 1u << 2 | 1u << 4 | 1u << 5 | 1u << 20 | 1u << 21 | 1u << 22},
+    {"check", 6, 1u << 0 | 1u << 4 | 1u << 5 | 1u << 9},
     {"write_file", 6, 1u << 0 | 1u << 4 | 1u << 5 | 1u << 9 | 1u << 11},
     {"read_file", 8, 1u << 0 | 1u << 4 | 1u << 6 | 1u << 9 | 1u << 12 | 1u << 13 | 1u << 14},
-    {"read_text", 8, 1u << 0 | 1u << 2 | 1u << 10 | 1u << 11},
+    {"read_text", 7, 1u << 0 | 1u << 2 | 1u << 10 | 1u << 11},
     {"write_text", 5, 1u << 0 | 1u << 1 | 1u << 2 | 1u << 11},
-    {"subtree", 4, 1u << 0 | 1u << 1}
+    {"subtree", 3, 1u << 0 | 1u << 1}
 };
 
 /* A book's slice. */
@@ -434,13 +437,15 @@ static void damage_book(struct book *book)
         damage_book(book);
 }
 
-/* Raises the count of an order that an agreeing book holds, and with it all counts of its parts and word 2, up to about the most. */
-static void raise_counts(struct book *book)
+/* Raises the count of an order that a book holds, if it agrees, and with it all counts of its parts, so that word 2 comes to `live`. */
+static void raise_counts(struct book *book, unsigned live)
 {
     struct order order;
-    unsigned step = 65535u - book->at[2] - below(3);
+    unsigned step = live - book->at[2];
     copy_book(&spare, book, book->words);
-    if (step > 65535 || !taught_order(&order, book) || plain.teach(spare.at, spare.words, order.at, order.words).number)
+    if (live > 65535 || step > 65535 || plain.check(book->at, book->words).number)
+        return;
+    if (!taught_order(&order, book) || plain.teach(spare.at, spare.words, order.at, order.words).number)
         return;
     for (size_t i = 0; i < book->words; i++)
         if (spare.at[i] != book->at[i])
@@ -488,7 +493,7 @@ static void renew_slot(unsigned at)
     plain.open(book->at, book->words, (uint16_t)(2 + below(5)));
     fill_slot(book);
     if (percent(12))
-        raise_counts(book);
+        raise_counts(book, 65535 - below(3));
 }
 
 /* Chooses a kept book, which is made anew at times. */
@@ -744,6 +749,96 @@ static void make_order_call(void)
     call.keep = keep && call.function != JUDGE ? slot : NULL;
 }
 
+/* Finds another kept book that looks as deep as this one, or gives NULL where there is none. */
+static const struct book *fellow(const struct book *kept)
+{
+    unsigned start = below(SLOTS);
+    for (unsigned i = 0; i < SLOTS; i++) {
+        const struct book *slot = &slots[(start + i) % SLOTS];
+        if (slot != kept && slot->at[0] == kept->at[0])
+            return slot;
+    }
+    return NULL;
+}
+
+/* Makes a book that looks as deep as a kept one, and teaches it orders that this holds, orders like those, and new ones; at times none. */
+static void relative(struct book *book, const struct book *kept)
+{
+    struct order order;
+    book->words = ONE_OF(HEAD_WORDS, 40, 120, 300, 300, 2000);
+    plain.open(book->at, book->words, kept->at[0]);
+    for (unsigned left = below(10); left; left--) {
+        some_order(&order, kept, ONE_OF(0, 20, 60));
+        plain.teach(book->at, book->words, order.at, order.words);
+    }
+}
+
+/* Makes a book to be joined to a kept one: mostly one that looks as deep, which may be its copy, and at times any kept one. */
+static void other_book(struct book *other, const struct book *kept)
+{
+    unsigned kind = below(100);
+    const struct book *from = kind < 10 ? &slots[below(SLOTS)] : kind < 20 ? kept : kind < 60 ? fellow(kept) : NULL;
+    if (from)
+        copy_book(other, from, from->words);
+    else
+        relative(other, kept);
+}
+
+/* Sets the slice of a book to what joining the other needs, to one word more or less, or to a small entry less, as far as it is used. */
+static void fit_joining(struct book *book, const struct book *other)
+{
+    size_t had = book->words;
+    copy_book(&spare, book, BOOK_WORDS);
+    if (plain.join(spare.at, BOOK_WORDS, other->at, other->words).number)
+        return;
+    book->words = spare.at[1] + 1u - ONE_OF(0, 1, 1, 2, 2, 5, 7, 9);
+    if (book->words < book->at[1])
+        book->words = book->at[1];
+    if (book->words > BOOK_WORDS)
+        book->words = BOOK_WORDS;
+    if (book->words > had)
+        memset(book->at + had, 0, 2 * (book->words - had));
+}
+
+/*
+ * Makes two books to be joined: mostly a copy of a kept one and one for it, at times books of orders of one node, the second the largest.
+ * At times they get such counts that their teachings together come to about the most.
+ */
+static void two_books(struct book *first, struct book *second, const struct book *kept)
+{
+    unsigned most = (BOOK_WORDS - HEAD_WORDS) / SINGLE_WORDS;
+    if (below(1000) < 6) {
+        singles_book(first, percent(30) ? below(2) * most : below(most + 1));
+        singles_book(second, most);
+        first->words = second->words = BOOK_WORDS;
+    } else {
+        copy_book(first, kept, kept->words);
+        other_book(second, kept);
+    }
+    if (percent(15)) {
+        raise_counts(first, below(65536));
+        raise_counts(second, 65536u - first->at[2] - below(3));
+    }
+}
+
+/* Makes a call of join. */
+static void make_join(void)
+{
+    static struct book first, second, book, other;
+    struct book *slot = some_slot();
+    int keep = percent(30);
+    two_books(&first, &second, slot);
+    if (percent(30)) {
+        fit_joining(&first, &second);
+        keep = 0;
+    }
+    keep = some_book(&book, &first, 15) && keep;
+    some_book(&other, &second, 15);
+    lend_book(&book, 1);
+    lend_book(&other, 0);
+    call.keep = keep ? slot : NULL;
+}
+
 /* Makes a book that a file call starts from: a kept one, or at times the largest of orders of one node or one order more. */
 static void file_book(struct book *book, unsigned damaged)
 {
@@ -832,6 +927,7 @@ static void make_call(void)
     case TEACH:
     case WITHDRAW:
     case JUDGE: make_order_call(); break;
+    case JOIN: make_join(); break;
     case CHECK:
     case WRITE_FILE: make_book_call(); break;
     case READ_FILE: make_read_file(); break;
@@ -883,6 +979,7 @@ static struct outcome perform(const struct implementation *which, unsigned side)
     case OPEN: answer = which->open(a, m, call.k); break;
     case TEACH: answer = which->teach(a, m, b, n); break;
     case WITHDRAW: answer = which->withdraw(a, m, b, n); break;
+    case JOIN: answer = which->join(a, m, b, n); break;
     case JUDGE: answer = which->judge(a, m, b, n); break;
     case CHECK: answer = which->check(a, m); break;
     case WRITE_FILE: answer = which->write_file(a, m, b, n); break;
@@ -1004,7 +1101,7 @@ static unsigned print_counts(void)
 {
     printf("%-10s %7s", "function", "calls");
     for (unsigned number = 0; number < NUMBERS; number++)
-        if (number < 15 || number >= 20)
+        if (number < NO_NUMBER || number >= VERDICTS)
             printf(" %6u", number);
     printf("\n");
     unsigned missed = 0;
@@ -1016,7 +1113,7 @@ static unsigned print_counts(void)
         for (unsigned number = 0; number < NUMBERS; number++) {
             if (functions[f].numbers >> number & 1u)
                 printf(" %6lu", counts[f][number]);
-            else if (number < 15 || number >= 20)
+            else if (number < NO_NUMBER || number >= VERDICTS)
                 printf(" %6s", "");
             missed += (functions[f].numbers >> number & 1u) && counts[f][number] == 0;
         }

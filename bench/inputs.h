@@ -1,5 +1,5 @@
 /*
- * What the comparison and the measurement share: the two implementations of the ten functions as tables, numbers that look random
+ * What the comparison and the measurement share: the two implementations of the eleven functions as tables, numbers that look random
  * and repeat from their seed, and orders grown by them.
  */
 #ifndef INPUTS_H
@@ -21,12 +21,13 @@ enum {
     LINE_BYTES = 8              /* the most bytes of a line of an order form */
 };
 
-/* The ten functions of one implementation. */
+/* The eleven functions of one implementation. */
 struct implementation {
     const char *name;
     ofb_answer (*open)(uint16_t *book, size_t words, uint16_t k);
     ofb_answer (*teach)(uint16_t *book, size_t words, const uint16_t *order, size_t order_words);
     ofb_answer (*withdraw)(uint16_t *book, size_t words, const uint16_t *order, size_t order_words);
+    ofb_answer (*join)(uint16_t *book, size_t words, const uint16_t *other, size_t other_words);
     ofb_answer (*judge)(const uint16_t *book, size_t words, const uint16_t *order, size_t order_words);
     ofb_answer (*check)(const uint16_t *book, size_t words);
     ofb_answer (*write_file)(const uint16_t *book, size_t words, uint8_t *out, size_t bytes);

@@ -1,5 +1,5 @@
 /*
- * Measures how long each of the ten functions takes in the library and in plain C, in one process and by turns, and prints the ratios.
+ * Measures how long each of the eleven functions takes in the library and in plain C, in one process and by turns, and prints the ratios.
  *
  *     measure [indicative] [K]
  *
@@ -18,7 +18,7 @@
 enum {
     ROUNDS = 9,                 /* rounds in which both are measured by turns; the least time of them counts */
     BATCH_NS = 5000000,         /* how long a batch of calls takes at least */
-    COPIES_BYTES = 2 << 20,     /* the most bytes of the copies of a book to which a batch teaches */
+    COPIES_BYTES = 2 << 20,     /* the most bytes of the copies of a book to which a batch teaches or joins */
     MOST_COPIES = 256,
     SIZES = 4,
     SHAPES = 3,
@@ -45,6 +45,7 @@ struct task {
     uint16_t k;
     size_t slice;               /* words of the book's slice */
     uint16_t book[BOOK_WORDS];
+    uint16_t other[BOOK_WORDS]; /* the book that is joined to it */
     uint16_t spare[BOOK_WORDS];
     struct order order;
     uint8_t text[MOST_NODES * LINE_BYTES];
@@ -262,25 +263,31 @@ static void fill_book(struct task *task, struct dice *dice, unsigned size)
     }
 }
 
-/* Sets the slice to be somewhat larger than the book with the task's order, which stands at the front of the copies. */
-static void fit_slice(struct task *task)
+/* Sets the slice to be somewhat larger than so many words, and how many copies of it there are. */
+static void fit_slice(struct task *task, unsigned words)
 {
-    memcpy(task->copies, task->book, sizeof task->book);
-    demand(plain.teach(task->copies, BOOK_WORDS, task->order.at, task->order.words).number == 0, "the measured order has no room");
-    task->slice = task->copies[1] + 100u;
+    task->slice = words + 100u;
     if (task->slice > BOOK_WORDS)
         task->slice = BOOK_WORDS;
+    task->copies_count = (unsigned)(COPIES_BYTES / (2 * task->slice));
+    if (task->copies_count > MOST_COPIES)
+        task->copies_count = MOST_COPIES;
+}
+
+/* Makes all copies of the book anew. */
+static void renew_copies(const struct task *task)
+{
+    for (unsigned i = 0; i < task->copies_count; i++)
+        memcpy(task->copies + i * task->slice, task->book, 2 * task->slice);
 }
 
 /* Measures teaching and withdrawing the task's order, in rows of these names. */
 static void measure_changes(struct task *task, const char *teaching, const char *withdrawing, unsigned size, unsigned nodes)
 {
-    fit_slice(task);
-    task->copies_count = (unsigned)(COPIES_BYTES / (2 * task->slice));
-    if (task->copies_count > MOST_COPIES)
-        task->copies_count = MOST_COPIES;
-    for (unsigned i = 0; i < task->copies_count; i++)
-        memcpy(task->copies + i * task->slice, task->book, 2 * task->slice);
+    memcpy(task->spare, task->book, sizeof task->book);
+    demand(plain.teach(task->spare, BOOK_WORDS, task->order.at, task->order.words).number == 0, "the measured order has no room");
+    fit_slice(task, task->spare[1]);
+    renew_copies(task);
     struct row *teach = add_row(teaching, size, task, nodes);
     struct row *withdraw = add_row(withdrawing, size, task, nodes);
     measure_pair(teach, withdraw, task);
@@ -304,6 +311,76 @@ static void measure_book(struct task *task, unsigned size)
     measure_steady(add_row("read_file", size, task, 0), batch_read_file, task);
 }
 
+/* Joins the other book to every copy, and gives the nanoseconds. */
+static double time_joins(const struct implementation *which, const struct task *task)
+{
+    unsigned long sum = 0;
+    uint16_t *at = task->copies;
+    double start = now();
+    for (unsigned i = 0; i < task->copies_count; i++, at += task->slice)
+        sum += which->join(at, task->slice, task->other, task->slice).number;
+    double end = now();
+    demand(sum == 0, "a measured joining was refused");
+    return end - start;
+}
+
+/* Teaches orders of 5 to 20 nodes by turns to the book, the other book and both, and all to the spare, to about so many words there. */
+static void fill_books(struct task *task, struct dice *dice, unsigned size)
+{
+    unsigned turn = 0;
+    plain.open(task->book, BOOK_WORDS, task->k);
+    plain.open(task->other, BOOK_WORDS, task->k);
+    plain.open(task->spare, BOOK_WORDS, task->k);
+    for (unsigned tries = 0; tries < TRIES && task->spare[1] + 20u < size; tries++) {
+        struct order order;
+        order_grow(&order, dice, 5 + dice_below(dice, 16), &practice);
+        memcpy(task->copies, task->spare, sizeof task->spare);
+        if (plain.teach(task->spare, BOOK_WORDS, order.at, order.words).number || task->spare[1] > size + 20u) {
+            memcpy(task->spare, task->copies, sizeof task->spare);
+            continue;
+        }
+        if (turn != 1)
+            plain.teach(task->book, BOOK_WORDS, order.at, order.words);
+        if (turn != 0)
+            plain.teach(task->other, BOOK_WORDS, order.at, order.words);
+        if (turn == 2)
+            plain.teach(task->spare, BOOK_WORDS, order.at, order.words);
+        turn = (turn + 1) % 3;
+        tries = 0;
+    }
+}
+
+/* Measures joining the other book to copies of the book, which have to come to the spare one. */
+static void measure_join(struct row *row, struct task *task)
+{
+    row->used = task->spare[1];
+    fit_slice(task, task->spare[1]);
+    for (unsigned round = 0; round < ROUNDS; round++) {
+        for (unsigned which = 0; which < 2; which++) {
+            double joined = 0, calls = 0;
+            while (joined < BATCH_NS) {
+                renew_copies(task);
+                joined += time_joins(both[which], task);
+                calls += task->copies_count;
+            }
+            keep_least(row, which, joined / calls);
+            for (unsigned i = 0; i < task->copies_count; i++)
+                demand(!memcmp(task->copies + i * task->slice, task->spare, 2 * task->slice), "a book is not what the two make");
+        }
+    }
+}
+
+/* Measures joining two books with orders of their own and in common, and joining a book to its copy. */
+static void measure_joins(struct task *task, struct dice *dice, unsigned size)
+{
+    fill_books(task, dice, size);
+    measure_join(add_row("join", size, task, 0), task);
+    memcpy(task->book, task->spare, sizeof task->book);
+    memcpy(task->other, task->spare, sizeof task->other);
+    demand(plain.join(task->spare, BOOK_WORDS, task->other, BOOK_WORDS).number == 0, "a book and its copy cannot be joined");
+    measure_join(add_row("join copy", size, task, 0), task);
+}
+
 /* Measures the functions that need an order and no book. */
 static void measure_order(struct task *task, unsigned nodes)
 {
@@ -316,7 +393,7 @@ static void measure_order(struct task *task, unsigned nodes)
 /* Measures all functions at all sizes. */
 static void measure_all(struct task *task)
 {
-    struct dice dice = {20};
+    struct dice dice = {20}, joining = {21};
     for (unsigned shape = 0; shape < SHAPES; shape++) {
         order_grow(&task->order, &dice, shapes[shape], &practice);
         measure_order(task, shapes[shape]);
@@ -333,6 +410,8 @@ static void measure_all(struct task *task)
             measure_steady(add_row("judge new", sizes[size], task, shapes[shape]), batch_doubt, task);
         }
     }
+    for (unsigned size = 0; size < SIZES; size++)
+        measure_joins(task, &joining, sizes[size]);
 }
 
 /* Prints a number, or a dash for none, in a column. */
@@ -405,11 +484,12 @@ static void print_summary(void)
 static void print_all(void)
 {
     static const char *const by_order[] = {"teach", "withdraw", "teach new", "withdraw new", "judge", "judge new"};
-    static const char *const by_book[] = {"open", "check", "write_file", "read_file"};
+    static const char *const by_book[] = {"open", "check", "write_file", "read_file", "join", "join copy"};
     static const char *const without_book[] = {"read_text", "write_text", "subtree"};
-    printf("Least processor time of a call over %d rounds. An order that is new has codes that the book has hardly seen.\n\n", ROUNDS);
+    printf("Least processor time of a call over %d rounds. An order that is new has codes that the book has hardly seen.\n", ROUNDS);
+    printf("Joined are two books that share orders and parts, or a book and its copy; words are those of the book that they make.\n\n");
     printf("%-12s %6s %6s %12s %12s %7s\n", "function", "words", "nodes", "library ns", "C ns", "ratio");
-    for (unsigned i = 0; i < 4; i++)
+    for (unsigned i = 0; i < 6; i++)
         print_function(by_book[i]);
     for (unsigned i = 0; i < 6; i++)
         print_function(by_order[i]);
@@ -420,7 +500,7 @@ static void print_all(void)
     for (unsigned i = 0; i < 2 * SIZES; i++)
         printf("%s %7u", i == SIZES ? "  " : "", sizes[i % SIZES]);
     printf("\n");
-    for (unsigned i = 0; i < 4; i++)
+    for (unsigned i = 0; i < 6; i++)
         print_growth(by_book[i], 0);
     for (unsigned i = 0; i < 6; i++)
         for (unsigned shape = 0; shape < SHAPES; shape++)

@@ -1,10 +1,10 @@
 /*
- * A plain C implementation of the ten functions of ofb.h, written from the rules alone, for comparison by bench/run in answers and speed.
+ * A plain C implementation of the eleven functions of ofb.h, written from the rules alone, for comparison by bench/run in answers and speed.
  * It is not part of the product. It keeps nothing between calls and takes no heap; reading a file takes the most stack, some 57 KiB.
  *
  * Every call on a book first goes through it once to see that it is in form and where its sections start. Teaching and withdrawing list
  * the order's distinct parts in the order in which the book holds entries, find the place of each in one merge, and only then change the
- * book, in one sweep.
+ * book, in one sweep. Joining does the same with the entries of the other book.
  */
 #include "plain.h"
 
@@ -50,6 +50,12 @@ typedef struct { unsigned number; part item[MOST_PARTS]; uint16_t cuts[MOST_CUTS
 
 /* For the entries of R, L and P: where each section begins, and for each its place, its right count, and the last order that had it. */
 typedef struct { unsigned first[SECTIONS + 1]; uint16_t place[MOST_ENTRIES], tally[MOST_ENTRIES], last[MOST_ENTRIES]; } ledger;
+
+/* An entry of another book: its place there, and the place of the book's first entry that is not less; known if that has the same tree. */
+typedef struct { uint16_t from, place; bool known; } addend;
+
+/* All entries of another book, front to end, and what the book lacks of them: how many words, and how many entries in each section. */
+typedef struct { unsigned number, more, lacking[SECTIONS]; addend item[MOST_ENTRIES]; } addends;
 
 /* Puts an answer together. */
 static ofb_answer answer(unsigned number, unsigned line, size_t written)
@@ -434,6 +440,52 @@ static unsigned check_book(const uint16_t *book, size_t words, shape *s)
     return agrees(book, s) ? OFB_DONE : OFB_NOT_AGREEING;
 }
 
+/* Finds the places of all entries of another book in the book, each section of both being gone through once. */
+static void find_addends(const uint16_t *book, const shape *s, const uint16_t *other, const shape *o, addends *all)
+{
+    all->number = all->more = 0;
+    for (unsigned section = T; section < SECTIONS; section++) {
+        unsigned at = s->start[section], stop = s->start[section + 1], words;
+        all->lacking[section] = 0;
+        for (unsigned from = o->start[section]; from < o->start[section + 1]; from += words) {
+            addend *e = &all->item[all->number++];
+            words = 2 + 2u * other[from];
+            at = seek(book, at, stop, other + from + 2, other[from], &e->known);
+            e->from = (uint16_t)from;
+            e->place = (uint16_t)at;
+            if (e->known) {
+                at += words;
+            } else {
+                all->more += words;
+                all->lacking[section]++;
+            }
+        }
+    }
+}
+
+/* Adds the counts of the known entries of another book and enters the others; from the end back, so each word moves once. */
+static void enter_addends(uint16_t *book, unsigned used, const uint16_t *other, const addends *all)
+{
+    unsigned from = used, to = used + all->more;
+    for (unsigned i = all->number; i-- > 0;) {
+        const addend *e = &all->item[i];
+        if (e->known) {
+            book[e->place + 1] = (uint16_t)(book[e->place + 1] + other[e->from + 1]);
+            continue;
+        }
+        unsigned n = from - e->place, words = 2 + 2u * other[e->from];
+        from -= n;
+        to -= n;
+        memmove(book + to, book + from, n * sizeof *book);
+        to -= words;
+        memcpy(book + to, other + e->from, words * sizeof *book);
+    }
+    book[1] = (uint16_t)(used + all->more);
+    book[2] = (uint16_t)(book[2] + other[2]);
+    for (unsigned section = T; section < SECTIONS; section++)
+        book[3 + section] = (uint16_t)(book[3 + section] + all->lacking[section]);
+}
+
 /* Whether a byte is a decimal digit. */
 static bool digit(uint8_t c)
 {
@@ -530,6 +582,32 @@ ofb_answer plain_withdraw(uint16_t *book, size_t words, const uint16_t *order, s
         if (!all.item[i].known)
             return answer(OFB_NOT_AGREEING, 0, 0);
     take_parts(book, s.used, &all);
+    return answer(OFB_DONE, 0, 0);
+}
+
+/* Joins another book to the book. Where both agree with themselves no count is above word 2, so only the sum of these can pass 65,535. */
+ofb_answer plain_join(uint16_t *book, size_t words, const uint16_t *other, size_t other_words)
+{
+    shape s, o;
+    addends all;
+    if (!size_allowed(words))
+        return answer(OFB_BOOK_SIZE, 0, 0);
+    if (!in_form(book, words, &s))
+        return answer(OFB_NOT_IN_FORM, 0, 0);
+    if (!size_allowed(other_words))
+        return answer(OFB_BOOK_SIZE, 0, 0);
+    if (!in_form(other, other_words, &o))
+        return answer(OFB_NOT_IN_FORM, 0, 0);
+    if (s.k != o.k)
+        return answer(OFB_OTHER_K, 0, 0);
+    if (!agrees(book, &s) || !agrees(other, &o))
+        return answer(OFB_NOT_AGREEING, 0, 0);
+    if (book[2] + other[2] > MOST_COUNT)
+        return answer(OFB_TOO_MANY, 0, 0);
+    find_addends(book, &s, other, &o, &all);
+    if (s.used + all.more > words)
+        return answer(OFB_NO_ROOM, 0, 0);
+    enter_addends(book, s.used, other, &all);
     return answer(OFB_DONE, 0, 0);
 }
 

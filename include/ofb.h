@@ -2,7 +2,7 @@
  * The book of built orders, for programs in C or in a language that calls C. The library behind it, libofb.a, is written in Rattle: each function
  * below is proved, for all that may be lent to it, to end, to read and write only what it is lent, and to answer as the rules say.
  * It keeps nothing between calls, asks for no memory, and needs of the C library no more than memcpy and memset. It is for x86-64. Of the stack
- * ofb_read_file takes some 66 KiB, ofb_check and ofb_write_file 34 KiB, ofb_teach and ofb_withdraw 24 KiB, and every other call at most 7 KiB.
+ * ofb_read_file takes some 66 KiB, ofb_check, ofb_join and ofb_write_file 34 KiB, ofb_teach and ofb_withdraw 24 KiB, and every other call at most 7 KiB.
  *
  * An order is a tree of options in preorder, two words for each: its code, 1 to 9999, and how many children it has, 0 to 8. It has at most 64 options, and
  * is at most 12 deep. A book is a slice of 7 to 16,384 words; ofb_open makes an empty one. Word 0 of a book is how deep it looks, k, word 1 how many of
@@ -43,6 +43,7 @@ enum {
     OFB_NO_MARK = 12,          /* the file is under 5 bytes, or does not begin with OFB */
     OFB_OTHER_VERSION = 13,    /* the file's version is not 1 */
     OFB_NO_STORED_BOOK = 14,   /* what follows in the file is not the used words of a book in form */
+    OFB_OTHER_K = 15,          /* the two books look differently deep */
     OFB_TOP_UNKNOWN = 20,      /* the part of every line is in the book, but the order's top is not among its tops */
     OFB_LOW_UNKNOWN = 21,      /* this line's part, all of its subtree, is not among the book's low parts; those of all lines below it are in the book */
     OFB_MIDDLE_UNKNOWN = 22    /* this line's part is not among the book's middle parts; those of all lines below it are in the book */
@@ -62,6 +63,13 @@ ofb_answer ofb_teach(uint16_t *book, size_t words, const uint16_t *order, size_t
 
 /* Withdraws one teaching of an order; the book is then as if that had never been taught. Refused by 4, 5, 1, 2, 8, 9, looked for in this order. */
 ofb_answer ofb_withdraw(uint16_t *book, size_t words, const uint16_t *order, size_t order_words);
+
+/*
+ * Joins another book to the book, which then holds the orders of both, their counts added. The other book stays as it is; to double a book, join it to a
+ * copy of itself. The other's slice may be of any length that a book's may be: what the two hold together has to fit the book's. Refused by 4 and 5 for
+ * the book, 4 and 5 for the other, 15 where their k differ, 9 for the book, 9 for the other, 7, 6, looked for in this order.
+ */
+ofb_answer ofb_join(uint16_t *book, size_t words, const uint16_t *other, size_t other_words);
 
 /*
  * Judges an order: 0 if its top, its low parts and its middle parts are all in the book. Where the part of some line is not, the line is the first one whose

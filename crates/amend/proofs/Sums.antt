@@ -2,10 +2,11 @@
 -- grouped, and that a sum takes no fewer words. Assumes nothing.
 use Prim.Native.Nat.{ℕ, _+_, _≤_}
 use mathlib.Core.Path.{_≡_, refl, sym, ap, _∙_}
-use mathlib.Core.List.{List}
+use mathlib.Core.List.{List, []}
 use native.Mathlib.Omega.{arith}
-use Rattle.section.specs.Entries.{countOf, Sorted}
+use Rattle.section.specs.Entries.{Entry, countOf, Sorted}
 use Rattle.section.proofs.Sorting.{same-counts}
+use Rattle.changes.specs.Editing.{addAll}
 use Rattle.changes.proofs.Adding.{sorted-add-all, count-add-all}
 use Rattle.book.specs.Book.{Book, sectionOf, used}
 use Rattle.book.specs.declared.Section.{Section}
@@ -54,3 +55,8 @@ added-groups a b c p q r =
 -- The sum takes no fewer words than the book.
 pub added-uses : (o b : Book) → InOrder o → InOrder b → used b ≤ used (added o b)
 added-uses o b p q = omega (arith, used-changed o b p q)
+
+-- A book of no entries adds nothing.
+pub none-added : (o b : Book) → ((s : Section) → sectionOf s o ≡ []) → added o b ≡ b
+none-added o b none =
+    same-books (added o b) b (added-k o b) (λ s. changed-section Teach o b s ∙ ap (λ (es : List Entry). addAll es (sectionOf s b)) (none s) ∙ unfold addAll in refl)

@@ -34,6 +34,7 @@ use Rattle.amend.specs.declared.Change.{Change}
 use Rattle.amend.specs.declared.Change.the-variants.{Teach, Withdraw}
 use Rattle.amend.proofs.Sections.{form-sorted, form-fitting}
 use Rattle.amend.proofs.Changed.{changed-section, used-changed}
+use Rattle.amend.proofs.Sums.{InOrder, added, added-k, added-sorted, added-groups}
 
 -- ---- the sections, one by one
 
@@ -141,6 +142,18 @@ module _ (t : Tree) (b : Book) (sorted : (s : Section) → Sorted (sectionOf s b
   withdrawn-changed = same-books _ _ refl (λ s.
       withdrawn-section t b s ∙ lower-each-all (treesIn s (b .k) t) (sectionOf s b) (trees-once (b .k) t s) (sorted s)
       ∙ sym (changed-section Withdraw _ b s ∙ ap (λ (os : List Entry). lowerAll os (sectionOf s b)) (own-section 1 (b .k) t s)))
+
+-- A teaching may come before another book is added, or after it.
+pub taught-added : (n : ℕ) (t : Tree) (x b : Book) → 1 ≤ n → InOrder x → InOrder b → x .k ≡ b .k → taught n t (added x b) ≡ added (taught n t x) b
+taught-added n t x b p sx sb same =
+    taught-changed t (added x b) (added-sorted x b sx sb) n p
+    ∙ ap (λ (k : ℕ). added (own k) (added x b)) (added-k x b ∙ sym same)
+    ∙ added-groups (own (x .k)) x b (λ s. rw (own-section n (x .k) t s) (each-sorted n (treesIn s (x .k) t) p)) sx sb
+    ∙ ap (λ (y : Book). added y b) (sym (taught-changed t x sx n p))
+  where
+    -- The book of these teachings alone.
+    own : ℕ → Book
+    own k = bookOf k (record { order = t; times = n } ∷ [])
 
 -- ---- the words used
 

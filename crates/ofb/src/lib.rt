@@ -1,10 +1,11 @@
-// The C interface of the library: the ten functions of include/ofb.h, each of which calls the function below it and hands its answer on in C's numbers. A
+// The C interface of the library: the eleven functions of include/ofb.h, each of which calls the function below it and hands its answer on in C's numbers. A
 // slice is a pointer and a length to C. Assumes nothing beyond each inner function's `requires`.
 ghost use mathlib.Core.Path.{_≡_};
 ghost use Prim.Native.Nat.{_^_, _<_};
 ghost use Rattle.book.specs.Opening.{openOf};
 ghost use Rattle.verdicts.specs.Judging.{judgeOf};
 ghost use Rattle.effects.specs.Calls.{teachOf, withdrawOf};
+ghost use Rattle.sums.specs.Joining.{joinOf};
 ghost use Rattle.book.specs.Checking.{checkOf};
 ghost use Rattle.files.specs.Files.{writeFileOf, readFileOf};
 ghost use Rattle.form.specs.Reading.{readOf};
@@ -76,6 +77,15 @@ pub extern "C" fn ofb_withdraw(book: &mut [u16], order: &[u16]) -> OfbAnswer
     ensures { λ r. ⌜ handed r (now (book .exit)) ≡ outcomeInC (withdrawOf (now (book .entry)) (now (order .entry))) ⌝ }
 {
     let answer = teach::withdraw(book, order);
+    told(answer)
+}
+
+// Joins another book to a book: `join::join`.
+#[no_mangle]
+pub extern "C" fn ofb_join(book: &mut [u16], other: &[u16]) -> OfbAnswer
+    ensures { λ r. ⌜ handed r (now (book .exit)) ≡ outcomeInC (joinOf (now (book .entry)) (now (other .entry))) ⌝ }
+{
+    let answer = join::join(book, other);
     told(answer)
 }
 

@@ -45,7 +45,7 @@ use Rattle.calls.specs.Desk.{lineFor, linesFor, printedFor, deskOf}
 use Rattle.promises.specs.Remaining.{after, remaining, timesOf, booked, ExactlyThese, MadeOf}
 use Rattle.promises.specs.Starts.{opening}
 use Rattle.promises.specs.AtTheDesk.{madeBy, bookAfter, DeskNumber, is-done, is-no-room, is-not-taught, is-top, is-low, is-middle}
-use Rattle.promises.proofs.Handing.{allowed-k, few-calls, forms-after, forms-make, few-left, book-then, lines-split, asks-order, text-refused-by}
+use Rattle.promises.proofs.Handing.{allowed-k, few-calls, forms-after, forms-make, forms-one, few-left, book-then, lines-split, asks-order, text-refused-by}
 use Rattle.promises.proofs.Demand3.{opening-done, parts-and-counts, taught-exactly, refused-by-6, refused-by-8, withdrawn-exactly}
 use Rattle.promises.proofs.Passing.{passes-made}
 use Rattle.promises.proofs.Uniqueness.{booked-is}
@@ -253,7 +253,7 @@ module _ (input : List ℕ) (k : ℕ) (cs : List Asking) (is : handedIn input �
     fewer-remain : (c : Asking) (back : List Asking) → cs ≡ front ++ (c ∷ back) → length desk-orders < greatest-count
     fewer-remain c back e =
         let n : length cs ≡ length front + length (c ∷ back) = ap length e ∙ length-append front (c ∷ back) in
-        omega (arith, few-left (madeBy front) opened [], forms-make front, few-calls input k cs is)
+        omega (arith, few-left (madeBy front) opened [] (forms-one front), forms-make front, few-calls input k cs is)
 
     -- Teaching an order is done or refused by 6.
     teaching-number : (c : Asking) (back : List Asking) → cs ≡ front ++ (c ∷ back) → (os : List ℕ) (t : Tree) → IsOrder os t

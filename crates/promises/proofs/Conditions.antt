@@ -1,12 +1,13 @@
--- When teaching and withdrawing are refused in a book after any calls, by the orders that remain: 7 where there are 65,535 of them, 6
--- where their book with one order more has no room, and 8 where the order does not stand among them; and when they are done. Assumes nothing.
-use Prim.Native.Nat.{ℕ, _≤_, _<_}
+-- When teaching, withdrawing and joining are refused in a book after any calls, by the orders that remain: 7 where there are 65,535 of them, or more with
+-- those of a book that is joined, 6 where their book with one order more, or with that book's, has no room, and 8 where the order does not stand among them;
+-- and when they are done. Assumes nothing.
+use Prim.Native.Nat.{ℕ, _+_, _≤_, _<_}
 use mathlib.Core.Path.{_≡_, sym, ap, _∙_}
 use mathlib.Core.Bool.{true}
-use mathlib.Core.List.{List, _∷_}
+use mathlib.Core.List.{List, _∷_, _++_}
 use native.Mathlib.Decide.{decLt}
 use native.Mathlib.Omega.{arith}
-use borrow.Author.Tests.{lt-ltb, le-ltb, ltb-true, ltb-false}
+use borrow.Author.Tests.{lt-leb, lt-ltb, le-ltb, ltb-true, ltb-false}
 use lib.Dec.{ltb}
 use lib.ListN.{length}
 use Rattle.figures.specs.Limits.{least-k, greatest-k, greatest-count, head-words, most-book-words}
@@ -16,17 +17,25 @@ use Rattle.section.proofs.Counts.{has-count}
 use Rattle.trees.specs.Trees.{Tree, words}
 use Rattle.trees.specs.Fits.{IsOrder}
 use Rattle.trees.proofs.Fitting.{order-read}
-use Rattle.book.specs.Book.{sectionOf, used}
+use Rattle.book.specs.Book.{Book, sectionOf, used, live}
+use Rattle.book.specs.Sound.{IsBook}
 use Rattle.book.specs.Taught.{taught, agreeing}
 use Rattle.book.specs.declared.Section.the-variants.{Taught}
+use Rattle.book.proofs.Sound.{sound-form}
 use Rattle.effects.specs.Calls.{teachOf, withdrawOf}
 use Rattle.effects.specs.Conditions.{_exactly-when_, BookAndOrder, WouldPass, lives}
 use Rattle.effects.proofs.Conditions.{teach-7, teach-6, teach-0, withdraw-0, withdraw-8}
 use Rattle.effects.proofs.Reasons.{within-none}
 use Rattle.effects.proofs.Sequences.{agreeing-withdraws}
-use Rattle.promises.specs.Remaining.{Call, after, remaining, timesOf, booked}
-use Rattle.promises.proofs.Orders.{booked-first, booked-sorted, booked-live, count-times, more-within}
-use Rattle.promises.proofs.Remaining.{Kept, kept-form, kept-long, kept-met, Begun, after-kept, after-agrees}
+use Rattle.effects.proofs.Calling.{number-is}
+use Rattle.sums.specs.Joining.{joined, joinOf}
+use Rattle.sums.proofs.Joined.{grown as joined-from}
+use Rattle.sums.proofs.Joins.{Both, join-passes, join-crowded, join-does}
+use Rattle.promises.specs.Remaining.{Call, after, ordersIn, remaining, timesOf, booked}
+use Rattle.promises.specs.Agreement.{Agrees}
+use Rattle.promises.proofs.Agreement.{sound-agreeing}
+use Rattle.promises.proofs.Orders.{booked-first, booked-k, booked-sorted, booked-live, count-times, more-within}
+use Rattle.promises.proofs.Remaining.{Kept, kept-form, kept-long, kept-met, kept-book, both-booked, both-live, Begun, after-kept, after-agrees}
 
 -- ---- in the book of orders
 
@@ -132,6 +141,107 @@ module _ (slice : List ℕ) (k : ℕ) (long : head-words ≤ length slice) (shor
       to : 1 ≤ timesOf os orders → withdrawOf ws os .answer .number ≡ done
       to h = agreeing-withdraws ws os (booked k orders) t both-met a (entry-test ∙ lt-ltb 0 (timesOf os orders) h)
 
+module _ (slice : List ℕ) (k : ℕ) (long : head-words ≤ length slice) (short : length slice ≤ most-book-words) (least : least-k ≤ k) (greatest : k ≤ greatest-k)
+    (orders : List (List ℕ)) (ws : List ℕ) (kept : Kept (length slice) k orders ws) (agrees : agreeing (booked k orders) ≡ true)
+    (vs : List ℕ) (c : Book) (j : IsBook vs c) (g : Agrees c) (same : c .k ≡ k) where
+  -- The orders of both books.
+  abbrev all : List (List ℕ)
+  all = ordersIn (c .T) ++ orders
+
+  -- What joining answers for them.
+  abbrev number : ℕ
+  number = joinOf ws vs .answer .number
+
+  -- The two are books of one k that agree with themselves.
+  both : Both ws vs (booked k orders) c
+  both = record {
+    isFirst = kept-book slice k long short least greatest orders ws kept;
+    isSecond = j;
+    same = booked-k k orders (kept .limits) ∙ sym same;
+    grownFirst = joined-from (booked k orders) (kept-form slice k long short least greatest orders ws kept) agrees;
+    grownSecond = joined-from c (sound-form c (j .sound)) (sound-agreeing c (j .sound) .1 g);
+  }
+
+  -- Their joined book is that of all these orders,
+  whole : joined (booked k orders) c ≡ booked k all
+  whole = both-booked slice k long short least greatest orders ws kept (booked k orders) c vs both
+
+  -- and as many teachings are live in both as there are orders.
+  lives-all : live (booked k orders) + live c ≡ length all
+  lives-all = both-live slice k long short least greatest orders ws kept (booked k orders) c vs both
+
+  -- What joining answers goes by how many orders there are in all, and by the words of their book.
+  data JoinedBy : Type 0 where
+    by-7 : greatest-count < length all → number ≡ too-many → JoinedBy
+    by-6 : length all ≤ greatest-count → length slice < used (booked k all) → number ≡ no-room → JoinedBy
+    by-0 : length all ≤ greatest-count → used (booked k all) ≤ length slice → number ≡ done → JoinedBy
+
+  -- It is one of these.
+  joined-by : JoinedBy
+  joined-by = go (decLt greatest-count (length all)) (decLt (length slice) (used (booked k all)))
+    where
+      -- The words are as many as in the slice.
+      same-long : length ws ≡ length slice
+      same-long = kept-long slice k long short least greatest orders ws kept
+
+      -- By whether there are too many, and too many words.
+      go : Dec (greatest-count < length all) → Dec (length slice < used (booked k all)) → JoinedBy
+      go (yes h) d = by-7 h (number-is (join-passes ws vs (booked k orders) c both (omega (arith, lives-all))))
+      go (no h) (yes l) =
+          let few : live (booked k orders) + live c ≤ greatest-count = omega (arith, lives-all) in
+          by-6 (omega arith) l (number-is (join-crowded ws vs (booked k orders) c both few (lt-leb (used (joined (booked k orders) c)) (length ws) (omega (arith, ap used whole, same-long)))))
+      go (no h) (no l) =
+          let few : live (booked k orders) + live c ≤ greatest-count = omega (arith, lives-all) in
+          by-0 (omega arith) (omega arith) (number-is (join-does ws vs (booked k orders) c both few (omega (arith, ap used whole, same-long))))
+
+  -- Joining answers 7 exactly with more than 65,535 orders in all.
+  joined-7 : (number ≡ too-many) exactly-when (greatest-count < length all)
+  joined-7 = (from joined-by, to joined-by)
+    where
+      -- What is refused by 7 has more,
+      from : JoinedBy → number ≡ too-many → greatest-count < length all
+      from (by-7 h n) e = h
+      from (by-6 h l n) e = absurd (omega (arith, n))
+      from (by-0 h l n) e = absurd (omega (arith, n))
+
+      -- and what has more is refused by it.
+      to : JoinedBy → greatest-count < length all → number ≡ too-many
+      to (by-7 h n) m = n
+      to (by-6 h l n) m = absurd (omega arith)
+      to (by-0 h l n) m = absurd (omega arith)
+
+  -- It answers 6 exactly with no more, where their book needs more words than the slice has.
+  joined-6 : (number ≡ no-room) exactly-when ((length all ≤ greatest-count) × (length slice < used (booked k all)))
+  joined-6 = (from joined-by, to joined-by)
+    where
+      -- What is refused by 6 has no room,
+      from : JoinedBy → number ≡ no-room → (length all ≤ greatest-count) × (length slice < used (booked k all))
+      from (by-7 h n) e = absurd (omega (arith, n))
+      from (by-6 h l n) e = (h, l)
+      from (by-0 h l n) e = absurd (omega (arith, n))
+
+      -- and what has none is refused by it.
+      to : JoinedBy → (length all ≤ greatest-count) × (length slice < used (booked k all)) → number ≡ no-room
+      to (by-7 h n) m = absurd (omega (arith, m .0))
+      to (by-6 h l n) m = n
+      to (by-0 h l n) m = absurd (omega (arith, m .1))
+
+  -- It is done exactly with no more, where the slice has room for their book.
+  joined-0 : (number ≡ done) exactly-when ((length all ≤ greatest-count) × (used (booked k all) ≤ length slice))
+  joined-0 = (from joined-by, to joined-by)
+    where
+      -- What is done has room,
+      from : JoinedBy → number ≡ done → (length all ≤ greatest-count) × (used (booked k all) ≤ length slice)
+      from (by-7 h n) e = absurd (omega (arith, n))
+      from (by-6 h l n) e = absurd (omega (arith, n))
+      from (by-0 h l n) e = (h, l)
+
+      -- and what has room is done.
+      to : JoinedBy → (length all ≤ greatest-count) × (used (booked k all) ≤ length slice) → number ≡ done
+      to (by-7 h n) m = absurd (omega (arith, m .0))
+      to (by-6 h l n) m = absurd (omega (arith, m .1))
+      to (by-0 h l n) m = n
+
 -- ---- in a book after calls
 
 module _ (slice : List ℕ) (k : ℕ) (first : List (List ℕ)) (ws : List ℕ) (begun : Begun slice k first ws) (cs : List Call) where
@@ -164,3 +274,20 @@ module _ (slice : List ℕ) (k : ℕ) (first : List (List ℕ)) (ws : List ℕ) 
   -- 0, "done", exactly where the order is one of those that remain.
   pub withdrawing-0 : (os : List ℕ) (t : Tree) → IsOrder os t → (withdrawOf (after cs ws) os .answer .number ≡ done) exactly-when (1 ≤ timesOf os orders)
   withdrawing-0 os t o = kept-withdrawn slice k (begun .long) (begun .short) (begun .least) (begun .greatest) _ _ grown os t o (after-agrees slice k first ws begun cs)
+
+  -- Of joining a book of the run's k that agrees with itself: 7 exactly where more than 65,535 orders remain with those of the book,
+  pub joining-7 : (vs : List ℕ) (c : Book) → IsBook vs c → Agrees c → c .k ≡ k
+      → (joinOf (after cs ws) vs .answer .number ≡ too-many) exactly-when (greatest-count < length (ordersIn (c .T) ++ orders))
+  joining-7 vs c j g same = joined-7 slice k (begun .long) (begun .short) (begun .least) (begun .greatest) _ _ grown (after-agrees slice k first ws begun cs) vs c j g same
+
+  -- 6 exactly where no more remain and the book of all these needs more words than the slice has,
+  pub joining-6 : (vs : List ℕ) (c : Book) → IsBook vs c → Agrees c → c .k ≡ k
+      → (joinOf (after cs ws) vs .answer .number ≡ no-room) exactly-when
+      ((length (ordersIn (c .T) ++ orders) ≤ greatest-count) × (length slice < used (booked k (ordersIn (c .T) ++ orders))))
+  joining-6 vs c j g same = joined-6 slice k (begun .long) (begun .short) (begun .least) (begun .greatest) _ _ grown (after-agrees slice k first ws begun cs) vs c j g same
+
+  -- and 0 exactly where no more remain and that book uses no more.
+  pub joining-0 : (vs : List ℕ) (c : Book) → IsBook vs c → Agrees c → c .k ≡ k
+      → (joinOf (after cs ws) vs .answer .number ≡ done) exactly-when
+      ((length (ordersIn (c .T) ++ orders) ≤ greatest-count) × (used (booked k (ordersIn (c .T) ++ orders)) ≤ length slice))
+  joining-0 vs c j g same = joined-0 slice k (begun .long) (begun .short) (begun .least) (begun .greatest) _ _ grown (after-agrees slice k first ws begun cs) vs c j g same

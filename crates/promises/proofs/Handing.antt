@@ -25,7 +25,7 @@ use Rattle.sheet.specs.declared.Letter.{Letter}
 use Rattle.sheet.specs.declared.Letter.the-variants.{Teach, Withdraw, Judge}
 use Rattle.ask.specs.Asking.{askOf, callOf}
 use Rattle.calls.specs.Desk.{lineFor, linesFor}
-use Rattle.promises.specs.Remaining.{Call, teach, withdraw, outcomeOf, afterBy, after, without, remainBy, remainingBy, remaining}
+use Rattle.promises.specs.Remaining.{Call, teach, withdraw, join, outcomeOf, afterBy, after, without, remainBy, remainingBy, remaining}
 use Rattle.promises.specs.AtTheDesk.{callFor, madeOf, madeBy, bookAfter, DeskNumber, is-too-large, is-no-form}
 
 -- ---- what is handed in
@@ -121,29 +121,70 @@ fewer os (p ∷ ps) = go (sameWords p os) (fewer os ps)
     go true h = omega arith
     go false h = omega arith
 
--- After a call one order more remains at most.
-one-more-left : (c : Call) (n : ℕ) (orders : List (List ℕ)) → length (remainBy c n orders) ≤ suc (length orders)
+-- A call with one order: no join.
+abbrev OneOrder : Call → Type 0
+OneOrder (teach os) = Unit {0}
+OneOrder (withdraw os) = Unit {0}
+OneOrder (join vs) = ⊥
+
+-- Calls with one order each.
+unfoldable pub OneOrders : List Call → Type 0
+OneOrders [] = Unit {0}
+OneOrders (c ∷ cs) = OneOrder c × OneOrders cs
+
+-- Such calls and then such calls are such.
+one-both : (cs ds : List Call) → OneOrders cs → OneOrders ds → OneOrders (cs ++ ds)
+unfolding OneOrders
+one-both [] ds p q = q
+one-both (c ∷ cs) ds p q = (p .0, one-both cs ds (p .1) q)
+
+-- The calls of a letter are such.
+letter-one : (x : Letter) (os : List ℕ) → OneOrders (callFor x os)
+unfolding OneOrders
+letter-one Teach os = (tt, tt)
+letter-one Withdraw os = (tt, tt)
+letter-one Judge os = tt
+
+-- So are those of a form.
+form-one : (c : Asking) → OneOrders (madeOf c)
+unfolding madeOf byForm OneOrders
+form-one c = go (formOf (c .text))
+  where
+    -- By what its text is.
+    go : (f : Form) → OneOrders (byForm f (λ n line. []) (λ xs. callFor (c .letter) (wordsOf xs)))
+    go (fault n line) = tt
+    go (form xs) = letter-one (c .letter) (wordsOf xs)
+
+-- So are those of forms.
+pub forms-one : (cs : List Asking) → OneOrders (madeBy cs)
+unfolding madeBy OneOrders
+forms-one [] = tt
+forms-one (c ∷ cs) = one-both (madeOf c) (madeBy cs) (form-one c) (forms-one cs)
+
+-- After a call with one order one order more remains at most.
+one-more-left : (c : Call) (n : ℕ) (orders : List (List ℕ)) → OneOrder c → length (remainBy c n orders) ≤ suc (length orders)
 unfolding if_then_else_
-one-more-left (teach os) n orders = go (eqb n done)
+one-more-left (teach os) n orders p = go (eqb n done)
   where
     -- By whether it is done.
     go : (b : Bool) → length (if b then os ∷ orders else orders) ≤ suc (length orders)
     go true = omega arith
     go false = omega arith
-one-more-left (withdraw os) n orders = go (eqb n done)
+one-more-left (withdraw os) n orders p = go (eqb n done)
   where
     -- By whether it is done.
     go : (b : Bool) → length (if b then without os orders else orders) ≤ suc (length orders)
     go true = omega (arith, fewer os orders)
     go false = omega arith
+one-more-left (join vs) n orders p = absurd p
 
--- After calls no more orders remain than were there and there are calls.
-pub few-left : (cs : List Call) (ws : List ℕ) (orders : List (List ℕ)) → length (remaining cs ws orders) ≤ length cs + length orders
-unfolding remainingBy
-few-left [] ws orders = omega arith
-few-left (c ∷ cs) ws orders =
+-- After calls with one order each no more orders remain than were there and there are calls.
+pub few-left : (cs : List Call) (ws : List ℕ) (orders : List (List ℕ)) → OneOrders cs → length (remaining cs ws orders) ≤ length cs + length orders
+unfolding remainingBy OneOrders
+few-left [] ws orders p = omega arith
+few-left (c ∷ cs) ws orders p =
     let n : ℕ = outcomeOf c ws .answer .number in
-    omega (arith, one-more-left c n orders, few-left cs (outcomeOf c ws .words) (remainBy c n orders))
+    omega (arith, one-more-left c n orders (p .0), few-left cs (outcomeOf c ws .words) (remainBy c n orders) (p .1))
 
 -- ---- the lines of forms
 

@@ -1,5 +1,6 @@
 -- The demands, and the laws that they cite.
 pub mod Orders
+pub mod Counted
 pub mod Remaining
 pub mod Agreement
 pub mod Passing
@@ -8,6 +9,7 @@ pub mod Whys
 pub mod PartWhys
 pub mod Conditions
 pub mod Checks
+pub mod Joining
 pub mod Books
 pub mod FileWhys
 pub mod Starting

@@ -3,7 +3,7 @@
 use Prim.Native.Nat.{ℕ, _+_, _≤_}
 use mathlib.Core.Path.{_≡_, refl, sym, ap, ap₂, _∙_}
 use mathlib.Core.Bool.{Bool, true, false}
-use mathlib.Core.List.{List, [], _∷_, List·Memᴰ·head as here, List·Memᴰ·not-nil}
+use mathlib.Core.List.{List, [], _∷_, _++_, List·Memᴰ·head as here, List·Memᴰ·not-nil}
 use mathlib.Core.Option.{some}
 use native.Mathlib.Omega.{arith}
 use borrow.Author.Tests.{eqb-true, eq-eqb}
@@ -15,21 +15,21 @@ use Rattle.figures.specs.Limits.{least-k, greatest-k, greatest-count, head-word
 use Rattle.figures.specs.Numbers.{done}
 use Rattle.figures.specs.Answers.{answered}
 use Rattle.figures.specs.declared.Answer.{Answer}
-use Rattle.section.specs.Entries.{has}
+use Rattle.section.specs.Entries.{Entry, has}
 use Rattle.section.proofs.Counts.{has-counts}
 use Rattle.trees.specs.Trees.{Tree}
 use Rattle.trees.specs.Reading.{orderOf, order}
 use Rattle.trees.specs.Fits.{IsOrder}
 use Rattle.trees.proofs.Fitting.{order-read, read-order, order-fits}
 use Rattle.book.specs.Book.{Book, sectionOf, used, live, lay, inForm}
-use Rattle.book.specs.Decoding.{decode}
+use Rattle.book.specs.Decoding.{bookIn, decode}
 use Rattle.book.specs.Sound.{IsBook}
 use Rattle.book.specs.Taught.{taught, bookOf, agreeing, teachingsIn, sameSection}
 use Rattle.book.specs.Opening.{Outcome, openOf}
 use Rattle.book.specs.declared.Section.the-variants.{Taught}
 use Rattle.book.proofs.Openings.{opened as opening, opened-book as opening-book, opened-used}
-use Rattle.book.proofs.Meaning.{decoded, lay-long}
-use Rattle.book.proofs.Sound.{form-sound, book-decode}
+use Rattle.book.proofs.Meaning.{decoded, laid-read, lay-long}
+use Rattle.book.proofs.Sound.{form-sound, sound-form, book-decode, book-only}
 use Rattle.book.proofs.Heads.{is-sized}
 use Rattle.effects.specs.Calls.{teachOf, withdrawn, withdrawOf}
 use Rattle.effects.proofs.Adds.{live-taught}
@@ -39,9 +39,19 @@ use Rattle.effects.proofs.Conditions.{teach-0, teach-writes, teach-refusal-leav
 use Rattle.effects.proofs.Counted.{taught-uses}
 use Rattle.effects.proofs.Undoing.{undo}
 use Rattle.effects.proofs.Sequences.{teach-agrees, withdraw-agrees}
-use Rattle.promises.specs.Remaining.{Call, teach, withdraw, afterBy, after, without, remainBy, remainingBy, remaining, timesOf, SameOrders, taughtAll, NoneRefused, ExactlyThese, booked}
+use Rattle.effects.proofs.Agreeing.{TaughtOrders, form-orders}
+use Rattle.amend.proofs.Sums.{added}
+use Rattle.sums.specs.Joining.{joined, joinOf}
+use Rattle.sums.proofs.Joined.{joined-adds, joined-live}
+use Rattle.sums.proofs.Joins.{Both, Done, was-joined, done-joins, join-leaves, join-agrees}
+use Rattle.promises.specs.Remaining.{Call, teach, withdraw, join, afterBy, after, ordersIn, without, remainBy, remainingBy, remaining, timesOf, SameOrders, taughtAll, NoneRefused, ExactlyThese, booked}
 use Rattle.promises.proofs.Orders.{Orders, later, one-order-more, without-in, more-within, same-fit, same-book, count-times}
 use Rattle.promises.proofs.Orders.{booked-first, booked-k, booked-sorted, booked-live, booked-uses, counts-taught, counts-tops, counts-lows, counts-middles, booked-form, booked-without}
+use Rattle.promises.proofs.Counted.{onto-orders, booked-onto}
+
+-- The words of a book are read as that book.
+pub read-book : (ws : List ℕ) (b : Book) → IsBook ws b → bookIn ws ≡ b
+read-book ws b i = ap bookIn (sym (i .laid)) ∙ laid-read (length ws) b (sound-form b (i .sound))
 
 -- ---- what calls keep
 
@@ -77,7 +87,7 @@ module _ (slice : List ℕ) (k : ℕ) (long : head-words ≤ length slice) (shor
     kept-met os t o = rw (kept .laid) (written-met slice os (booked k orders) t (is-sized slice long short) kept-form (kept .room) o)
 
     -- They are words of that book.
-    kept-book : IsBook ws (booked k orders)
+    pub kept-book : IsBook ws (booked k orders)
     kept-book = record {
       long = omega (arith, kept-long);
       short = omega (arith, kept-long);
@@ -167,12 +177,55 @@ module _ (slice : List ℕ) (k : ℕ) (long : head-words ≤ length slice) (shor
         by-number false e = unfold if_then_else_ in
             rw (withdraw-refusal-leaves ws os (λ d. no-test (sym e ∙ eq-eqb (withdrawOf ws os .answer .number) done d))) kept
 
+    -- The orders of a book in form, with these, are within limits.
+    pub both-limits : (c : Book) → inForm c ≡ true → Orders (ordersIn (c .T) ++ orders)
+    both-limits c form = onto-orders (c .T) (form-orders c form) orders (kept .limits)
+
+    -- A book that agrees with itself, joined to the book, gives the book of its orders and these.
+    pub both-booked : (b c : Book) (vs : List ℕ) → Both ws vs b c → joined b c ≡ booked k (ordersIn (c .T) ++ orders)
+    both-booked b c vs both =
+        let is : b ≡ booked k orders = book-only ws b (booked k orders) (both .isFirst) kept-book in
+        let depth : c .k ≡ k = sym (both .same) ∙ ap (λ (x : Book). x .k) is ∙ booked-k k orders (kept .limits) in
+        let own : c ≡ bookOf k (teachingsIn (c .T)) = both .grownSecond .is ∙ ap (λ (j : ℕ). bookOf j (teachingsIn (c .T))) depth in
+        joined-adds b c (both .grownFirst) (both .grownSecond) (both .same) ∙ ap₂ added own is
+        ∙ sym (booked-onto k (c .T) (form-orders c (both .grownSecond .form)) orders (kept .limits))
+
+    -- The live teachings of both are as many as these orders.
+    pub both-live : (b c : Book) (vs : List ℕ) → Both ws vs b c → live b + live c ≡ length (ordersIn (c .T) ++ orders)
+    both-live b c vs both =
+        sym (joined-live b c (both .grownFirst) (both .grownSecond) (both .same)) ∙ ap live (both-booked b c vs both)
+        ∙ booked-live k (ordersIn (c .T) ++ orders) (both-limits c (both .grownSecond .form))
+
+    -- A joining that is done keeps the book that of the orders of both.
+    joined-kept : (vs : List ℕ) → Done ws vs → Kept (length slice) k (ordersIn (bookIn vs .T) ++ orders) (joinOf ws vs .words)
+    joined-kept vs d =
+        let c : Book = d .second in
+        let whole : joined (d .first) c ≡ booked k (ordersIn (c .T) ++ orders) = both-booked (d .first) c vs (d .both) in
+        let kept-then : Kept (length slice) k (ordersIn (c .T) ++ orders) (joinOf ws vs .words) = record {
+          limits = both-limits c (d .both .grownSecond .form);
+          few = omega (arith, both-live (d .first) c vs (d .both), d .few);
+          room = omega (arith, d .room, ap used whole, kept-long);
+          laid = words-are (done-joins ws vs d) ∙ ap₂ lay kept-long whole;
+        } in
+        let read : bookIn vs ≡ c = read-book vs c (d .both .isSecond) in
+        rw (ap (λ (b : Book). ordersIn (b .T)) read) kept-then
+
+    -- Joining any words keeps it that of the orders that then remain.
+    join-keeps : (vs : List ℕ) → Kept (length slice) k (remainBy (join vs) (joinOf ws vs .answer .number) orders) (joinOf ws vs .words)
+    join-keeps vs = by-number (eqb (joinOf ws vs .answer .number) done) refl
+      where
+        -- By whether the answer is 0.
+        by-number : (b : Bool) → eqb (joinOf ws vs .answer .number) done ≡ b → Kept (length slice) k (if b then ordersIn (bookIn vs .T) ++ orders else orders) (joinOf ws vs .words)
+        by-number true e = unfold if_then_else_ in joined-kept vs (was-joined ws vs (eqb-true (joinOf ws vs .answer .number) done e))
+        by-number false e = unfold if_then_else_ in rw (join-leaves ws vs (λ d. no-test (sym e ∙ eq-eqb (joinOf ws vs .answer .number) done d))) kept
+
   -- Any calls keep the book that of the orders that then remain.
   calls-keep : (cs : List Call) (orders : List (List ℕ)) (ws : List ℕ) → Kept (length slice) k orders ws → Kept (length slice) k (remaining cs ws orders) (after cs ws)
   unfolding remainingBy afterBy
   calls-keep [] orders ws kept = kept
   calls-keep (teach os ∷ cs) orders ws kept = calls-keep cs _ _ (teach-keeps orders ws kept os)
   calls-keep (withdraw os ∷ cs) orders ws kept = calls-keep cs _ _ (withdraw-keeps orders ws kept os)
+  calls-keep (join vs ∷ cs) orders ws kept = calls-keep cs _ _ (join-keeps orders ws kept vs)
 
 -- ---- orders taught one after the other
 
@@ -230,6 +283,7 @@ unfolding afterBy
 calls-agree [] ws b is a = (b, is, a)
 calls-agree (teach os ∷ cs) ws b is a = let c = teach-agrees ws os b is a in calls-agree cs _ (c .0) (c .1) (c .2)
 calls-agree (withdraw os ∷ cs) ws b is a = let c = withdraw-agrees ws os b is a in calls-agree cs _ (c .0) (c .1) (c .2)
+calls-agree (join vs ∷ cs) ws b is a = let c = join-agrees ws vs b is a in calls-agree cs _ (c .0) (c .1) (c .2)
 
 -- ---- the book after calls
 

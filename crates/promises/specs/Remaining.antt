@@ -2,34 +2,38 @@
 -- definitions.
 use Prim.Native.Nat.{ℕ, suc, _+_, _-_}
 use mathlib.Core.Path.{_≡_}
-use mathlib.Core.List.{List, [], _∷_}
+use mathlib.Core.List.{List, [], _∷_, _++_}
 use lib.Dec.{eqb}
-use lib.ListN.{length}
+use lib.ListN.{length, replicate}
 use Rattle.words.specs.Base.{if_then_else_, sameWords, _∈_}
 use Rattle.figures.specs.Numbers.{done}
 use Rattle.figures.specs.Answers.{answered}
-use Rattle.section.specs.Entries.{countOf}
+use Rattle.section.specs.Entries.{Entry, countOf}
 use Rattle.trees.specs.Trees.{Tree, words}
 use Rattle.trees.specs.Reading.{byFound, treeOf}
 use Rattle.trees.specs.Fits.{IsOrder}
 use Rattle.trees.specs.Paper.{IsR, IsL, IsP}
 use Rattle.book.specs.Book.{Book, live}
+use Rattle.book.specs.Decoding.{bookIn}
 use Rattle.book.specs.Sound.{IsBook}
 use Rattle.book.specs.Taught.{taught, bookOf}
 use Rattle.book.specs.Opening.{Outcome}
 use Rattle.effects.specs.Calls.{teachOf, withdrawOf}
+use Rattle.sums.specs.Joining.{joinOf}
 
 -- ---- calls
 
--- A call on the book, with any words as its order.
+-- A call on the book, with any words as its order, or, in joining, as the other book.
 pub data Call : Type 0 where
   teach : List ℕ → Call
   withdraw : List ℕ → Call
+  join : List ℕ → Call
 
 -- What it answers, and the words then.
 abbrev pub outcomeOf : Call → List ℕ → Outcome
 outcomeOf (teach os) ws = teachOf ws os
 outcomeOf (withdraw os) ws = withdrawOf ws os
+outcomeOf (join vs) ws = joinOf ws vs
 
 -- The words after calls, one after the other, by what answers them.
 unfoldable pub afterBy : (Call → List ℕ → Outcome) → List Call → List ℕ → List ℕ
@@ -42,16 +46,23 @@ after = afterBy outcomeOf
 
 -- ---- the orders that remain
 
+-- The orders that a section T counts, each as often as it counts.
+unfoldable pub ordersIn : List Entry → List (List ℕ)
+ordersIn [] = []
+ordersIn (e ∷ es) = replicate (e .count) (e .key) ++ ordersIn es
+
 -- The orders with one such less.
 unfoldable pub without : List ℕ → List (List ℕ) → List (List ℕ)
 without os [] = []
 without os (p ∷ ps) = if sameWords p os then ps else p ∷ without os ps
 
 -- The orders that remain after a call, by the number that it answers: a teaching that is done is one order more, a withdrawal that is done
--- one such less, and a refused call changes nothing.
+-- one such less, and a joining that is done the orders of the other book more: "demand 3 counts the joined orders as taught". A refused call changes
+-- nothing.
 abbrev pub remainBy : Call → ℕ → List (List ℕ) → List (List ℕ)
 remainBy (teach os) n orders = if eqb n done then os ∷ orders else orders
 remainBy (withdraw os) n orders = if eqb n done then without os orders else orders
+remainBy (join vs) n orders = if eqb n done then ordersIn (bookIn vs .T) ++ orders else orders
 
 -- The orders that remain after calls, each as often as it remains, by what answers them.
 unfoldable pub remainingBy : (Call → List ℕ → Outcome) → List Call → List ℕ → List (List ℕ) → List (List ℕ)

@@ -1,12 +1,12 @@
 -- How a run of calls on one book starts, and the orders that count as taught first (01, "Stored book, version 1"; demand 3). Assumes nothing: these
 -- are definitions.
 use Prim.Native.Nat.{ℕ}
-use mathlib.Core.List.{List, [], _∷_, _++_}
-use lib.ListN.{drop, replicate}
-use Rattle.section.specs.Entries.{Entry}
+use mathlib.Core.List.{List, []}
+use lib.ListN.{drop}
 use Rattle.book.specs.Decoding.{byBook}
 use Rattle.book.specs.Opening.{Outcome, openOf}
 use Rattle.files.specs.Files.{front-bytes, storedIn, readFileOf}
+use Rattle.promises.specs.Remaining.{ordersIn}
 
 -- A run starts with an empty book of some k, or "by reading a file".
 pub data Start : Type 0 where
@@ -17,11 +17,6 @@ pub data Start : Type 0 where
 abbrev pub startedBy : Start → List ℕ → Outcome
 startedBy (opening k) ws = openOf ws k
 startedBy (reading file) ws = readFileOf file ws
-
--- The orders that a section T counts, each as often as it counts.
-unfoldable pub ordersIn : List Entry → List (List ℕ)
-ordersIn [] = []
-ordersIn (e ∷ es) = replicate (e .count) (e .key) ++ ordersIn es
 
 -- "A run that starts by reading a file counts that file's orders as taught first." Asked of a start that is done; none of bytes that hold no book.
 abbrev pub taughtFirst : Start → List (List ℕ)

@@ -1,4 +1,4 @@
--- The rows of 01's table that numbering an order, handing out and writing its parts, asking for a k, opening, checking, and reading and
+-- The rows of 01's table that numbering an order, handing out and writing its parts, asking for a k, opening, checking, joining, and reading and
 -- writing a form or a file can answer, by trees, lines and sizes, apart from the tests of their definitions ("Numbers the desk hears"). Those of a
 -- book's form are in book/specs/Sound.antt, of judging in verdicts/specs/Verdicts.antt, of teaching and withdrawing in effects/specs/Whys.antt.
 -- Assumes nothing: these are definitions.
@@ -7,8 +7,8 @@ use mathlib.Core.Path.{_≡_}
 use mathlib.Core.List.{List, [], _∷_, _++_}
 use lib.ListN.{length, take, drop}
 use Rattle.words.specs.Base.{over}
-use Rattle.figures.specs.Limits.{head-words, most-book-words, least-k, greatest-k}
-use Rattle.figures.specs.Numbers.{done, k-outside, book-size, no-room, not-agreeing, no-form, short-output, no-mark, other-version, no-stored-book}
+use Rattle.figures.specs.Limits.{head-words, most-book-words, least-k, greatest-k, greatest-count}
+use Rattle.figures.specs.Numbers.{done, k-outside, book-size, no-room, too-many, not-agreeing, no-form, short-output, no-mark, other-version, no-stored-book, other-k}
 use Rattle.figures.specs.Answers.{answered, wrote, refusedAt}
 use Rattle.figures.specs.declared.Answer.{Answer}
 use Rattle.figures.specs.declared.depths.Asked.{Asked}
@@ -21,11 +21,12 @@ use Rattle.trees.specs.Answers.{lineOf, Writing, writing, refuse, PartWriting, 
 use Rattle.trees.specs.declared.Kind.the-variants.{Low, Middle}
 use Rattle.form.specs.Text.{textOf}
 use Rattle.form.specs.Faults.{FirstFault}
-use Rattle.book.specs.Book.{Book, used, encode}
+use Rattle.book.specs.Book.{Book, used, live, encode}
 use Rattle.book.specs.Sound.{SoundBook, IsBook, WhyForm}
 use Rattle.book.specs.Taught.{emptyBook}
 use Rattle.book.specs.Opening.{Outcome, leave, writeBook}
 use Rattle.book.specs.declared.BookForm.the-variants.{Refused}
+use Rattle.sums.specs.Joining.{CountsAdded}
 use Rattle.octets.specs.Octets.{bytesOf}
 use Rattle.files.specs.Files.{mark, mark-bytes, version, front-bytes, fileOf}
 use Rattle.promises.specs.Agreement.{Agrees}
@@ -118,6 +119,36 @@ pub data WhyChecked (ws : List ℕ) (a : Answer) : Type 0 where
   disagrees : (b : Book) → a ≡ answered not-agreeing → IsBook ws b → (Agrees b → ⊥) → WhyChecked ws a
   -- 0: it does
   agrees : (b : Book) → a ≡ answered done → IsBook ws b → Agrees b → WhyChecked ws a
+
+-- ---- two books
+
+-- The words of two slices are two books of one k, each of which "agrees with itself".
+pub record TwoBooks (ws vs : List ℕ) (b c : Book) : Type 0 where
+  pub isFirst : IsBook ws b
+  pub isSecond : IsBook vs c
+  pub same : b .k ≡ c .k
+  pub firstAgrees : Agrees b
+  pub secondAgrees : Agrees c
+
+-- Why joining answers and leaves the first book's words as o has them: "Refusals: 4 and 5 on the first book, 4 and 5 on the second, 15 where k differs, 9 on
+-- the first, 9 on the second, 7, 6."
+pub data WhyJoined (ws vs : List ℕ) (o : Outcome) : Type 0 where
+  -- "4 and 5 on the first book", by it alone
+  join-no-first : (n : ℕ) → o ≡ leave ws n → WhyForm ws (Refused n) → WhyJoined ws vs o
+  -- "4 and 5 on the second"
+  join-no-second : (b : Book) (n : ℕ) → o ≡ leave ws n → IsBook ws b → WhyForm vs (Refused n) → WhyJoined ws vs o
+  -- "15 where k differs"
+  k-differs : (b c : Book) → o ≡ leave ws other-k → IsBook ws b → IsBook vs c → (b .k ≡ c .k → ⊥) → WhyJoined ws vs o
+  -- "9 on the first": it does not agree with itself
+  first-disagrees : (b c : Book) → o ≡ leave ws not-agreeing → IsBook ws b → IsBook vs c → b .k ≡ c .k → (Agrees b → ⊥) → WhyJoined ws vs o
+  -- "9 on the second"
+  second-disagrees : (b c : Book) → o ≡ leave ws not-agreeing → IsBook ws b → IsBook vs c → b .k ≡ c .k → Agrees b → (Agrees c → ⊥) → WhyJoined ws vs o
+  -- 7: the live teachings of both together would pass 65,535
+  lives-pass : (b c : Book) → o ≡ leave ws too-many → TwoBooks ws vs b c → greatest-count < live b + live c → WhyJoined ws vs o
+  -- 6: "the result needs more words than the book slice has", the result being the book with the "counts added"
+  sum-no-room : (b c sum : Book) → o ≡ leave ws no-room → TwoBooks ws vs b c → live b + live c ≤ greatest-count → CountsAdded b c sum → length ws < used sum → WhyJoined ws vs o
+  -- 0: "the second stays unchanged and the first becomes the book taught the live orders of both, counts added", in the whole slice
+  joins : (b c sum : Book) → o ≡ writeBook ws sum → TwoBooks ws vs b c → live b + live c ≤ greatest-count → CountsAdded b c sum → used sum ≤ length ws → WhyJoined ws vs o
 
 -- ---- forms
 

@@ -6,9 +6,10 @@
 //   withdraw W W ..   the order of these words is withdrawn from it
 //   ask W W ..        the order of these words is judged by it
 //   agrees            it is checked to agree with itself
+//   join              the other book, with which it changes places by `swap`, is joined to it
 //   show              says every word of it
 // All calls but that of `form` are made through the functions for C (`ofb`). Each call on the kept book says its answer, word 1 of the book and a mark of all
-// the words of its slice.
+// the words of its slice; a joining also says whether the words of the other book are the same as before.
 use crate::kinds;
 use book::BookForm;
 use book::Places;
@@ -102,18 +103,19 @@ pub fn show(given: &[u16], held: &[u16]) {
     say::slice(kept::all(held));
 }
 
-// Makes a call on a book, by its kind: one of the four.
-fn made(kind: u64, order: &[u16], book: &mut [u16]) -> OfbAnswer {
+// Makes a call on a book, by its kind, one of the five, and what it is given: an order, or the words of the book that is joined.
+fn made(kind: u64, given: &[u16], book: &mut [u16]) -> OfbAnswer {
     match kind {
-        kinds::TEACH => ofb::ofb_teach(book, order),
-        kinds::WITHDRAW => ofb::ofb_withdraw(book, order),
-        kinds::ASK => ofb::ofb_judge(book, order),
+        kinds::TEACH => ofb::ofb_teach(book, given),
+        kinds::WITHDRAW => ofb::ofb_withdraw(book, given),
+        kinds::ASK => ofb::ofb_judge(book, given),
+        kinds::JOIN => ofb::ofb_join(book, given),
         _ => ofb::ofb_check(book),
     }
 }
 
-// Makes a call on the kept book, by its kind and the order that it is given, and says what it answered and how the book stands then.
-fn on_kept(kind: u64, order: &[u16], held: &mut [u16]) {
+// Makes a call on the kept book, by its kind and what it is given, and says what it answered and how the book stands then.
+fn on_kept(kind: u64, given: &[u16], held: &mut [u16]) {
     if held.len() == 0 {
         return;
     }
@@ -121,7 +123,7 @@ fn on_kept(kind: u64, order: &[u16], held: &mut [u16]) {
     if held.len() < end {
         return;
     }
-    let answer = made(kind, order, &mut held[1..end]);
+    let answer = made(kind, given, &mut held[1..end]);
     say::heard(answer.number, answer.line as usize);
     say::text(b", ");
     state(kept::all(held));
@@ -136,4 +138,17 @@ pub fn call(kind: u64, given: &[u16], held: &mut [u16]) {
         }
     }
     on_kept(kind, given, held);
+}
+
+// Runs a case of `join`, and says whether the words of the other book are the same as before, by their mark.
+pub fn join(given: &[u16], held: &mut [u16], other: &[u16]) {
+    if given.len() != 0 {
+        say::not_understood();
+        return;
+    }
+    let before = mark::of(kept::all(other));
+    on_kept(kinds::JOIN, kept::all(other), held);
+    let after = mark::of(kept::all(other));
+    say::text(b", the other ");
+    say::came_back(after == before);
 }

@@ -28,6 +28,7 @@ fn with_words(kind: u64, given: &[u16], book: &mut [u16], other: &mut [u16], fil
             given,
             book,
         ),
+        kinds::JOIN => books::join(given, book, other),
         kinds::FILE => stored::lay(given, 0, file),
         kinds::MORE => stored::more(given, file),
         kinds::PUT => stored::put(given, file),

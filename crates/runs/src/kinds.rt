@@ -37,6 +37,8 @@ pub const ASK: u64 = 1_19_11;
 
 pub const AGREES: u64 = 1_07_18_05_05_19;
 
+pub const JOIN: u64 = 10_15_09_14;
+
 // Of stored books, and of two books: see `stored`.
 pub const FILE: u64 = 6_09_12_05;
 

@@ -66,10 +66,42 @@ pub data JoinCase (ws vs : List ℕ) : Type 0 where
   crowded : (b c : Book) → Both ws vs b c → live b + live c ≤ greatest-count → length ws < used (joined b c) → joinOf ws vs ≡ leave ws no-room → JoinCase ws vs
   joins : (b c : Book) → Both ws vs b c → live b + live c ≤ greatest-count → used (joined b c) ≤ length ws → joinOf ws vs ≡ writeBook ws (joined b c) → JoinCase ws vs
 
--- Joining two books in form is by both.
-pub by-both : (ws vs : List ℕ) (b c : Book) → IsBook ws b → IsBook vs c → joinOf ws vs ≡ joinBooks ws b c
-unfolding joinOf
-by-both ws vs b c i j = on-any ws b i (leave ws) (λ d. onBook (leave ws) vs (joinBooks ws d)) ∙ on-any vs c j (leave ws) (joinBooks ws b)
+module _ (ws vs : List ℕ) where
+  -- 4 and 5 on the first
+  pub first-unjoined : (n : ℕ) → bookFormOf ws ≡ Refused n → joinOf ws vs ≡ leave ws n
+  unfolding joinOf
+  first-unjoined n e = refused-book ws n e (leave ws) (λ b. onBook (leave ws) vs (joinBooks ws b))
+
+  -- 4 and 5 on the second
+  pub second-unjoined : (b : Book) → IsBook ws b → (n : ℕ) → bookFormOf vs ≡ Refused n → joinOf ws vs ≡ leave ws n
+  unfolding joinOf
+  second-unjoined b i n e = on-any ws b i (leave ws) (λ d. onBook (leave ws) vs (joinBooks ws d)) ∙ refused-book vs n e (leave ws) (joinBooks ws b)
+
+  module _ (b c : Book) (i : IsBook ws b) (j : IsBook vs c) where
+    -- Joining two books in form is by both.
+    by-both : joinOf ws vs ≡ joinBooks ws b c
+    unfolding joinOf
+    by-both = on-any ws b i (leave ws) (λ d. onBook (leave ws) vs (joinBooks ws d)) ∙ on-any vs c j (leave ws) (joinBooks ws b)
+
+    -- 15
+    pub k-unjoined : (b .k ≡ c .k → ⊥) → joinOf ws vs ≡ leave ws other-k
+    k-unjoined x = by-both ∙ go (eqb (b .k) (c .k)) refl
+      where
+        -- By the test of k.
+        go : (p : Bool) → eqb (b .k) (c .k) ≡ p → joinBooks ws b c ≡ leave ws other-k
+        go true e = absurd (x (eqb-true (b .k) (c .k) e))
+        go false e = unfold joinBooks if_then_else_ in rw e
+
+    module _ (same : b .k ≡ c .k) where
+      -- 9 on the first
+      pub first-unagreed : agreeing b ≡ false → joinOf ws vs ≡ leave ws not-agreeing
+      unfolding joinBooks if_then_else_
+      first-unagreed y = by-both ∙ rw (eq-eqb (b .k) (c .k) same, y)
+
+      -- 9 on the second
+      pub second-unagreed : agreeing b ≡ true → agreeing c ≡ false → joinOf ws vs ≡ leave ws not-agreeing
+      unfolding joinBooks if_then_else_
+      second-unagreed y z = by-both ∙ rw (eq-eqb (b .k) (c .k) same, y, z)
 
 module _ (ws vs : List ℕ) (b c : Book) (both : Both ws vs b c) where
   -- What both ask is met.
@@ -115,9 +147,9 @@ join-case ws vs = go (slice ws) (slice vs)
 
     -- Two books in form.
     by : (b c : Book) → IsBook ws b → IsBook vs c → (p : Bool) → eqb (b .k) (c .k) ≡ p → (q : Bool) → agreeing b ≡ q → (r : Bool) → agreeing c ≡ r → JoinCase ws vs
-    by b c i j false x q y r z = differing b c i j (λ e. no-test (sym x ∙ eq-eqb (b .k) (c .k) e)) (by-both ws vs b c i j ∙ unfold joinBooks if_then_else_ in rw x)
-    by b c i j true x false y r z = first-against b c i j (eqb-true (b .k) (c .k) x) y (by-both ws vs b c i j ∙ unfold joinBooks if_then_else_ in rw (x, y))
-    by b c i j true x true y false z = second-against b c i j (eqb-true (b .k) (c .k) x) y z (by-both ws vs b c i j ∙ unfold joinBooks if_then_else_ in rw (x, y, z))
+    by b c i j false x q y r z = let h : b .k ≡ c .k → ⊥ = λ e. no-test (sym x ∙ eq-eqb (b .k) (c .k) e) in differing b c i j h (k-unjoined ws vs b c i j h)
+    by b c i j true x false y r z = let s = eqb-true (b .k) (c .k) x in first-against b c i j s y (first-unagreed ws vs b c i j s y)
+    by b c i j true x true y false z = let s = eqb-true (b .k) (c .k) x in second-against b c i j s y z (second-unagreed ws vs b c i j s y z)
     by b c i j true x true y true z =
         sums b c (record {
           isFirst = i;
@@ -129,9 +161,8 @@ join-case ws vs = go (slice ws) (slice vs)
 
     -- By the two slices.
     go : Slice ws → Slice vs → JoinCase ws vs
-    go (refused n h w) s = first-refused n h w (unfold joinOf in refused-book ws n (why-only ws (Refused n) w) (leave ws) _)
-    go (held b i) (refused n h w) =
-        second-refused b n h i w (unfold joinOf in on-any ws b i (leave ws) _ ∙ refused-book vs n (why-only vs (Refused n) w) (leave ws) (joinBooks ws b))
+    go (refused n h w) s = first-refused n h w (first-unjoined ws vs n (why-only ws (Refused n) w))
+    go (held b i) (refused n h w) = second-refused b n h i w (second-unjoined ws vs b i n (why-only vs (Refused n) w))
     go (held b i) (held c j) = by b c i j (eqb (b .k) (c .k)) refl (agreeing b) refl (agreeing c) refl
 
 -- ---- done, or left
@@ -181,6 +212,25 @@ join-leaves ws vs not-0 = go (join-case ws vs)
     go (passing b c both h r) = words-are r
     go (crowded b c both few h r) = words-are r
     go (joins b c both few room r) = absurd (not-0 (number-is r))
+
+-- The line is 0.
+pub join-line : (ws vs : List ℕ) → joinOf ws vs .answer .line ≡ 0
+join-line ws vs = go (join-case ws vs)
+  where
+    -- What is known has its line.
+    line-is : {o : Outcome} → joinOf ws vs ≡ o → joinOf ws vs .answer .line ≡ o .answer .line
+    line-is e = ap (λ (o : Outcome). o .answer .line) e
+
+    -- By the case.
+    go : JoinCase ws vs → joinOf ws vs .answer .line ≡ 0
+    go (first-refused n h w r) = line-is r
+    go (second-refused b n h i w r) = line-is r
+    go (differing b c i j h r) = line-is r
+    go (first-against b c i j s a r) = line-is r
+    go (second-against b c i j s a d r) = line-is r
+    go (passing b c both h r) = line-is r
+    go (crowded b c both few h r) = line-is r
+    go (joins b c both few room r) = line-is r
 
 -- What a join that is done leaves is the joined book.
 pub joined-book : (ws vs : List ℕ) (d : Done ws vs) → IsBook (joinOf ws vs .words) (joined (d .first) (d .second))

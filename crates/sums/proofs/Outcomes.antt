@@ -4,9 +4,9 @@ use mathlib.Core.Path.{_≡_, refl, sym, ap, ap₂, _∙_}
 use mathlib.Core.Bool.{Bool, true, false, not}
 use mathlib.Core.List.{List}
 use native.Mathlib.Omega.{arith}
-use lib.Dec.{leb, eqb}
+use lib.Dec.{leb}
 use lib.ListN.{length, getD}
-use borrow.Author.Tests.{leb-true, eq-eqb, eqb-true}
+use borrow.Author.Tests.{leb-true}
 use Rattle.words.specs.Base.{if_then_else_}
 use Rattle.words.proofs.Tests.{no-test}
 use Rattle.figures.specs.Limits.{greatest-count}
@@ -14,23 +14,22 @@ use Rattle.figures.specs.Numbers.{done, no-room, too-many, not-agreeing, other-
 use Rattle.figures.specs.Answers.{answered}
 use Rattle.figures.specs.declared.Answer.{Answer}
 use Rattle.book.specs.Book.{Book, used, live, lay}
-use Rattle.book.specs.Decoding.{bookIn, onBook, bookFormOf}
+use Rattle.book.specs.Decoding.{bookIn, bookFormOf}
 use Rattle.book.specs.Holding.{Holds}
 use Rattle.book.specs.Taught.{agreeing}
 use Rattle.book.specs.Checking.{checkOf}
-use Rattle.book.specs.Opening.{Outcome, outcome, leave}
+use Rattle.book.specs.Opening.{outcome, leave}
 use Rattle.book.specs.declared.Places.{Places}
 use Rattle.book.specs.declared.BookForm.the-variants.{Refused}
-use Rattle.book.proofs.Holding.{refused-book}
-use Rattle.book.proofs.Sound.{form-sound, held-book, on-any}
+use Rattle.book.proofs.Sound.{form-sound, held-book}
 use Rattle.book.proofs.Checking.{check-held}
 use Rattle.amend.specs.Counts.{withinCounts}
 use Rattle.amend.specs.Changing.{changedBook}
 use Rattle.amend.specs.declared.Change.the-variants.{Teach}
 use Rattle.amend.proofs.Sections.{live-laid}
-use Rattle.sums.specs.Joining.{joined, joinBooks, joinOf}
+use Rattle.sums.specs.Joining.{joined, joinOf}
 use Rattle.sums.proofs.Joined.{grown, joined-adds, joined-within}
-use Rattle.sums.proofs.Joins.{Both, by-both, join-passes, join-crowded, join-does}
+use Rattle.sums.proofs.Joins.{Both, second-unjoined, k-unjoined, first-unagreed, second-unagreed, join-passes, join-crowded, join-does}
 
 -- A test fails whose contrary passes.
 fails : (r : Bool) → not r ≡ true → r ≡ false
@@ -42,16 +41,9 @@ passes : (r : Bool) → not r ≡ false → r ≡ true
 passes true e = refl
 passes false e = no-test (sym e)
 
--- A first slice that is no book in form is answered by 4 or 5.
-pub first-unheld : (ws vs : List ℕ) (n : ℕ) → bookFormOf ws ≡ Refused n → leave ws n ≡ joinOf ws vs
-unfolding joinOf
-first-unheld ws vs n e = sym (refused-book ws n e (leave ws) (λ b. onBook (leave ws) vs (joinBooks ws b)))
-
--- Then a second that is none.
+-- A second slice that is no book in form is answered by 4 or 5, where the first is one.
 pub second-unheld : (ws vs : List ℕ) (p : Places) → Holds ws p → (n : ℕ) → bookFormOf vs ≡ Refused n → leave ws n ≡ joinOf ws vs
-unfolding joinOf
-second-unheld ws vs p h n e =
-    sym (on-any ws (bookIn ws) (held-book ws p h) (leave ws) (λ b. onBook (leave ws) vs (joinBooks ws b)) ∙ refused-book vs n e (leave ws) (joinBooks ws (bookIn ws)))
+second-unheld ws vs p h n e = sym (second-unjoined ws vs (bookIn ws) (held-book ws p h) n e)
 
 -- ---- checked
 
@@ -81,22 +73,14 @@ module _ (ws : List ℕ) (p : Places) (h : Holds ws p) (n : ℕ) (e : n ≡ chec
 -- ---- two books in form
 
 module _ (ws vs : List ℕ) (p q : Places) (h : Holds ws p) (g : Holds vs q) where
-  -- Joining is by the two books.
-  both-held : joinOf ws vs ≡ joinBooks ws (bookIn ws) (bookIn vs)
-  both-held = by-both ws vs (bookIn ws) (bookIn vs) (held-book ws p h) (held-book vs q g)
-
   -- The second's live teachings are at most 65,535.
   pub second-few : getD vs 2 0 ≤ greatest-count
   second-few = omega (arith, live-laid vs (bookIn vs) (g .laid), form-sound (bookIn vs) (g .form) .few)
 
   -- Where the words for k differ, joining answers 15.
   pub k-differs : (getD ws 0 0 ≡ getD vs 0 0 → ⊥) → leave ws other-k ≡ joinOf ws vs
-  k-differs e = sym (both-held ∙ go (eqb (bookIn ws .k) (bookIn vs .k)) refl)
-    where
-      -- By the test.
-      go : (b : Bool) → eqb (bookIn ws .k) (bookIn vs .k) ≡ b → joinBooks ws (bookIn ws) (bookIn vs) ≡ leave ws other-k
-      go true x = absurd (e (unfold bookIn in eqb-true (bookIn ws .k) (bookIn vs .k) x))
-      go false x = unfold joinBooks if_then_else_ in rw x
+  unfolding bookIn
+  k-differs x = sym (k-unjoined ws vs (bookIn ws) (bookIn vs) (held-book ws p h) (held-book vs q g) x)
 
   module _ (same : getD ws 0 0 ≡ getD vs 0 0) where
     -- The books have one k.
@@ -104,25 +88,18 @@ module _ (ws vs : List ℕ) (p q : Places) (h : Holds ws p) (g : Holds vs q) whe
     unfolding bookIn
     k-is = same
 
-    -- The test of k passes.
-    k-test : eqb (bookIn ws .k) (bookIn vs .k) ≡ true
-    k-test = eq-eqb (bookIn ws .k) (bookIn vs .k) k-is
-
     -- Where the first does not agree with itself, joining answers 9.
     pub first-disagrees : (n : ℕ) → n ≡ checkOf ws .number → (n ≡ done → ⊥) → leave ws n ≡ joinOf ws vs
     first-disagrees n e z =
         let u = unchecked ws p h n e z in
-        let t : joinBooks ws (bookIn ws) (bookIn vs) ≡ leave ws not-agreeing = unfold joinBooks if_then_else_ in rw (k-test, u .0) in
-        ap (leave ws) (u .1) ∙ sym (both-held ∙ t)
+        ap (leave ws) (u .1) ∙ sym (first-unagreed ws vs (bookIn ws) (bookIn vs) (held-book ws p h) (held-book vs q g) k-is (u .0))
 
     module _ (m : ℕ) (me : m ≡ checkOf ws .number) (mz : m ≡ done) where
       -- Where the second does not, joining answers 9.
       pub second-disagrees : (n : ℕ) → n ≡ checkOf vs .number → (n ≡ done → ⊥) → leave ws n ≡ joinOf ws vs
       second-disagrees n e z =
           let u = unchecked vs q g n e z in
-          let a = checked ws p h m me mz in
-          let t : joinBooks ws (bookIn ws) (bookIn vs) ≡ leave ws not-agreeing = unfold joinBooks if_then_else_ in rw (k-test, a, u .0) in
-          ap (leave ws) (u .1) ∙ sym (both-held ∙ t)
+          ap (leave ws) (u .1) ∙ sym (second-unagreed ws vs (bookIn ws) (bookIn vs) (held-book ws p h) (held-book vs q g) k-is (checked ws p h m me mz) (u .0))
 
       -- Where both do, it is known of both.
       pub both-agree : (n : ℕ) → n ≡ checkOf vs .number → n ≡ done → Both ws vs (bookIn ws) (bookIn vs)

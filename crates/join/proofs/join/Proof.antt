@@ -3,7 +3,8 @@ use mathlib.Core.Path.{sym, _∙_}
 use borrow.Author.Needs.{needs}
 use Rattle.book.proofs.Holding.{holds}
 use Rattle.effects.proofs.Outcomes.{told}
-use Rattle.sums.proofs.Outcomes.{first-unheld, second-unheld}
+use Rattle.sums.proofs.Joins.{first-unjoined}
+use Rattle.sums.proofs.Outcomes.{second-unheld}
 use Rattle.join.proofs.join.Statement.{statement}
 use Rattle.join.proofs.join.Tie as tie
 
@@ -41,7 +42,7 @@ same-length : tie.Need-same-length
 same-length c = search needs
 
 returns : tie.Need-returns
-returns c = told _ _ _ (c .answered .ensures) ∙ first-unheld _ _ _ (sym (c .before .before .before .before .in-form .ensures) ∙ c .before .before .number .given .1)
+returns c = told _ _ _ (c .answered .ensures) ∙ sym (first-unjoined _ _ _ (sym (c .before .before .before .before .in-form .ensures) ∙ c .before .before .number .given .1))
 
 same-length-2 : tie.Need-same-length-2
 same-length-2 c = search needs
