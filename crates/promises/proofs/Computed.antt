@@ -18,6 +18,7 @@ use Rattle.book.specs.Opening.{openOf}
 use Rattle.verdicts.specs.Judging.{knows, knowsEach, toFix, leastToFix, verdictOn, verdict, judgeOf}
 use Rattle.amend.specs.Counts.{withinCounts}
 use Rattle.effects.specs.Calls.{onOrder, teachTree, teachOf, lowerEach, withdrawn, hasEach, hasParts, withdrawTree, withdrawOf}
+use Rattle.sums.specs.Joining.{joined, joinBooks, joinOf}
 use Rattle.book.specs.Checking.{checkOf}
 use Rattle.form.specs.Text.{linesOf, levelText, codeText, lineText, spell, textOf}
 use Rattle.reply.specs.Replies.{lastDigits, withoutZeros, decimal, field, reply}
@@ -30,7 +31,7 @@ unfolding _and_ if_then_else_ sameWords keep compareOf before count words depth 
     byFound only treeOf byOrder withinDepth orderOf top isLow lows middle isMiddle middles sameTree eachOnce lowParts middleParts fitsOf sectionWords
     entries span has total add lower fitting sectionOf body used live encode lay entryInForm ascendingFrom sectionInForm inForm topsAt lowsAt
     middlesAt bookIn formed decode byBook sized onBook addEach taught bookOf teachingsIn sameSection agreeing openOf onOrder withinCounts teachTree
-    teachOf lowerEach withdrawn hasEach hasParts withdrawTree withdrawOf computed heard knows knowsEach below toFix leastToFix verdictOn verdict judgeOf
+    teachOf lowerEach withdrawn hasEach hasParts withdrawTree withdrawOf joined joinBooks joinOf computed heard knows knowsEach below toFix leastToFix verdictOn verdict judgeOf
     write isDigit value isCode codeBehind speltOf byLine allowed siblings lineOf byForm readLines formOf children wordsOf readOf checkOf
 computes = 0
 

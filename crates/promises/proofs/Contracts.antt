@@ -24,6 +24,7 @@ use Rattle.book.specs.Decoding.{bookFormOf}
 use Rattle.book.specs.Opening.{outcome, openOf}
 use Rattle.verdicts.specs.Judging.{judgeOf}
 use Rattle.effects.specs.Calls.{teachOf, withdrawOf}
+use Rattle.sums.specs.Joining.{joinOf}
 use Rattle.book.specs.Checking.{checkOf as agreesOf}
 use Rattle.files.specs.Files.{writeFileOf, readFileOf}
 use Rattle.sheet.specs.Sheets.{letterByte, openingOf}
@@ -39,6 +40,7 @@ use Rattle.book.proofs.open as book-open
 use Rattle.judge.proofs.judge
 use Rattle.teach.proofs.teach
 use Rattle.teach.proofs.withdraw
+use Rattle.join.proofs.join
 use Rattle.agree.proofs.check as agree-check
 use Rattle.store.proofs.write as store-write
 use Rattle.store.proofs.read as store-read
@@ -68,6 +70,8 @@ use Rattle.teach.proofs.teach.Statement as teach-statement
 use Rattle.teach.proofs.teach.Met as teach-met
 use Rattle.teach.proofs.withdraw.Statement as withdraw-statement
 use Rattle.teach.proofs.withdraw.Met as withdraw-met
+use Rattle.join.proofs.join.Statement as join-statement
+use Rattle.join.proofs.join.Met as join-met
 use Rattle.agree.proofs.check.Statement as agree-check-statement
 use Rattle.agree.proofs.check.Met as agree-check-met
 use Rattle.store.proofs.write.Statement as store-write-statement
@@ -144,6 +148,10 @@ module _ {M : Type 1} where
   -- `teach::withdraw`
   pub withdraw-meets : withdraw-statement.statement M
   withdraw-meets = withdraw-met.met
+
+  -- `join::join`
+  pub join-meets : join-statement.statement M
+  join-meets = join-met.met
 
   -- `agree::check`
   pub check-meets : agree-check-statement.statement M
@@ -254,6 +262,11 @@ module _ {M : Type 1} (𝓤 : URA.URA M) (H : Wp.Heap 𝓤) (A : Atoms.Atoms �
   pub withdraw-says : (κs args g r : _) → let c = withdraw.spec 𝓤 H A mem run κs args in
       (c .ghost ≡ Unit {0}) × (c .requires g ≡ ⊤ₛ) × (c .ensures g r ≡ exits 𝓤 H A withdraw.signature (withdraw.ended .kept) κs args (λ end. ⌜ outcome r (now (end .0)) ≡ withdrawOf (now (args .0)) (now (args .1 .0)) ⌝))
   withdraw-says κs args g r = (refl, refl, refl)
+
+  -- `join::join`
+  pub join-says : (κs args g r : _) → let c = join.spec 𝓤 H A mem run κs args in
+      (c .ghost ≡ Unit {0}) × (c .requires g ≡ ⊤ₛ) × (c .ensures g r ≡ exits 𝓤 H A join.signature (join.ended .kept) κs args (λ end. ⌜ outcome r (now (end .0)) ≡ joinOf (now (args .0)) (now (args .1 .0)) ⌝))
+  join-says κs args g r = (refl, refl, refl)
 
   -- `agree::check`
   pub check-says : (κs args g r : _) → let c = agree-check.spec 𝓤 H A mem run κs args in

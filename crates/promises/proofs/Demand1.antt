@@ -38,6 +38,8 @@ use Rattle.effects.specs.Calls.{teachOf, withdrawOf}
 use Rattle.effects.specs.Whys.{WhyTaught, WhyWithdrawn}
 use Rattle.effects.proofs.Whys.{teach-why, teach-only, withdraw-why, withdraw-only}
 use Rattle.effects.proofs.Conditions.{teach-refusal-leaves, withdraw-refusal-leaves, teach-line, withdraw-line}
+use Rattle.sums.specs.Joining.{joinOf}
+use Rattle.sums.proofs.Joins.{join-line, join-leaves as join-refusal-leaves}
 use Rattle.book.specs.Checking.{checkOf as agreesOf}
 use Rattle.files.specs.Files.{writeFileOf, readFileOf}
 use Rattle.ofb.proofs.Figures.{open-line, check-line as agrees-line, print-line, filed-line, restored-line}
@@ -53,10 +55,11 @@ use Rattle.calls.specs.Steps.{Stepping, stepping, idle, begunBy, beginOf, stepO
 use Rattle.calls.specs.declared.Printed.{Printed}
 use Rattle.calls.proofs.Runs.{begin-behind, step-behind}
 use Rattle.calls.proofs.Steps.{begin-short, step-short, step-other}
-use Rattle.promises.specs.Whys.{WhyNumbered, WhySubtree, WhyCut, WhyPart, WhyDepth, WhyOpened, WhyChecked, WhyPrinted, WhyRead, WhyFiled, WhyRestored}
+use Rattle.promises.specs.Whys.{WhyNumbered, WhySubtree, WhyCut, WhyPart, WhyDepth, WhyOpened, WhyChecked, WhyJoined, WhyPrinted, WhyRead, WhyFiled, WhyRestored}
 use Rattle.promises.proofs.Whys.{depth-why, depth-only, opened-why, opened-only, printed-why, printed-only, read-why, read-only}
 use Rattle.promises.proofs.PartWhys.{numbered-why, numbered-only, subtree-why, subtree-only, cut-why, cut-only, part-why, part-only}
 use Rattle.promises.proofs.Checks.{checked-why, checked-only}
+use Rattle.promises.proofs.Joining.{joined-why, joined-only}
 use Rattle.promises.proofs.FileWhys.{filed-why, filed-only, restored-why, restored-only}
 use Rattle.promises.proofs.LineNumbers.{check-line, cut-line, part-line, judge-line, read-line}
 use Rattle.promises.proofs.Refusals.{read-refusal-leaves, print-refusal-leaves, cut-refusal-leaves, part-refusal-leaves, open-refusal-leaves}
@@ -134,6 +137,16 @@ module _ (ws os text file out : List ℕ) (k line d : ℕ) where
   -- "Three faults are looked for before anything is printed, in this order": those of what is handed in at the desk, `text`.
   pub opening-rows : Exactly (WhyFront text) (openingOf text)
   opening-rows = (opening-why text, opening-only text)
+
+-- The rows of 02 for joining.
+module _ (ws vs : List ℕ) where
+  -- "Refusals: 4 and 5 on the first book, 4 and 5 on the second, 15 where k differs, 9 on the first, 9 on the second, 7, 6."
+  pub join-rows : Exactly (WhyJoined ws vs) (joinOf ws vs)
+  join-rows = (joined-why ws vs, joined-only ws vs)
+
+  -- `join::join`: the line is 0.
+  pub join-no-line : joinOf ws vs .answer .line ≡ 0
+  join-no-line = join-line ws vs
 
 -- "Cut(t, d) keeps the nodes of depth at most d", at every d: it is document 000's r of index d+1.
 pub cut-keeps : (t : Tree) (d : ℕ) → IsR (suc d) t (cut t d)
@@ -256,6 +269,10 @@ module _ (ws os text file out : List ℕ) (k line d : ℕ) where
   pub one-withdrawal : {r s : Answer} {u v : List ℕ} → outcome r u ≡ withdrawOf ws os → outcome s v ≡ withdrawOf ws os → (r ≡ s) × (u ≡ v)
   one-withdrawal = two-outcomes
 
+  -- `join::join`
+  pub one-joining : (vs : List ℕ) {r s : Answer} {u v : List ℕ} → outcome r u ≡ joinOf ws vs → outcome s v ≡ joinOf ws vs → (r ≡ s) × (u ≡ v)
+  one-joining vs = two-outcomes
+
   -- `agree::check`
   pub one-agreement : {r s : Answer} → r ≡ agreesOf ws → s ≡ agreesOf ws → r ≡ s
   one-agreement = same
@@ -303,6 +320,10 @@ module _ (ws os text file out : List ℕ) (k line d : ℕ) where
   -- `teach::withdraw`
   pub withdraw-leaves : (withdrawOf ws os .answer .number ≡ done → ⊥) → withdrawOf ws os .words ≡ ws
   withdraw-leaves = withdraw-refusal-leaves ws os
+
+  -- `join::join`
+  pub join-leaves : (vs : List ℕ) → (joinOf ws vs .answer .number ≡ done → ⊥) → joinOf ws vs .words ≡ ws
+  join-leaves vs = join-refusal-leaves ws vs
 
   -- `scan::read`
   pub read-leaves : (readOf text out .answer .number ≡ done → ⊥) → (readOf text out .out ≡ out) × (readOf text out .answer .count ≡ 0)

@@ -1,12 +1,15 @@
 -- Demand 3: "Open an empty book of an allowed k and size, then teach and withdraw in any sequence, refused calls included. Its parts and counts are
 -- exactly those of the orders that remain. In every word it is the book you get by teaching just the remaining orders, each as often as it remains,
--- in whichever order, and none of those teachings is refused." And 01: "A run that starts by reading a file counts that file's orders as taught first."
+-- in whichever order, and none of those teachings is refused." And 01: "A run that starts by reading a file counts that file's orders as taught first." And
+-- 02, of joining: "From then on demand 3 counts the joined orders as taught."
 --
--- A run starts with an opened book or a file that is read (`Start`, specs/Starts.antt). A call has any words as its order; `after` is the slice after a
--- list of calls, and `remaining` the orders that remain of those taught first and of the calls by the calls' own answers (specs/Remaining.antt). Assumes nothing.
+-- A run starts with an opened book or a file that is read (`Start`, specs/Starts.antt). A call teaches, withdraws or joins, with any words as its order or as
+-- the other book; `after` is the slice after a list of calls, and `remaining` the orders that remain of those taught first and of the calls by the calls' own
+-- answers, those of a book that was joined among them (specs/Remaining.antt). What joining does to any two books, and to three, stands at the end. Assumes
+-- nothing.
 use Prim.Native.Nat.{ℕ, _≤_, _<_}
 use mathlib.Core.Path.{_≡_, refl, ap}
-use mathlib.Core.List.{List, [], _∷_}
+use mathlib.Core.List.{List, [], _∷_, _++_}
 use lib.ListN.{length}
 use Rattle.words.specs.Base.{_∈_}
 use Rattle.figures.specs.Limits.{head-words, most-book-words, least-k, greatest-k, greatest-count}
@@ -18,20 +21,26 @@ use Rattle.trees.specs.Trees.{Tree}
 use Rattle.trees.specs.Fits.{IsOrder}
 use Rattle.trees.specs.Answers.{write}
 use Rattle.book.specs.Book.{Book, used}
+use Rattle.book.specs.Sound.{IsBook}
 use Rattle.book.specs.Opening.{outcome, openOf}
 use Rattle.verdicts.specs.Judging.{judgeOf}
 use Rattle.effects.specs.Calls.{teachOf, withdrawOf}
 use Rattle.effects.specs.Conditions.{_exactly-when_}
+use Rattle.sums.specs.Joining.{CountsAdded, joinOf}
+use Rattle.sums.proofs.Joins.{either-way, regrouped, regrouped-back, join-empty}
 use Rattle.book.specs.Checking.{checkOf}
 use Rattle.files.specs.Files.{fileOf, writeFileOf, readFileOf}
-use Rattle.promises.specs.Remaining.{Call, afterBy, after, remainingBy, remaining, timesOf, SameOrders, taughtAll, NoneRefused, booked, ExactlyThese, MadeOf}
+use Rattle.promises.specs.Remaining.{Call, afterBy, after, ordersIn, remainingBy, remaining, timesOf, SameOrders, taughtAll, NoneRefused, booked, ExactlyThese, MadeOf}
 use Rattle.promises.specs.Starts.{Start, opening, reading, startedBy, taughtFirst, startK}
+use Rattle.promises.specs.Agreement.{Agrees}
 use Rattle.promises.specs.Whys.{IsFile}
 use Rattle.promises.proofs.Remaining.{after-kept, after-long, holds-exactly, taught-alone}
 use Rattle.promises.proofs.Starting.{opens, begins, first-k}
 use Rattle.promises.proofs.GoingOn.{first-counts, stores, goes-back, same-k, same-first}
 use Rattle.promises.proofs.Passing.{passes-made, among-passes}
-use Rattle.promises.proofs.Conditions.{teaching-7, teaching-6, teaching-0, withdrawing-8, withdrawing-0}
+use Rattle.promises.proofs.Conditions.{teaching-7, teaching-6, teaching-0, withdrawing-8, withdrawing-0, joining-7, joining-6, joining-0}
+use Rattle.promises.proofs.Agreement.{sound-agreeing}
+use Rattle.promises.proofs.Joining.{leaves-sum, joins-as-taught}
 use Rattle.promises.proofs.Checks.{grown-agrees}
 use Rattle.promises.proofs.Demand2.{passing-line}
 
@@ -47,7 +56,7 @@ module _ (start : Start) (slice : List ℕ) (started : startedBy start slice .an
   abbrev pub k : ℕ
   k = startK start
 
-  -- "then teach and withdraw in any sequence, refused calls included".
+  -- "then teach and withdraw in any sequence, refused calls included", and join other books.
   module _ (cs : List Call) where
     -- The slice then.
     abbrev pub book : List ℕ
@@ -109,6 +118,23 @@ module _ (start : Start) (slice : List ℕ) (started : startedBy start slice .an
     pub withdrawn-exactly : (os : List ℕ) (t : Tree) → IsOrder os t → (withdrawOf book os .answer .number ≡ done) exactly-when (1 ≤ timesOf os orders)
     withdrawn-exactly = withdrawing-0 slice k (taughtFirst start) (startedBy start slice .words) (begins start slice started) cs
 
+    -- A book of this k that agrees with itself is refused in joining by 7 exactly if more than 65,535 orders remain with its own,
+    pub joined-by-7 : (vs : List ℕ) (c : Book) → IsBook vs c → Agrees c → c .k ≡ k
+        → (joinOf book vs .answer .number ≡ too-many) exactly-when (greatest-count < length (ordersIn (c .T) ++ orders))
+    joined-by-7 = joining-7 slice k (taughtFirst start) (startedBy start slice .words) (begins start slice started) cs
+
+    -- by 6 exactly if no more remain and the book of all these orders needs more words than the slice has,
+    pub joined-by-6 : (vs : List ℕ) (c : Book) → IsBook vs c → Agrees c → c .k ≡ k
+        → (joinOf book vs .answer .number ≡ no-room) exactly-when
+        ((length (ordersIn (c .T) ++ orders) ≤ greatest-count) × (length slice < used (booked k (ordersIn (c .T) ++ orders))))
+    joined-by-6 = joining-6 slice k (taughtFirst start) (startedBy start slice .words) (begins start slice started) cs
+
+    -- and is joined exactly if no more remain and that book has room.
+    pub joined-exactly : (vs : List ℕ) (c : Book) → IsBook vs c → Agrees c → c .k ≡ k
+        → (joinOf book vs .answer .number ≡ done) exactly-when
+        ((length (ordersIn (c .T) ++ orders) ≤ greatest-count) × (used (booked k (ordersIn (c .T) ++ orders)) ≤ length slice))
+    joined-exactly = joining-0 slice k (taughtFirst start) (startedBy start slice .words) (begins start slice started) cs
+
     -- The book can be stored: `store::write` writes its file, or answers 11 where the output is too short.
     pub can-be-stored : (out : List ℕ) → writeFileOf book out ≡ write (fileOf (booked k orders)) out
     can-be-stored = stores slice k (taughtFirst start) (startedBy start slice .words) (begins start slice started) cs
@@ -155,3 +181,36 @@ pub read-as-taught : (file slice : List ℕ) → readFileOf file slice .answer .
     × (taughtAll (taughtFirst (reading file)) (openOf other (startK (reading file)) .words) ≡ readFileOf file slice .words)
 unfolding afterBy remainingBy
 read-as-taught file slice started other same = in-every-word (reading file) slice started [] other same (taughtFirst (reading file)) (λ os. refl)
+
+-- ---- books joined
+
+-- Of any two slices that are joined with 0, whatever was done with them before:
+module _ (ws vs : List ℕ) (is-done : joinOf ws vs .answer .number ≡ done) (b c : Book) (first : IsBook ws b) (second : IsBook vs c) where
+  -- "counts added": the first is then a book of its k in which every key of T, R, L and P counts what it counted in both.
+  pub join-adds : (sum : Book) × IsBook (joinOf ws vs .words) sum × CountsAdded b c sum
+  join-adds = leaves-sum ws vs is-done b c first second
+
+  -- "the first becomes the book taught the live orders of both": in every word the one in which a book of that k and length was opened and the orders that the
+  -- two T's count were taught, each as often as they count it, in whichever order; and none of these teachings is refused.
+  pub join-as-taught : (slice : List ℕ) → length slice ≡ length ws → (qs : List (List ℕ)) → SameOrders qs (ordersIn (c .T) ++ ordersIn (b .T))
+      → NoneRefused qs (openOf slice (b .k) .words) × (taughtAll qs (openOf slice (b .k) .words) ≡ joinOf ws vs .words)
+  join-as-taught = joins-as-taught ws vs is-done b c first second
+
+-- "Joining is shown to give the same words either way round", "for equal slice lengths and where no step refuses": if one way is done so is the other, and both
+-- answers and all words are the same.
+pub join-turns : (ws vs : List ℕ) → length ws ≡ length vs → joinOf ws vs .answer .number ≡ done → joinOf vs ws ≡ joinOf ws vs
+join-turns = either-way
+
+-- "and however three are grouped, for equal slice lengths and where no step refuses": if the second is joined to the first and the third to both, with no
+-- refusal, so may be the third to the second, and both to the first, and the answer and all words are the same; and the other way about.
+pub join-groups : (us ws vs : List ℕ) → length us ≡ length ws → length ws ≡ length vs
+    → (joinOf us ws .answer .number ≡ done → joinOf (joinOf us ws .words) vs .answer .number ≡ done
+    → (joinOf ws vs .answer .number ≡ done) × (joinOf us (joinOf ws vs .words) ≡ joinOf (joinOf us ws .words) vs))
+    × (joinOf ws vs .answer .number ≡ done → joinOf us (joinOf ws vs .words) .answer .number ≡ done
+    → (joinOf us ws .answer .number ≡ done) × (joinOf (joinOf us ws .words) vs ≡ joinOf us (joinOf ws vs .words)))
+join-groups us ws vs x y = (regrouped us ws vs x y, regrouped-back us ws vs x y)
+
+-- "joining an empty book of the same k changes nothing": to a book that agrees with itself, whatever the lengths of both slices.
+pub join-none : (ws vs : List ℕ) (b : Book) → IsBook ws b → Agrees b → head-words ≤ length vs → length vs ≤ most-book-words
+    → joinOf ws (openOf vs (b .k) .words) ≡ outcome (answered done) ws
+join-none ws vs b i g = join-empty ws vs b i (sound-agreeing b (i .sound) .1 g)

@@ -3,12 +3,13 @@
 -- passing everything, or one verdict for all, by `Judging`;
 -- teaching that writes nothing, learning the first order and nodding at the rest, and word 2 or a count invented, by `Keeps`, demand 3;
 -- and all of them by demand 1's rows, `Teaches` and `Judges`. A sixth, which teaches rightly and never forgets, is shut out by `Releases`, the exact
--- condition of withdrawing. Assumes nothing.
-use Prim.Native.Nat.{ℕ, _≤_, _<_}
+-- condition of withdrawing; a seventh, whose joining answers 0 and joins nothing, by `Keeps`; and an eighth, which refuses every joining, by `Merges`, the exact
+-- condition of joining. Assumes nothing.
+use Prim.Native.Nat.{ℕ, _+_, _≤_, _<_}
 use mathlib.Core.Path.{_≡_, refl, sym, ap, ap₂, subst, _∙_}
 use mathlib.Core.List.{List, [], _∷_, _++_}
 use native.Mathlib.Omega.{arith}
-use lib.ListN.{length, getD}
+use lib.ListN.{length, getD, length-append}
 use Rattle.words.specs.Base.{if_then_else_}
 use Rattle.figures.specs.Limits.{greatest-count, live-word}
 use Rattle.figures.specs.Numbers.{done, low-unknown}
@@ -30,11 +31,15 @@ use Rattle.effects.specs.Conditions.{_exactly-when_}
 use Rattle.effects.specs.Whys.{WhyTaught}
 use Rattle.effects.proofs.Whys.{teach-only}
 use Rattle.promises.specs.Heard.{single, pair}
-use Rattle.promises.specs.Remaining.{Call, teach, withdraw, timesOf, outcomeOf, afterBy, remainBy, remainingBy, booked, ExactlyThese}
+use Rattle.promises.specs.Remaining.{Call, teach, withdraw, join, timesOf, outcomeOf, afterBy, ordersIn, remainBy, remainingBy, booked, ExactlyThese}
 use Rattle.promises.specs.Starts.{Start, opening, startedBy, taughtFirst, startK}
+use Rattle.promises.specs.Agreement.{Agrees}
+use Rattle.promises.proofs.Counted.{counted-length}
+use Rattle.promises.proofs.Remaining.{read-book}
+use Rattle.promises.proofs.Agreement.{sound-agreeing}
 use Rattle.promises.proofs.Computed.{computes}
 use Rattle.promises.proofs.Demand2.{passes-exactly}
-use Rattle.promises.proofs.Demand3.{opening-done, parts-and-counts, same-length, taught-exactly, withdrawn-exactly}
+use Rattle.promises.proofs.Demand3.{opening-done, parts-and-counts, same-length, taught-exactly, withdrawn-exactly, joined-exactly}
 use Rattle.promises.proofs.Uniqueness.{booked-is}
 use Rattle.promises.proofs.Wordings.{after-last, remaining-last}
 
@@ -245,7 +250,7 @@ Keeps start answers =
     → ExactlyThese (startK start) (remainingBy answers cs (startedBy start slice .words) (taughtFirst start)) (afterBy answers cs (startedBy start slice .words))
     × (length (afterBy answers cs (startedBy start slice .words)) ≡ length slice)
 
--- The teaching and withdrawing here do.
+-- The teaching, withdrawing and joining here do.
 pub keeping-here : (start : Start) → Keeps start outcomeOf
 keeping-here start slice started cs = (parts-and-counts start slice started cs, same-length start slice started cs)
 
@@ -257,6 +262,16 @@ one-more-differs k orders os ws x y = omega (arith, x .lives, y .lives, ap live 
 done-one-more : (os : List ℕ) (n : ℕ) (orders : List (List ℕ)) → n ≡ done → remainBy (teach os) n orders ≡ os ∷ orders
 unfolding if_then_else_
 done-one-more os n orders e = rw e refl
+
+-- After a joining that is done the orders of the book that is joined remain too.
+done-joined : (vs : List ℕ) (c : Book) → IsBook vs c → (n : ℕ) (orders : List (List ℕ)) → n ≡ done → remainBy (join vs) n orders ≡ ordersIn (c .T) ++ orders
+unfolding if_then_else_
+done-joined vs c i n orders e = ap (λ (m : ℕ). remainBy (join vs) m orders) e ∙ ap (λ (b : Book). ordersIn (b .T) ++ orders) (read-book vs c i)
+
+-- They are as many more as teachings are live in that book.
+joined-more : (c : Book) (orders : List (List ℕ)) → length (ordersIn (c .T) ++ orders) ≡ live c + length orders
+unfolding live
+joined-more c orders = length-append (ordersIn (c .T)) orders ∙ omega (arith, counted-length (c .T))
 
 module _ (answers : Call → List ℕ → Outcome) (start : Start) (keeps : Keeps start answers) (slice : List ℕ) (started : startedBy start slice .answer .number ≡ done) where
   -- The words of the slice once the run is started.
@@ -284,6 +299,19 @@ module _ (answers : Call → List ℕ → Outcome) (start : Start) (keeps : Keep
   pub done-writes : (os : List ℕ) → answers (teach os) begun .answer .number ≡ done → answers (teach os) begun .words ≡ begun → ⊥
   unfolding afterBy
   done-writes os = done-writes-again [] os
+
+  -- A joining that is done and joins nothing: after any calls, joining a book that holds a teaching changes the words if it is done.
+  pub joined-writes : (cs : List Call) (vs : List ℕ) (c : Book) → IsBook vs c → 1 ≤ live c → answers (join vs) (afterBy answers cs begun) .answer .number ≡ done
+      → answers (join vs) (afterBy answers cs begun) .words ≡ afterBy answers cs begun → ⊥
+  joined-writes cs vs c i some is-done same =
+      let orders : List (List ℕ) = remainingBy answers cs begun early in
+      let last : List Call = cs ++ (join vs ∷ []) in
+      let more : remainingBy answers last begun early ≡ ordersIn (c .T) ++ orders = remaining-last answers (join vs) cs begun early ∙ done-joined vs c i _ orders is-done in
+      let unchanged : afterBy answers last begun ≡ afterBy answers cs begun = after-last answers (join vs) cs begun ∙ same in
+      let x = keeps slice started cs .0 in
+      let y = keeps slice started last .0 in
+      let one : x .book ≡ y .book = book-only (afterBy answers cs begun) (x .book) (y .book) (x .isBook) (rw unchanged at (y .isBook)) in
+      omega (arith, x .lives, y .lives, ap live one, ap length more, joined-more c orders, some)
 
   -- "Word 2 or a count invented: the definition of counts and demand 3." After any calls word 2 is the number of orders that remain.
   pub live-counted : (cs : List Call) → getD (afterBy answers cs begun) live-word 0 ≡ length (remainingBy answers cs begun early)
@@ -356,3 +384,37 @@ never-forgetting answers accepts releases none =
     let left : remainBy (teach (words single)) (answers (teach (words single)) (openOf blank 2 .words) .answer .number) [] ≡ words single ∷ [] = done-one-more (words single) _ [] taught in
     let once : timesOf (words single) (remainBy (teach (words single)) (answers (teach (words single)) (openOf blank 2 .words) .answer .number) []) ≡ 1 = ap (timesOf (words single)) left ∙ node-once in
     none (words single) _ (releases blank opens (teach (words single) ∷ []) (words single) single single-order .1 (omega (arith, once)))
+
+-- ---- by the exact condition of joining
+
+-- What answers calls so that, after any of them on a book that a run starts with, a book of its k that agrees with itself is joined exactly if no more than
+-- 65,535 orders remain with its own and their book has room.
+abbrev pub Merges : Start → (Call → List ℕ → Outcome) → Type 0
+Merges start answers =
+    (slice : List ℕ) → startedBy start slice .answer .number ≡ done
+    → (cs : List Call) (vs : List ℕ) (c : Book) → IsBook vs c → Agrees c → c .k ≡ startK start
+    → let orders = ordersIn (c .T) ++ remainingBy answers cs (startedBy start slice .words) (taughtFirst start) in
+    (answers (join vs) (afterBy answers cs (startedBy start slice .words)) .answer .number ≡ done) exactly-when
+    ((length orders ≤ greatest-count) × (used (booked (startK start) orders) ≤ length slice))
+
+-- The joining here does.
+pub merging-here : (start : Start) → Merges start outcomeOf
+merging-here = joined-exactly
+
+-- The book of the node agrees with itself.
+node-agrees : Agrees (bookIn one-taught)
+unfolding computes
+node-agrees = sound-agreeing (bookIn one-taught) (taught-book .sound) .0 refl
+
+-- Its one order is the node, whose book needs 19 words.
+node-merged : (ordersIn (bookIn one-taught .T) ++ [] ≡ words single ∷ []) × (bookIn one-taught .k ≡ 2)
+unfolding computes ordersIn
+node-merged = (refl, refl)
+
+-- Refusing every joining: some is done, that of the book of the node, to a book just opened at k = 2 in 31 words.
+pub refusing-joins : (answers : Call → List ℕ → Outcome) → Merges (opening 2) answers → ((vs ws : List ℕ) → answers (join vs) ws .answer .number ≡ done → ⊥) → ⊥
+unfolding afterBy remainingBy
+refusing-joins answers merges none =
+    let opens : openOf blank 2 .answer .number ≡ done = ap (λ (a : Answer). a .number) (opening-done blank 2 (omega arith) (omega arith) (omega arith) (omega arith)) in
+    let first = merges blank opens [] one-taught (bookIn one-taught) taught-book node-agrees (node-merged .1) in
+    none one-taught (openOf blank 2 .words) (first .1 (omega (arith, ap length (node-merged .0)), omega (arith, ap (λ (orders : List (List ℕ)). used (booked 2 orders)) (node-merged .0), node-needs)))

@@ -1,4 +1,4 @@
--- What a program in C gets of the ten functions of include/ofb.h: the theorems that the prover holds them to, what their contracts say, word for word (as
+-- What a program in C gets of the eleven functions of include/ofb.h: the theorems that the prover holds them to, what their contracts say, word for word (as
 -- proofs/Contracts.antt does it for the functions below them), and that C gets number, line, count and all that was lent as they are below. So each
 -- demand holds of the C functions as it does of those below. Assumes nothing.
 use Prim.Native.Nat.{ℕ, _-_, _*_}
@@ -26,6 +26,7 @@ use Rattle.form.specs.Writing.{writeOf}
 use Rattle.book.specs.Opening.{Outcome, openOf}
 use Rattle.verdicts.specs.Judging.{judgeOf}
 use Rattle.effects.specs.Calls.{teachOf, withdrawOf}
+use Rattle.sums.specs.Joining.{joinOf}
 use Rattle.book.specs.Checking.{checkOf}
 use Rattle.files.specs.Files.{writeFileOf, readFileOf}
 use Rattle.ofb.specs.Interface.{toldOf, toldWrittenOf, handed, outcomeInC, writingInC, partInC}
@@ -37,6 +38,7 @@ use Rattle.ofb.proofs.OfbPart as ofb-part
 use Rattle.ofb.proofs.ofb_open as ofb-open
 use Rattle.ofb.proofs.ofb_teach as ofb-teach
 use Rattle.ofb.proofs.ofb_withdraw as ofb-withdraw
+use Rattle.ofb.proofs.ofb_join as ofb-join
 use Rattle.ofb.proofs.ofb_judge as ofb-judge
 use Rattle.ofb.proofs.ofb_check as ofb-check
 use Rattle.ofb.proofs.ofb_write_file as ofb-write-file
@@ -50,6 +52,8 @@ use Rattle.ofb.proofs.ofb_teach.Statement as ofb-teach-statement
 use Rattle.ofb.proofs.ofb_teach.Met as ofb-teach-met
 use Rattle.ofb.proofs.ofb_withdraw.Statement as ofb-withdraw-statement
 use Rattle.ofb.proofs.ofb_withdraw.Met as ofb-withdraw-met
+use Rattle.ofb.proofs.ofb_join.Statement as ofb-join-statement
+use Rattle.ofb.proofs.ofb_join.Met as ofb-join-met
 use Rattle.ofb.proofs.ofb_judge.Statement as ofb-judge-statement
 use Rattle.ofb.proofs.ofb_judge.Met as ofb-judge-met
 use Rattle.ofb.proofs.ofb_check.Statement as ofb-check-statement
@@ -79,6 +83,10 @@ module _ {M : Type 1} where
   -- `ofb_withdraw`
   pub ofb-withdraw-meets : ofb-withdraw-statement.statement M
   ofb-withdraw-meets = ofb-withdraw-met.met
+
+  -- `ofb_join`
+  pub ofb-join-meets : ofb-join-statement.statement M
+  ofb-join-meets = ofb-join-met.met
 
   -- `ofb_judge`
   pub ofb-judge-meets : ofb-judge-statement.statement M
@@ -127,6 +135,11 @@ module _ {M : Type 1} (𝓤 : URA.URA M) (H : Wp.Heap 𝓤) (A : Atoms.Atoms �
   pub ofb-withdraw-says : (κs args g r : _) → let c = ofb-withdraw.spec 𝓤 H A mem run κs args in
       (c .ghost ≡ Unit {0}) × (c .requires g ≡ ⊤ₛ) × (c .ensures g r ≡ exits 𝓤 H A ofb-withdraw.signature (ofb-withdraw.ended .kept) κs args (λ end. ⌜ handed r (now (end .0)) ≡ outcomeInC (withdrawOf (now (args .0)) (now (args .1 .0))) ⌝))
   ofb-withdraw-says κs args g r = (refl, refl, refl)
+
+  -- `ofb_join`
+  pub ofb-join-says : (κs args g r : _) → let c = ofb-join.spec 𝓤 H A mem run κs args in
+      (c .ghost ≡ Unit {0}) × (c .requires g ≡ ⊤ₛ) × (c .ensures g r ≡ exits 𝓤 H A ofb-join.signature (ofb-join.ended .kept) κs args (λ end. ⌜ handed r (now (end .0)) ≡ outcomeInC (joinOf (now (args .0)) (now (args .1 .0))) ⌝))
+  ofb-join-says κs args g r = (refl, refl, refl)
 
   -- `ofb_judge`
   pub ofb-judge-says : (κs args g r : _) → let c = ofb-judge.spec 𝓤 H A mem run κs args in

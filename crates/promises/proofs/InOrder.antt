@@ -18,6 +18,7 @@ use Rattle.book.specs.Opening.{Outcome, openOf}
 use Rattle.book.specs.Checking.{checkOf as agreesOf}
 use Rattle.verdicts.specs.Judging.{judgeOf}
 use Rattle.effects.specs.Calls.{teachOf, withdrawOf}
+use Rattle.sums.specs.Joining.{joinOf}
 use Rattle.octets.specs.Octets.{bytesOf}
 use Rattle.files.specs.Files.{fileOf, writeFileOf}
 use Rattle.sheet.specs.Sheets.{faulty, handedIn}
@@ -131,6 +132,28 @@ pub agree-checks : map (λ (a : Answer). a .number) (agreesOf (slice 6) ∷ agre
     ≡ 4 ∷ 5 ∷ 9 ∷ 0 ∷ []
 unfolding computes
 agree-checks = refl
+
+-- ---- two books
+
+-- A book of so many teachings of a node that lacks its low part, without room for a word more.
+abbrev lacks-low : ℕ → List ℕ
+lacks-low n = lay 15 (withL (bookOf 2 (times n single ∷ [])) [])
+
+-- The book of another node, without room for a word more.
+abbrev another : List ℕ
+another = lay 19 (bookOf 2 (times 1 (node 2000 bare) ∷ []))
+
+-- "4 and 5 on the first book, 4 and 5 on the second, 15 where k differs, 9 on the first, 9 on the second, 7, 6": six words, and words that are no book; no book,
+-- and six words; a book that does not agree, and six words, and no book; an empty book, and no book; one that does not agree, and one of another k, which comes
+-- back the other way round too; one that does not agree and has 65,535 teachings, with as many; an empty one without room, with one that does not agree; 65,535
+-- teachings and another order for which there is no room; an empty one with an order for which there is no room; two empty ones.
+pub join-checks : map (λ (o : Outcome). o .answer .number)
+    (joinOf (slice 6) formless ∷ joinOf formless (slice 6) ∷ joinOf (lacks-low 1) (slice 6) ∷ joinOf (lacks-low 1) formless ∷ joinOf opened formless
+    ∷ joinOf (lay 60 lacksMiddle) opened ∷ joinOf opened (lay 60 lacksMiddle) ∷ joinOf (lacks-low 65535) full ∷ joinOf opened (lacks-low 1)
+    ∷ joinOf full another ∷ joinOf opened another ∷ joinOf opened opened ∷ [])
+    ≡ 4 ∷ 5 ∷ 4 ∷ 5 ∷ 5 ∷ 15 ∷ 15 ∷ 9 ∷ 9 ∷ 7 ∷ 6 ∷ 0 ∷ []
+unfolding computes
+join-checks = refl
 
 -- ---- files and texts
 

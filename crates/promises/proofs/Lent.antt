@@ -19,6 +19,7 @@ use Rattle.book.proofs.open as book-open
 use Rattle.judge.proofs.judge
 use Rattle.teach.proofs.teach
 use Rattle.teach.proofs.withdraw
+use Rattle.join.proofs.join
 use Rattle.agree.proofs.check as agree-check
 use Rattle.store.proofs.write as store-write
 use Rattle.store.proofs.read as store-read
@@ -28,6 +29,7 @@ use Rattle.calls.proofs.step as calls-step
 use Rattle.ofb.proofs.ofb_open as ofb-open
 use Rattle.ofb.proofs.ofb_teach as ofb-teach
 use Rattle.ofb.proofs.ofb_withdraw as ofb-withdraw
+use Rattle.ofb.proofs.ofb_join as ofb-join
 use Rattle.ofb.proofs.ofb_judge as ofb-judge
 use Rattle.ofb.proofs.ofb_check as ofb-check
 use Rattle.ofb.proofs.ofb_write_file as ofb-write-file
@@ -106,6 +108,10 @@ teach-lent = refl
 pub withdraw-lent : withdraw.signature .params ≡ words-written 0 tt ∷ words-read 1 tt ∷ []
 withdraw-lent = refl
 
+-- `join::join`: the second slice is only read, so that it stays as it came in every word
+pub join-lent : join.signature .params ≡ words-written 0 tt ∷ words-read 1 tt ∷ []
+join-lent = refl
+
 -- `agree::check`
 pub agree-check-lent : agree-check.signature .params ≡ words-read 0 tt ∷ []
 agree-check-lent = refl
@@ -143,6 +149,10 @@ ofb-teach-lent = refl
 -- `ofb_withdraw`
 pub ofb-withdraw-lent : ofb-withdraw.signature .params ≡ words-written 0 tt ∷ words-read 1 tt ∷ []
 ofb-withdraw-lent = refl
+
+-- `ofb_join`
+pub ofb-join-lent : ofb-join.signature .params ≡ words-written 0 tt ∷ words-read 1 tt ∷ []
+ofb-join-lent = refl
 
 -- `ofb_judge`
 pub ofb-judge-lent : ofb-judge.signature .params ≡ words-read 0 tt ∷ words-read 1 tt ∷ []

@@ -9,7 +9,7 @@ use Rattle.figures.specs.Limits.{least-code, greatest-code, most-children, most
 use Rattle.figures.specs.Limits.{k-word, used-word, live-word, taught-word, tops-word, lows-word, middles-word, most-book-words, least-count, greatest-count}
 use Rattle.figures.specs.Limits.{most-input, desk-book-words}
 use Rattle.figures.specs.Numbers.{done, no-order, too-large, k-outside, book-size, not-in-form, no-room, too-many, not-taught, not-agreeing, no-form}
-use Rattle.figures.specs.Numbers.{short-output, no-mark, other-version, no-stored-book, top-unknown, low-unknown, middle-unknown}
+use Rattle.figures.specs.Numbers.{short-output, no-mark, other-version, no-stored-book, other-k, top-unknown, low-unknown, middle-unknown}
 use Rattle.figures.specs.Answers.{answered, refusedAt}
 use Rattle.trees.specs.Trees.{Tree, node, bare, cons, words}
 use Rattle.trees.specs.Reading.{causeOf}
@@ -17,9 +17,9 @@ use Rattle.trees.specs.Answers.{checkOf, writing, refuse}
 use Rattle.form.specs.Text.{digit-0, digit-9, space, line-feed, spell}
 use Rattle.form.specs.Reading.{readOf}
 use Rattle.form.specs.Faults.{greatest-level}
-use Rattle.book.specs.Book.{lay}
+use Rattle.book.specs.Book.{Book, lay}
 use Rattle.book.specs.Taught.{bookOf}
-use Rattle.book.specs.Sound.{WhyForm, longer}
+use Rattle.book.specs.Sound.{IsBook, WhyForm, longer}
 use Rattle.book.specs.Opening.{openOf, leave}
 use Rattle.book.specs.declared.BookForm.the-variants.{Refused}
 use Rattle.book.specs.Checking.{checkOf as agreesOf}
@@ -29,25 +29,27 @@ use Rattle.verdicts.proofs.Answers.{judged-only}
 use Rattle.effects.specs.Calls.{teachOf, withdrawOf}
 use Rattle.effects.specs.Whys.{teach-no-book, withdraw-no-book}
 use Rattle.effects.proofs.Whys.{teach-only, withdraw-only}
+use Rattle.sums.specs.Joining.{joinOf}
 use Rattle.octets.specs.Octets.{bytesOf, wordsOf}
 use Rattle.files.specs.Files.{mark, version, front-bytes, isMarked, storedIn, readBookOf, readRestOf, writeFileOf, readFileOf}
 use Rattle.sheet.specs.Sheets.{letter-K, letterByte}
 use Rattle.sheet.specs.declared.Letter.the-variants.{Teach, Withdraw, Judge}
 use Rattle.promises.specs.Heard.{A, single, pair, slice}
-use Rattle.promises.specs.Whys.{slice-long, check-no-book, file-no-book, restore-longer}
+use Rattle.promises.specs.Whys.{slice-long, check-no-book, join-no-first, join-no-second, file-no-book, restore-longer}
 use Rattle.promises.proofs.Computed.{computes, desk-computes}
 use Rattle.promises.proofs.Rows.{times, taughtA, lacksMiddle}
 use Rattle.promises.proofs.Whys.{opened-only}
 use Rattle.promises.proofs.Checks.{checked-only}
+use Rattle.promises.proofs.Joining.{joined-only}
 use Rattle.promises.proofs.FileWhys.{filed-only, restored-only}
 use Rattle.promises.proofs.Demand3.{opening-done}
 
 -- ---- the names
 
--- "Numbers the desk hears": 0 to 14, and 20 to 22.
+-- "Numbers the desk hears": 0 to 14, and 20 to 22; and 02's 15.
 pub numbers : (done ∷ no-order ∷ too-large ∷ k-outside ∷ book-size ∷ not-in-form ∷ no-room ∷ too-many ∷ not-taught ∷ not-agreeing ∷ no-form ∷ short-output
-    ∷ no-mark ∷ other-version ∷ no-stored-book ∷ top-unknown ∷ low-unknown ∷ middle-unknown ∷ [])
-    ≡ 0 ∷ 1 ∷ 2 ∷ 3 ∷ 4 ∷ 5 ∷ 6 ∷ 7 ∷ 8 ∷ 9 ∷ 10 ∷ 11 ∷ 12 ∷ 13 ∷ 14 ∷ 20 ∷ 21 ∷ 22 ∷ []
+    ∷ no-mark ∷ other-version ∷ no-stored-book ∷ other-k ∷ top-unknown ∷ low-unknown ∷ middle-unknown ∷ [])
+    ≡ 0 ∷ 1 ∷ 2 ∷ 3 ∷ 4 ∷ 5 ∷ 6 ∷ 7 ∷ 8 ∷ 9 ∷ 10 ∷ 11 ∷ 12 ∷ 13 ∷ 14 ∷ 15 ∷ 20 ∷ 21 ∷ 22 ∷ []
 numbers = refl
 
 -- "an option code 1 to 9999, then its number of children 0 to 8", "1 to 64 nodes", "over 128 words", "an order's depth is at most 12"
@@ -97,7 +99,7 @@ ten = 48 ∷ 32 ∷ 48 ∷ 48 ∷ 49 ∷ 48 ∷ 10 ∷ []
 abbrev no-ten : List ℕ
 no-ten = 48 ∷ 32 ∷ 48 ∷ 48 ∷ 65 ∷ 48 ∷ 10 ∷ []
 
--- The numbers of eighteen calls.
+-- The numbers of nineteen calls.
 unfoldable pub heard-numbers : List ℕ
 heard-numbers =
     -- an order
@@ -123,6 +125,8 @@ heard-numbers =
     ∷ readFileOf [] (slice 7) .answer .number
     ∷ readFileOf (79 ∷ 70 ∷ 66 ∷ 0 ∷ 2 ∷ []) (slice 7) .answer .number
     ∷ readFileOf (79 ∷ 70 ∷ 66 ∷ 0 ∷ 1 ∷ []) (slice 7) .answer .number
+    -- an empty book of k 3 is joined to one of k 2
+    ∷ joinOf (openOf (slice 7) 2 .words) (openOf (slice 7) 3 .words) .answer .number
     -- an order whose lines the book has all below another top is judged by it; a leaf that the book has only with a child; and a node below one that the book
     -- has only alone
     ∷ judgeOf (lay 60 (bookOf 2 (times 1 low-and-middle ∷ []))) (words below-the-top) .number
@@ -131,7 +135,7 @@ heard-numbers =
     ∷ []
 
 -- Each number is answered by its call.
-pub each-number : heard-numbers ≡ 0 ∷ 1 ∷ 2 ∷ 3 ∷ 4 ∷ 5 ∷ 6 ∷ 7 ∷ 8 ∷ 9 ∷ 10 ∷ 11 ∷ 12 ∷ 13 ∷ 14 ∷ 20 ∷ 21 ∷ 22 ∷ []
+pub each-number : heard-numbers ≡ 0 ∷ 1 ∷ 2 ∷ 3 ∷ 4 ∷ 5 ∷ 6 ∷ 7 ∷ 8 ∷ 9 ∷ 10 ∷ 11 ∷ 12 ∷ 13 ∷ 14 ∷ 15 ∷ 20 ∷ 21 ∷ 22 ∷ []
 unfolding heard-numbers computes checkOf causeOf bytesOf wordsOf isMarked storedIn readBookOf readRestOf readFileOf
 each-number = refl
 
@@ -182,10 +186,11 @@ longest-opened ws e = opening-done ws 2 (omega arith) (omega arith) (omega arith
 pub longer-refused : (ws : List ℕ) → length ws ≡ 16385 → openOf ws 2 ≡ leave ws 4
 longer-refused ws e = opened-only ws 2 (leave ws 4) (slice-long refl (omega arith))
 
--- 16,385 words are refused by 4 by every other call on a book, whatever they are.
+-- 16,385 words are refused by 4 by every other call on a book, whatever they are, and as a book that is joined to one in form.
 pub longer-refused-by-all : (ws : List ℕ) → length ws ≡ 16385 → (os out file : List ℕ)
     → (teachOf ws os ≡ leave ws 4) × (withdrawOf ws os ≡ leave ws 4) × (judgeOf ws os ≡ answered 4) × (agreesOf ws ≡ answered 4)
-    × (writeFileOf ws out ≡ refuse 4 out) × (readFileOf file ws ≡ leave ws 4)
+    × (writeFileOf ws out ≡ refuse 4 out) × (readFileOf file ws ≡ leave ws 4) × ((vs : List ℕ) → joinOf ws vs ≡ leave ws 4)
+    × ((us : List ℕ) (b : Book) → IsBook us b → joinOf us ws ≡ leave us 4)
 longer-refused-by-all ws e os out file =
     let w : WhyForm ws (Refused 4) = longer refl (omega arith) in (
       teach-only ws os (leave ws 4) (teach-no-book 4 refl w),
@@ -194,6 +199,8 @@ longer-refused-by-all ws e os out file =
       checked-only ws (answered 4) (check-no-book 4 refl w),
       filed-only ws out (refuse 4 out) (file-no-book 4 refl w),
       restored-only file ws (leave ws 4) (restore-longer refl (omega arith)),
+      λ vs. joined-only ws vs (leave ws 4) (join-no-first 4 refl w),
+      λ us b i. joined-only us ws (leave us 4) (join-no-second b 4 refl i w),
     )
 
 -- Lines of code 1 with these levels.

@@ -1,5 +1,5 @@
 -- Rows that are computed beside the twelve cases: books in form and books that miss it by one damage, books that agree with themselves and books
--- that do not, and refusals by 6, 7, 8 and 9. Assumes nothing.
+-- that do not, refusals by 6, 7, 8 and 9, and books that are joined. Assumes nothing.
 use Prim.Native.Nat.{ℕ, _+_}
 use mathlib.Core.Path.{_≡_, refl}
 use mathlib.Core.Bool.{true, false}
@@ -13,6 +13,8 @@ use Rattle.book.specs.Taught.{Teaching, bookOf, agreeing}
 use Rattle.effects.specs.Calls.{hasParts}
 use Rattle.figures.specs.Answers.{answered}
 use Rattle.book.specs.Checking.{checkOf}
+use Rattle.book.specs.Opening.{outcome, leave}
+use Rattle.sums.specs.Joining.{joinOf}
 use Rattle.promises.specs.Heard.{A, B, C, single, opens, teaches, withdraws, slice, heard}
 use Rattle.promises.proofs.Computed.{computes}
 
@@ -156,3 +158,36 @@ lacksMiddle = withP (bookOf 3 (times 1 A ∷ [])) []
 missing-part : (inForm lacksMiddle ≡ true) × (checkOf (lay 60 lacksMiddle) ≡ answered 9) × (heard (withdraws A ∷ []) (lay 60 lacksMiddle) ≡ (9 ∷ 0 ∷ 47 ∷ []) ∷ [])
 unfolding computes
 missing-part = (refl, refl, refl)
+
+-- ---- books joined
+
+-- The book of A alone, k = 3.
+abbrev bookA : Book
+bookA = bookOf 3 (times 1 A ∷ [])
+
+-- The book of B alone.
+abbrev bookB : Book
+bookB = bookOf 3 (times 1 B ∷ [])
+
+-- A and B taught in two books and joined are the book of both, of 109 words, either way round; in 108 words 6. The other's slice may be as long as it needs.
+joined-both : (joinOf (lay 109 bookA) (lay 69 bookB) ≡ outcome (answered 0) (lay 109 bookAB))
+    × (joinOf (lay 109 bookB) (lay 59 bookA) ≡ outcome (answered 0) (lay 109 bookAB))
+    × (joinOf (lay 108 bookA) (lay 69 bookB) ≡ leave (lay 108 bookA) 6)
+unfolding computes
+joined-both = (refl, refl, refl)
+
+-- A book joined with a copy of itself counts everything twice, in no more words.
+joined-twice : joinOf (lay 59 bookA) (lay 59 bookA) ≡ outcome (answered 0) (lay 59 (bookOf 3 (times 2 A ∷ [])))
+unfolding computes
+joined-twice = refl
+
+-- An empty book of the same k leaves a book with no free word as it is, and one of another k is 15.
+joined-empty : (joinOf (lay 59 bookA) (lay 7 (bookOf 3 [])) ≡ outcome (answered 0) (lay 59 bookA)) × (joinOf (lay 59 bookA) (lay 7 (bookOf 2 [])) ≡ leave (lay 59 bookA) 15)
+unfolding computes
+joined-empty = (refl, refl)
+
+-- 40,000 and 25,535 teachings are 65,535; with one more in the other it is 7.
+joined-counts : (joinOf (lay 19 (bookOf 2 (times 40000 single ∷ []))) (lay 19 (bookOf 2 (times 25535 single ∷ []))) ≡ outcome (answered 0) (lay 19 (bookOf 2 (times 65535 single ∷ []))))
+    × (joinOf (lay 19 (bookOf 2 (times 40000 single ∷ []))) (lay 19 (bookOf 2 (times 25536 single ∷ []))) .answer .number ≡ 7)
+unfolding computes
+joined-counts = (refl, refl)
