@@ -25,6 +25,7 @@ use Rattle.book.specs.Taught.{addEach, bookOf}
 use Rattle.book.specs.declared.Section.{Section}
 use Rattle.book.proofs.Meaning.{form-proper, either}
 use Rattle.book.proofs.Sound.{form-sound, sound-section}
+use Rattle.book.proofs.Sections.{form-keys}
 use Rattle.book.proofs.Taught.{same-section, section-same, none-in}
 use Rattle.own.specs.Own.{ownBook, ownOf}
 use Rattle.amend.proofs.Sections.{form-sorted, used-split}
@@ -126,3 +127,7 @@ module _ (b : Book) (form : inForm b ≡ true) (s : Section) where
             let f = sound-section b (form-sound b form) s .entry e m .tree in
             omega (arith, ap length (f .isOrder .spelt), size (f .tree), some-lines (f .tree))),
       )
+
+-- No key of a section is empty.
+pub keys-filled : (b : Book) → inForm b ≡ true → (s : Section) (e : Entry) → e ∈ sectionOf s b → 1 ≤ length (e .key)
+keys-filled b f s e m = let k = form-keys b f s e m in omega (arith, ap length (k .isOrder .spelt), size (k .tree), some-lines (k .tree))

@@ -4,6 +4,7 @@ ghost use mathlib.Core.Path.{_≡_};
 ghost use mathlib.Core.Bool.{true};
 ghost use Prim.Native.Nat.{_+_, _≤_};
 ghost use lib.ListN.{length, drop, replicate};
+ghost use Rattle.words.specs.Base.{_and_};
 ghost use Rattle.figures.specs.Limits.{least-k};
 ghost use Rattle.figures.specs.Numbers.{done};
 ghost use Rattle.section.specs.Entries.{width, firstEntry};
@@ -11,6 +12,7 @@ ghost use Rattle.tally.specs.Tallying.{listed, Indexed, hasAll, tallied, Few};
 ghost use Rattle.trees.specs.Reading.{causeOf};
 ghost use Rattle.book.specs.Decoding.{bookIn};
 ghost use Rattle.book.specs.Holding.{Holds};
+ghost use Rattle.book.specs.Taught.{agreeing};
 ghost use Rattle.own.specs.Own.{list-words};
 ghost use Rattle.book.specs.Checking.{checkOf};
 ghost use Rattle.agree.specs.Tallies.{most-entries, partsIn, allKnown, talliedAll, agreeingIn};
@@ -126,7 +128,31 @@ fn section_agrees(
     tally::same_counts(book, &starts[0..many], &counts[0..many])
 }
 
-// Whether the three sections of a book in form are those of its T: 9, or 0. They take turns with one scratch.
+// Whether the three sections of a book in form are those of its T. They take turns with one scratch, which is as `section_agrees` asks for it.
+fn sections_agree(
+    book: &[u16],
+    places: Places,
+    starts: &mut [u16],
+    counts: &mut [u16],
+    list: &mut [u16],
+) -> bool
+    requires { ⌜ Holds (now book) places ⌝ }
+    requires { ⌜ length (now starts) ≡ most-entries ⌝ }
+    requires { ⌜ length (now counts) ≡ most-entries ⌝ }
+    requires { ⌜ (now list ≡ replicate (length (now list)) 0) × (length (now list) ≡ list-words) ⌝ }
+    ensures agrees { λ r. ⌜ r ≡ agreeing (bookIn (now (book .entry))) ⌝ }
+    ensures cleared { λ _. ⌜ now (list .exit) ≡ now (list .entry) ⌝ }
+{
+    if !section_agrees(book, places, Section::Tops, starts, counts, list) {
+        return false;
+    }
+    if !section_agrees(book, places, Section::Lows, starts, counts, list) {
+        return false;
+    }
+    section_agrees(book, places, Section::Middles, starts, counts, list)
+}
+
+// Whether a book in form agrees with itself: 9, or 0.
 pub fn check_sections(book: &[u16], places: Places) -> Answer
     requires { ⌜ Holds (now book) places ⌝ }
     ensures { λ r. ⌜ r ≡ checkOf (now (book .entry)) ⌝ }
@@ -134,37 +160,25 @@ pub fn check_sections(book: &[u16], places: Places) -> Answer
     let mut starts = [0u16; MOST_ENTRIES];
     let mut counts = [0u16; MOST_ENTRIES];
     let mut list = [0u16; own::LIST_WORDS];
-    if !section_agrees(
-        book,
-        places,
-        Section::Tops,
-        &mut starts,
-        &mut counts,
-        &mut list,
-    ) {
-        return answered(numbers::NOT_AGREEING);
-    }
-    if !section_agrees(
-        book,
-        places,
-        Section::Lows,
-        &mut starts,
-        &mut counts,
-        &mut list,
-    ) {
-        return answered(numbers::NOT_AGREEING);
-    }
-    if !section_agrees(
-        book,
-        places,
-        Section::Middles,
-        &mut starts,
-        &mut counts,
-        &mut list,
-    ) {
+    if !sections_agree(book, places, &mut starts, &mut counts, &mut list) {
         return answered(numbers::NOT_AGREEING);
     }
     answered(numbers::DONE)
+}
+
+// Whether two books in form agree with themselves, the one and then the other, in one scratch.
+pub fn both_agree(book: &[u16], places: Places, other: &[u16], others: Places) -> bool
+    requires { ⌜ Holds (now book) places ⌝ }
+    requires { ⌜ Holds (now other) others ⌝ }
+    ensures { λ r. ⌜ r ≡ (agreeing (bookIn (now (book .entry))) and agreeing (bookIn (now (other .entry)))) ⌝ }
+{
+    let mut starts = [0u16; MOST_ENTRIES];
+    let mut counts = [0u16; MOST_ENTRIES];
+    let mut list = [0u16; own::LIST_WORDS];
+    if !sections_agree(book, places, &mut starts, &mut counts, &mut list) {
+        return false;
+    }
+    sections_agree(other, others, &mut starts, &mut counts, &mut list)
 }
 
 // Whether the words are a book that agrees with itself: 4, 5, 9, or 0.

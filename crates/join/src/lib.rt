@@ -22,13 +22,8 @@ fn join_books(book: &mut [u16], places: Places, other: &[u16], others: Places) -
     if k != other_k {
         return answered(numbers::OTHER_K);
     }
-    let first = agree::check_sections(book, places).number;
-    if first != numbers::DONE {
-        return answered(first);
-    }
-    let second = agree::check_sections(other, others).number;
-    if second != numbers::DONE {
-        return answered(second);
+    if !agree::both_agree(book, places, other, others) {
+        return answered(numbers::NOT_AGREEING);
     }
     let live = book[limits::LIVE_WORD];
     let more = other[limits::LIVE_WORD];

@@ -6,23 +6,20 @@ use mathlib.Core.List.{List}
 use native.Mathlib.Omega.{arith}
 use lib.Dec.{leb}
 use lib.ListN.{length, getD}
-use borrow.Author.Tests.{leb-true}
-use Rattle.words.specs.Base.{if_then_else_}
-use Rattle.words.proofs.Tests.{no-test}
+use borrow.Author.Tests.{leb-true, not-true, not-false}
+use Rattle.words.specs.Base.{_and_, if_then_else_}
+use Rattle.words.proofs.Tests.{no-test, and-left, and-right}
 use Rattle.figures.specs.Limits.{greatest-count}
 use Rattle.figures.specs.Numbers.{done, no-room, too-many, not-agreeing, other-k}
 use Rattle.figures.specs.Answers.{answered}
-use Rattle.figures.specs.declared.Answer.{Answer}
 use Rattle.book.specs.Book.{Book, used, live, lay}
 use Rattle.book.specs.Decoding.{bookIn, bookFormOf}
 use Rattle.book.specs.Holding.{Holds}
 use Rattle.book.specs.Taught.{agreeing}
-use Rattle.book.specs.Checking.{checkOf}
 use Rattle.book.specs.Opening.{outcome, leave}
 use Rattle.book.specs.declared.Places.{Places}
 use Rattle.book.specs.declared.BookForm.the-variants.{Refused}
 use Rattle.book.proofs.Sound.{form-sound, held-book}
-use Rattle.book.proofs.Checking.{check-held}
 use Rattle.amend.specs.Counts.{withinCounts}
 use Rattle.amend.specs.Changing.{changedBook}
 use Rattle.amend.specs.declared.Change.the-variants.{Teach}
@@ -31,44 +28,9 @@ use Rattle.sums.specs.Joining.{joined, joinOf}
 use Rattle.sums.proofs.Joined.{grown, joined-adds, joined-within}
 use Rattle.sums.proofs.Joins.{Both, second-unjoined, k-unjoined, first-unagreed, second-unagreed, join-passes, join-crowded, join-does}
 
--- A test fails whose contrary passes.
-fails : (r : Bool) → not r ≡ true → r ≡ false
-fails true e = no-test e
-fails false e = refl
-
--- A test passes whose contrary fails.
-passes : (r : Bool) → not r ≡ false → r ≡ true
-passes true e = refl
-passes false e = no-test (sym e)
-
 -- A second slice that is no book in form is answered by 4 or 5, where the first is one.
 pub second-unheld : (ws vs : List ℕ) (p : Places) → Holds ws p → (n : ℕ) → bookFormOf vs ≡ Refused n → leave ws n ≡ joinOf ws vs
 second-unheld ws vs p h n e = sym (second-unjoined ws vs (bookIn ws) (held-book ws p h) n e)
-
--- ---- checked
-
-module _ (ws : List ℕ) (p : Places) (h : Holds ws p) (n : ℕ) (e : n ≡ checkOf ws .number) where
-  -- The number that checking a book in form gives, by whether it agrees with itself.
-  check-number : (b : Bool) → agreeing (bookIn ws) ≡ b → n ≡ (if b then done else not-agreeing)
-  check-number b a = e ∙ ap (λ (x : Answer). x .number) (check-held ws (bookIn ws) (held-book ws p h)) ∙ ap (λ (x : Bool). if x then done else not-agreeing) a
-
-  -- A book that is checked with 0 agrees with itself.
-  checked : n ≡ done → agreeing (bookIn ws) ≡ true
-  checked z = go (agreeing (bookIn ws)) refl
-    where
-      -- By whether it does.
-      go : (b : Bool) → agreeing (bookIn ws) ≡ b → agreeing (bookIn ws) ≡ true
-      go true a = a
-      go false a = unfold if_then_else_ in absurd (omega (arith, check-number false a))
-
-  -- One that is not does not, and the number is 9.
-  unchecked : (n ≡ done → ⊥) → (agreeing (bookIn ws) ≡ false) × (n ≡ not-agreeing)
-  unchecked z = go (agreeing (bookIn ws)) refl
-    where
-      -- By whether it does.
-      go : (b : Bool) → agreeing (bookIn ws) ≡ b → (agreeing (bookIn ws) ≡ false) × (n ≡ not-agreeing)
-      go true a = unfold if_then_else_ in absurd (z (check-number true a))
-      go false a = unfold if_then_else_ in (a, check-number false a)
 
 -- ---- two books in form
 
@@ -88,28 +50,31 @@ module _ (ws vs : List ℕ) (p q : Places) (h : Holds ws p) (g : Holds vs q) whe
     unfolding bookIn
     k-is = same
 
-    -- Where the first does not agree with itself, joining answers 9.
-    pub first-disagrees : (n : ℕ) → n ≡ checkOf ws .number → (n ≡ done → ⊥) → leave ws n ≡ joinOf ws vs
-    first-disagrees n e z =
-        let u = unchecked ws p h n e z in
-        ap (leave ws) (u .1) ∙ sym (first-unagreed ws vs (bookIn ws) (bookIn vs) (held-book ws p h) (held-book vs q g) k-is (u .0))
+    -- Where one of them does not agree with itself, joining answers 9.
+    pub one-disagrees : (r : Bool) → r ≡ (agreeing (bookIn ws) and agreeing (bookIn vs)) → not r ≡ true → leave ws not-agreeing ≡ joinOf ws vs
+    one-disagrees r told e = sym (go (agreeing (bookIn ws)) refl (agreeing (bookIn vs)) refl)
+      where
+        -- The two tests do not both pass.
+        not-both : (x y : Bool) → agreeing (bookIn ws) ≡ x → agreeing (bookIn vs) ≡ y → (x and y) ≡ false
+        not-both x y a d = ap₂ _and_ (sym a) (sym d) ∙ sym told ∙ not-true r e
 
-    module _ (m : ℕ) (me : m ≡ checkOf ws .number) (mz : m ≡ done) where
-      -- Where the second does not, joining answers 9.
-      pub second-disagrees : (n : ℕ) → n ≡ checkOf vs .number → (n ≡ done → ⊥) → leave ws n ≡ joinOf ws vs
-      second-disagrees n e z =
-          let u = unchecked vs q g n e z in
-          ap (leave ws) (u .1) ∙ sym (second-unagreed ws vs (bookIn ws) (bookIn vs) (held-book ws p h) (held-book vs q g) k-is (checked ws p h m me mz) (u .0))
+        -- By the first that fails.
+        go : (x : Bool) → agreeing (bookIn ws) ≡ x → (y : Bool) → agreeing (bookIn vs) ≡ y → joinOf ws vs ≡ leave ws not-agreeing
+        go false a y d = first-unagreed ws vs (bookIn ws) (bookIn vs) (held-book ws p h) (held-book vs q g) k-is a
+        go true a false d = second-unagreed ws vs (bookIn ws) (bookIn vs) (held-book ws p h) (held-book vs q g) k-is a d
+        go true a true d = no-test (sym (unfold _and_ in not-both true true a d))
 
-      -- Where both do, it is known of both.
-      pub both-agree : (n : ℕ) → n ≡ checkOf vs .number → n ≡ done → Both ws vs (bookIn ws) (bookIn vs)
-      both-agree n ne nz = record {
-        isFirst = held-book ws p h;
-        isSecond = held-book vs q g;
-        same = k-is;
-        grownFirst = grown (bookIn ws) (h .form) (checked ws p h m me mz);
-        grownSecond = grown (bookIn vs) (g .form) (checked vs q g n ne nz);
-      }
+    -- Where both do, it is known of both.
+    pub both-agree : (r : Bool) → r ≡ (agreeing (bookIn ws) and agreeing (bookIn vs)) → not r ≡ false → Both ws vs (bookIn ws) (bookIn vs)
+    both-agree r told e =
+        let a : (agreeing (bookIn ws) and agreeing (bookIn vs)) ≡ true = sym told ∙ not-false r e in
+        record {
+          isFirst = held-book ws p h;
+          isSecond = held-book vs q g;
+          same = k-is;
+          grownFirst = grown (bookIn ws) (h .form) (and-left _ _ a);
+          grownSecond = grown (bookIn vs) (g .form) (and-right _ _ a);
+        }
 
 -- ---- two books of one k that agree with themselves
 
@@ -145,13 +110,13 @@ module _ (ws vs : List ℕ) (both : Both ws vs (bookIn ws) (bookIn vs)) where
       pub join-no-room : not r ≡ true → outcome (answered no-room) last ≡ joinOf ws vs
       unfolding if_then_else_
       join-no-room e =
-          let z = fails r e in
+          let z = not-true r e in
           ap (outcome (answered no-room)) (rw z at wrote) ∙ sym (join-crowded ws vs (bookIn ws) (bookIn vs) both few-live (room-told ∙ z))
 
       -- Where there was, joining answers 0.
       pub join-done : not r ≡ false → outcome (answered done) last ≡ joinOf ws vs
       unfolding if_then_else_
       join-done e =
-          let z = passes r e in
+          let z = not-false r e in
           ap (outcome (answered done)) ((rw z at wrote) ∙ ap (lay (length ws)) (sym sum))
           ∙ sym (join-does ws vs (bookIn ws) (bookIn vs) both few-live (leb-true (used (joined (bookIn ws) (bookIn vs))) (length ws) (room-told ∙ z)))

@@ -65,14 +65,6 @@ different x y h = go (sameWords y x) refl
 abbrev pub keyAt : List Entry → ℕ → List ℕ
 keyAt es i = getD es i (counted [] 0) .key
 
--- The key of the entry listed at a place is the words up to its end.
-pub listed-key : (starts ws : List ℕ) (i at end : ℕ) → i < length starts → at ≡ getD starts i 0 → end ≡ at + 2 + 2 * getD ws at 0
-    → take (end - (at + 2)) (drop (at + 2) ws) ≡ keyAt (listed starts ws) i
-listed-key starts ws i at end h is ends =
-    let long : 2 * getD (drop at ws) 0 0 ≡ end - (at + 2) = rw (getD-drop, add-zero) (omega arith) in
-    let words : firstEntry (drop at ws) .key ≡ take (end - (at + 2)) (drop (at + 2) ws) = rw (long, drop-drop) in
-    sym (ap (λ (e : Entry). e .key) (listed-at starts ws i (counted [] 0) h) ∙ rw (← is) words)
-
 -- What stands below the first of sorted entries stands below all.
 below-all : (x : List ℕ) (es : List Entry) → Below x es → Sorted es → (i : ℕ) → i < length es → x ≺ keyAt es i
 unfolding Below Sorted

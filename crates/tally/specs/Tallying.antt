@@ -4,7 +4,7 @@ use mathlib.Core.Bool.{Bool, true, false}
 use mathlib.Core.List.{List, [], _∷_}
 use lib.Dec.{eqb}
 use lib.ListN.{length, getD, drop}
-use Rattle.words.specs.Base.{_and_, if_then_else_, sameWords}
+use Rattle.words.specs.Base.{_and_, if_then_else_, sameWords, _∈_}
 use Rattle.figures.specs.Limits.{greatest-count}
 use Rattle.section.specs.Entries.{Entry, width, firstEntry, has, Sorted}
 use Rattle.tally.specs.declared.Sought.{Sought}
@@ -22,10 +22,11 @@ unfoldable pub listed : List ℕ → List ℕ → List Entry
 listed [] ws = []
 listed (at ∷ starts) ws = firstEntry (drop at ws) ∷ listed starts ws
 
--- The places are those of entries with ascending keys, each within the slice.
+-- The places are those of entries with ascending keys, each within the slice and with words of its own.
 pub record Indexed (starts ws : List ℕ) : Type 0 where
   pub within : (i : ℕ) → i < length starts → getD starts i 0 + width (drop (getD starts i 0) ws) ≤ length ws
   pub sorted : Sorted (listed starts ws)
+  pub filled : (e : Entry) → e ∈ listed starts ws → 1 ≤ length (e .key)
 
 -- One further on.
 abbrev pub next : Sought → Sought

@@ -3,10 +3,11 @@
 ghost use mathlib.Core.Path.{_≡_};
 ghost use mathlib.Core.Bool.{true};
 ghost use Prim.Native.Nat.{_+_, _≤_};
-ghost use lib.ListN.{length, drop};
+ghost use lib.ListN.{length, getD, drop};
 ghost use Rattle.words.specs.Base.{over};
+ghost use Rattle.words.specs.Compare.{compareOf};
 ghost use Rattle.figures.specs.Limits.{most-book-words};
-ghost use Rattle.section.specs.Entries.{entries, span, Sorted};
+ghost use Rattle.section.specs.Entries.{width, firstEntry, entries, span, Sorted};
 ghost use Rattle.tally.specs.Tallying.{startsOf, listed, Indexed, soughtIn, hasAll, tallied, Few, sameCounts};
 use section::past;
 use words::Compared;
@@ -33,19 +34,36 @@ pub fn index(book: &[u16], from: usize, n: usize, starts: &mut [u16])
     }
 }
 
+// How the key of the entry at word `at`, which has words, stands to another key with this first word: mostly the first words decide.
+fn against(book: &[u16], at: usize, key: &[u16], first: u16) -> Compared
+    requires { ⌜ at + width (drop at (now book)) ≤ length (now book) ⌝ }
+    requires { ⌜ (1 ≤ length (firstEntry (drop at (now book)) .key)) × (first ≡ getD (now key) 0 0) ⌝ }
+    ensures { λ r. ⌜ r ≡ compareOf (firstEntry (drop at (now (book .entry))) .key) (now (key .entry)) ⌝ }
+{
+    let start = at + 2;
+    let word = book[start];
+    if word < first {
+        return Compared::Lower;
+    }
+    if first < word {
+        return Compared::Higher;
+    }
+    let end = past(book, at);
+    words::compare(&book[start..end], key)
+}
+
 // Which of the listed entries has the key: the range that it can stand in is halved until it is found or none is left.
 pub fn seek(book: &[u16], starts: &[u16], key: &[u16]) -> Sought
     requires { ⌜ Indexed (now starts) (now book) ⌝ }
     ensures { λ r. ⌜ r ≡ soughtIn (now (key .entry)) (listed (now (starts .entry)) (now (book .entry))) ⌝ }
 {
+    let first = words::first(key);
     let mut low: usize = 0;
     let mut high = starts.len();
     while low < high {
         let mid = low + (high - low) / 2;
         let at = starts[mid] as usize;
-        let start = at + 2;
-        let end = past(book, at);
-        match words::compare(&book[start..end], key) {
+        match against(book, at, key, first) {
             Compared::Lower => {
                 low = mid + 1;
             }

@@ -3,7 +3,7 @@
 ghost use mathlib.Core.Path.{_≡_};
 ghost use mathlib.Core.List.{_++_};
 ghost use Prim.Native.Nat.{_+_, _-_, _≤_};
-ghost use lib.ListN.{length, take, drop, replicate};
+ghost use lib.ListN.{length, getD, take, drop, replicate};
 ghost use Rattle.words.specs.Base.{over};
 ghost use Rattle.words.specs.Compare.{compareOf, before};
 
@@ -37,6 +37,16 @@ pub fn compare(a: &[u16], b: &[u16]) -> Compared
         return Compared::Lower;
     }
     Compared::Equal
+}
+
+// The first word, or 0 where there is none.
+pub fn first(words: &[u16]) -> u16
+    ensures { λ r. ⌜ r ≡ getD (now (words .entry)) 0 0 ⌝ }
+{
+    if words.len() == 0 {
+        return 0;
+    }
+    words[0]
 }
 
 // Whether the first slice is lower than the second.

@@ -23,7 +23,7 @@ use Rattle.book.proofs.Meaning.{used-fits}
 use Rattle.amend.proofs.Sections.{slot-small}
 use Rattle.amend.proofs.Weights.{slot-within, ends-within}
 use Rattle.agree.specs.Tallies.{most-entries, allKnown, talliedAll, agreeingIn}
-use Rattle.agree.proofs.Counting.{tallied-few, agreeing-tallied, few-entries}
+use Rattle.agree.proofs.Counting.{tallied-few, agreeing-tallied, few-entries, keys-filled}
 use Rattle.agree.proofs.section_agrees.Statement.{statement}
 use Rattle.agree.proofs.section_agrees.Tie as tie
 
@@ -84,7 +84,8 @@ module _ (ws : List ℕ) (p : Places) (h : Holds ws p) (s : Section) (at word : 
 
     -- They are indexed.
     front-indexed : Indexed (take (many - 0) starts) ws
-    front-indexed = subst (λ (l : List ℕ). Indexed l ws) (sym front-is) (starts-indexed ws at many (ends-within ws p h s at word begins slot) (subst Sorted (sym are) (h .section s .sorted)))
+    front-indexed = subst (λ (l : List ℕ). Indexed l ws) (sym front-is) (starts-indexed ws at many (ends-within ws p h s at word begins slot) (subst Sorted (sym are) (h .section s .sorted))
+        (λ e m. keys-filled (bookIn ws) (h .form) s e (rw are at m)))
 
     -- The counts begin at 0.
     module _ (zeros : List ℕ) (none : take (many - 0) zeros ≡ replicate many 0) where

@@ -1,31 +1,21 @@
 -- `join::join_books` meets its contract, by the tests that it makes in turn. Assumes nothing.
-use mathlib.Core.Path.{_≡_, ap, _∙_}
+use mathlib.Core.Path.{_≡_, _∙_}
 use borrow.Author.Needs.{needs}
-use Rattle.figures.specs.declared.Answer.{Answer}
-use Rattle.book.specs.Checking.{checkOf}
 use Rattle.book.specs.Decoding.{bookIn}
 use Rattle.effects.proofs.Outcomes.{told}
 use Rattle.sums.proofs.Joins.{Both}
-use Rattle.sums.proofs.Outcomes.{second-few, k-differs, first-disagrees, second-disagrees, both-agree, too-many-live, may-add, join-no-room, join-done}
+use Rattle.sums.proofs.Outcomes.{second-few, k-differs, one-disagrees, both-agree, too-many-live, may-add, join-no-room, join-done}
 use Rattle.join.proofs.join_books.Statement.{statement}
 use Rattle.join.proofs.join_books.Tie as tie
 
--- The number of the first check.
-number : (c : tie.After-check-sections) → c .check-sections .result .number ≡ checkOf (c .before .before .before .before .before .before .before .args .book .now) .number
-number c = ap (λ (x : Answer). x .number) (c .check-sections .ensures)
-
--- The number of the second.
-number2 : (c : tie.After-check-sections2) → c .check-sections2 .result .number ≡ checkOf (c .before .before .before .before .before .before .before .before .before .args .other .now) .number
-number2 c = ap (λ (x : Answer). x .number) (c .check-sections2 .ensures)
-
--- Past the third test it is known of both books.
-both : (c : tie.Else3) → let s = c .before .before .before .before .before .before .before .before .before .before in
+-- Past the second test it is known of both books.
+both : (c : tie.Else2) → let s = c .before .before .before .before .before .before .before .before in
     Both (s .args .book .now) (s .args .other .now) (bookIn (s .args .book .now)) (bookIn (s .args .other .now))
 both c =
-    let l = c .before .before in
-    let o = l .before .before .before in
+    let a = c .before in
+    let o = a .before .before in
     let s = o .before .before .before .before .before in
-    both-agree _ _ _ _ (s .pre .0) (s .pre .1) (o .if1 .left) _ (number (l .before)) (l .if2 .left) _ (number2 (c .before)) (c .if3 .left)
+    both-agree _ _ _ _ (s .pre .0) (s .pre .1) (o .if1 .left) _ (a .both-agree .ensures) (c .if2 .left)
 
 slice-read-k : tie.Need-slice-read-k
 slice-read-k c = search needs
@@ -41,8 +31,8 @@ returns c =
     let s = c .before .before .before .before .before .before in
     told _ _ _ (c .answered .ensures) ∙ k-differs _ _ _ _ (s .pre .0) (s .pre .1) (c .before .if1 .taken)
 
-check-sections-requires : tie.Need-check-sections-requires
-check-sections-requires c κs = search needs
+both-agree-requires : tie.Need-both-agree-requires
+both-agree-requires c κs = search needs
 
 answered-requires-2 : tie.Need-answered-requires-2
 answered-requires-2 c κs = search needs
@@ -52,13 +42,21 @@ same-length c = search needs
 
 returns-2 : tie.Need-returns-2
 returns-2 c =
-    let r = c .before .before in
-    let o = r .before .before in
+    let a = c .before .before in
+    let o = a .before .before in
     let s = o .before .before .before .before .before in
-    told _ _ _ (c .answered2 .ensures) ∙ first-disagrees _ _ _ _ (s .pre .0) (s .pre .1) (o .if1 .left) _ (number r) (c .before .if2 .taken)
+    told _ _ _ (c .answered2 .ensures) ∙ one-disagrees _ _ _ _ (s .pre .0) (s .pre .1) (o .if1 .left) _ (a .both-agree .ensures) (c .before .if2 .taken)
 
-check-sections-requires-2 : tie.Need-check-sections-requires-2
-check-sections-requires-2 c κs = search needs
+slice-read-live : tie.Need-slice-read-live
+slice-read-live c = search needs
+
+shared-slice-read-more : tie.Need-shared-slice-read-more
+shared-slice-read-more c = search needs
+
+sub-if3 : tie.Need-sub-if3
+sub-if3 c =
+    let s = c .before .before .before .before .before .before .before .before .before .before in
+    second-few _ _ _ _ (s .pre .0) (s .pre .1)
 
 answered-requires-3 : tie.Need-answered-requires-3
 answered-requires-3 c κs = search needs
@@ -67,23 +65,14 @@ same-length-2 : tie.Need-same-length-2
 same-length-2 c = search needs
 
 returns-3 : tie.Need-returns-3
-returns-3 c =
-    let l = c .before .before .before in
-    let o = l .before .before .before in
-    let s = o .before .before .before .before .before in
-    told _ _ _ (c .answered3 .ensures)
-    ∙ second-disagrees _ _ _ _ (s .pre .0) (s .pre .1) (o .if1 .left) _ (number (l .before)) (l .if2 .left) _ (number2 (c .before .before)) (c .before .if3 .taken)
+returns-3 c = told _ _ _ (c .answered3 .ensures) ∙ too-many-live _ _ (both (c .before .before .before .before)) (c .before .if3 .taken)
 
-slice-read-live : tie.Need-slice-read-live
-slice-read-live c = search needs
-
-shared-slice-read-more : tie.Need-shared-slice-read-more
-shared-slice-read-more c = search needs
-
-sub-if4 : tie.Need-sub-if4
-sub-if4 c =
-    let s = c .before .before .before .before .before .before .before .before .before .before .before .before in
-    second-few _ _ _ _ (s .pre .0) (s .pre .1)
+add-book-requires : tie.Need-add-book-requires
+add-book-requires c κs =
+    let f = c .before in
+    let m = f .before .before .before in
+    let s = m .before .before .before .before .before .before .before .before in
+    (s .pre .0, (s .pre .1, may-add _ _ (both m) (f .if3 .left)))
 
 answered-requires-4 : tie.Need-answered-requires-4
 answered-requires-4 c κs = search needs
@@ -92,13 +81,10 @@ same-length-3 : tie.Need-same-length-3
 same-length-3 c = search needs
 
 returns-4 : tie.Need-returns-4
-returns-4 c = told _ _ _ (c .answered4 .ensures) ∙ too-many-live _ _ (both (c .before .before .before .before)) (c .before .if4 .taken)
-
-add-book-requires : tie.Need-add-book-requires
-add-book-requires c κs =
-    let f = c .before in
-    let s = f .before .before .before .before .before .before .before .before .before .before .before .before .before in
-    (s .pre .0, (s .pre .1, may-add _ _ (both (f .before .before .before)) (f .if4 .left)))
+returns-4 c =
+    let a = c .before .before .before .before in
+    let f = a .before .before in
+    told _ _ _ (c .answered4 .ensures) ∙ join-no-room _ _ (both (f .before .before .before)) (f .if3 .left) _ _ (a .add-book .ensures .0) (a .add-book .ensures .1) (c .before .if4 .taken)
 
 answered-requires-5 : tie.Need-answered-requires-5
 answered-requires-5 c κs = search needs
@@ -110,19 +96,7 @@ returns-5 : tie.Need-returns-5
 returns-5 c =
     let a = c .before .before .before .before in
     let f = a .before .before in
-    told _ _ _ (c .answered5 .ensures) ∙ join-no-room _ _ (both (f .before .before .before)) (f .if4 .left) _ _ (a .add-book .ensures .0) (a .add-book .ensures .1) (c .before .if5 .taken)
-
-answered-requires-6 : tie.Need-answered-requires-6
-answered-requires-6 c κs = search needs
-
-same-length-5 : tie.Need-same-length-5
-same-length-5 c = search needs
-
-returns-6 : tie.Need-returns-6
-returns-6 c =
-    let a = c .before .before .before .before in
-    let f = a .before .before in
-    told _ _ _ (c .answered6 .ensures) ∙ join-done _ _ (both (f .before .before .before)) (f .if4 .left) _ _ (a .add-book .ensures .0) (a .add-book .ensures .1) (c .before .if5 .left)
+    told _ _ _ (c .answered5 .ensures) ∙ join-done _ _ (both (f .before .before .before)) (f .if3 .left) _ _ (a .add-book .ensures .0) (a .add-book .ensures .1) (c .before .if4 .left)
 
 pub join-books-spec : {M : Type 1} → statement M
 join-books-spec =
@@ -132,24 +106,20 @@ join-books-spec =
     shared-slice-read-other-k
     answered-requires
     returns
-    check-sections-requires
+    both-agree-requires
     answered-requires-2
     same-length
     returns-2
-    check-sections-requires-2
+    slice-read-live
+    shared-slice-read-more
+    sub-if3
     answered-requires-3
     same-length-2
     returns-3
-    slice-read-live
-    shared-slice-read-more
-    sub-if4
+    add-book-requires
     answered-requires-4
     same-length-3
     returns-4
-    add-book-requires
     answered-requires-5
     same-length-4
-    returns-5
-    answered-requires-6
-    same-length-5
-    returns-6)
+    returns-5)
