@@ -18,8 +18,9 @@
 enum {
     ROUNDS = 9,                 /* rounds in which both are measured by turns; the least time of them counts */
     BATCH_NS = 5000000,         /* how long a batch of calls takes at least */
-    COPIES_BYTES = 2 << 20,     /* the most bytes of the copies of a book to which a batch teaches or joins */
+    COPIES_BYTES = 2 << 20,     /* the most bytes of the copies of a book to which a batch teaches */
     MOST_COPIES = 256,
+    PAIRS = 64,                 /* pairs of books that are joined by turns */
     SIZES = 4,
     SHAPES = 3,
     MOST_ROWS = 112,
@@ -45,7 +46,6 @@ struct task {
     uint16_t k;
     size_t slice;               /* words of the book's slice */
     uint16_t book[BOOK_WORDS];
-    uint16_t other[BOOK_WORDS]; /* the book that is joined to it */
     uint16_t spare[BOOK_WORDS];
     struct order order;
     uint8_t text[MOST_NODES * LINE_BYTES];
@@ -54,6 +54,18 @@ struct task {
     size_t file_bytes;
     uint16_t *copies;           /* slices with copies of the book, one behind the other */
     unsigned copies_count;
+};
+
+/*
+ * Two books to join. There are so many pairs that no processor knows the way through the next one from the round before, as it comes to know it where one and
+ * the same call is made again and again: a book is joined once, and not twice.
+ */
+struct pair {
+    size_t slice;               /* words of both slices */
+    uint16_t book[BOOK_WORDS];
+    uint16_t other[BOOK_WORDS]; /* the book that is joined to it */
+    uint16_t sum[BOOK_WORDS];   /* what they make */
+    uint16_t copy[BOOK_WORDS];  /* the book, for a call */
 };
 
 /* Makes so many calls of one function and gives the sum of their answers' numbers, which is 0 where all are done. */
@@ -311,74 +323,94 @@ static void measure_book(struct task *task, unsigned size)
     measure_steady(add_row("read_file", size, task, 0), batch_read_file, task);
 }
 
-/* Joins the other book to every copy, and gives the nanoseconds. */
-static double time_joins(const struct implementation *which, const struct task *task)
+/* Sets the slice of a pair to be somewhat larger than the book that it makes. */
+static void fit_pair(struct pair *pair)
+{
+    pair->slice = pair->sum[1] + 100u;
+    if (pair->slice > BOOK_WORDS)
+        pair->slice = BOOK_WORDS;
+}
+
+/* Teaches orders of 5 to 20 nodes by turns to the book of a pair, to the other and to both, and all to their sum, to about so many words there. */
+static void fill_pair(struct pair *pair, uint16_t k, struct dice *dice, unsigned size)
+{
+    unsigned turn = 0;
+    plain.open(pair->book, BOOK_WORDS, k);
+    plain.open(pair->other, BOOK_WORDS, k);
+    plain.open(pair->sum, BOOK_WORDS, k);
+    for (unsigned tries = 0; tries < TRIES && pair->sum[1] + 20u < size; tries++) {
+        struct order order;
+        order_grow(&order, dice, 5 + dice_below(dice, 16), &practice);
+        memcpy(pair->copy, pair->sum, sizeof pair->sum);
+        if (plain.teach(pair->sum, BOOK_WORDS, order.at, order.words).number || pair->sum[1] > size + 20u) {
+            memcpy(pair->sum, pair->copy, sizeof pair->sum);
+            continue;
+        }
+        if (turn != 1)
+            plain.teach(pair->book, BOOK_WORDS, order.at, order.words);
+        if (turn != 0)
+            plain.teach(pair->other, BOOK_WORDS, order.at, order.words);
+        if (turn == 2)
+            plain.teach(pair->sum, BOOK_WORDS, order.at, order.words);
+        turn = (turn + 1) % 3;
+        tries = 0;
+    }
+    fit_pair(pair);
+}
+
+/* Makes both books of a pair the one that they make together. */
+static void double_pair(struct pair *pair)
+{
+    memcpy(pair->book, pair->sum, sizeof pair->sum);
+    memcpy(pair->other, pair->sum, sizeof pair->sum);
+    demand(plain.join(pair->sum, BOOK_WORDS, pair->other, BOOK_WORDS).number == 0, "a book and its copy cannot be joined");
+    fit_pair(pair);
+}
+
+/* Joins the books of all pairs, each to a new copy of the first, and gives the nanoseconds. */
+static double time_joins(const struct implementation *which, struct pair *pairs)
 {
     unsigned long sum = 0;
-    uint16_t *at = task->copies;
+    for (unsigned i = 0; i < PAIRS; i++)
+        memcpy(pairs[i].copy, pairs[i].book, 2 * pairs[i].slice);
     double start = now();
-    for (unsigned i = 0; i < task->copies_count; i++, at += task->slice)
-        sum += which->join(at, task->slice, task->other, task->slice).number;
+    for (unsigned i = 0; i < PAIRS; i++)
+        sum += which->join(pairs[i].copy, pairs[i].slice, pairs[i].other, pairs[i].slice).number;
     double end = now();
     demand(sum == 0, "a measured joining was refused");
     return end - start;
 }
 
-/* Teaches orders of 5 to 20 nodes by turns to the book, the other book and both, and all to the spare, to about so many words there. */
-static void fill_books(struct task *task, struct dice *dice, unsigned size)
+/* Measures joining, by pairs of books that come to their sums; the row's words are those of a sum in the mean. */
+static void measure_join(struct row *row, struct pair *pairs)
 {
-    unsigned turn = 0;
-    plain.open(task->book, BOOK_WORDS, task->k);
-    plain.open(task->other, BOOK_WORDS, task->k);
-    plain.open(task->spare, BOOK_WORDS, task->k);
-    for (unsigned tries = 0; tries < TRIES && task->spare[1] + 20u < size; tries++) {
-        struct order order;
-        order_grow(&order, dice, 5 + dice_below(dice, 16), &practice);
-        memcpy(task->copies, task->spare, sizeof task->spare);
-        if (plain.teach(task->spare, BOOK_WORDS, order.at, order.words).number || task->spare[1] > size + 20u) {
-            memcpy(task->spare, task->copies, sizeof task->spare);
-            continue;
-        }
-        if (turn != 1)
-            plain.teach(task->book, BOOK_WORDS, order.at, order.words);
-        if (turn != 0)
-            plain.teach(task->other, BOOK_WORDS, order.at, order.words);
-        if (turn == 2)
-            plain.teach(task->spare, BOOK_WORDS, order.at, order.words);
-        turn = (turn + 1) % 3;
-        tries = 0;
-    }
-}
-
-/* Measures joining the other book to copies of the book, which have to come to the spare one. */
-static void measure_join(struct row *row, struct task *task)
-{
-    row->used = task->spare[1];
-    fit_slice(task, task->spare[1]);
+    unsigned long used = 0;
+    for (unsigned i = 0; i < PAIRS; i++)
+        used += pairs[i].sum[1];
+    row->used = (unsigned)(used / PAIRS);
     for (unsigned round = 0; round < ROUNDS; round++) {
         for (unsigned which = 0; which < 2; which++) {
             double joined = 0, calls = 0;
             while (joined < BATCH_NS) {
-                renew_copies(task);
-                joined += time_joins(both[which], task);
-                calls += task->copies_count;
+                joined += time_joins(both[which], pairs);
+                calls += PAIRS;
             }
             keep_least(row, which, joined / calls);
-            for (unsigned i = 0; i < task->copies_count; i++)
-                demand(!memcmp(task->copies + i * task->slice, task->spare, 2 * task->slice), "a book is not what the two make");
+            for (unsigned i = 0; i < PAIRS; i++)
+                demand(!memcmp(pairs[i].copy, pairs[i].sum, 2 * pairs[i].slice), "a book is not what the two make");
         }
     }
 }
 
-/* Measures joining two books with orders of their own and in common, and joining a book to its copy. */
-static void measure_joins(struct task *task, struct dice *dice, unsigned size)
+/* Measures joining books with orders of their own and in common, and joining a book to its copy. */
+static void measure_joins(const struct task *task, struct pair *pairs, struct dice *dice, unsigned size)
 {
-    fill_books(task, dice, size);
-    measure_join(add_row("join", size, task, 0), task);
-    memcpy(task->book, task->spare, sizeof task->book);
-    memcpy(task->other, task->spare, sizeof task->other);
-    demand(plain.join(task->spare, BOOK_WORDS, task->other, BOOK_WORDS).number == 0, "a book and its copy cannot be joined");
-    measure_join(add_row("join copy", size, task, 0), task);
+    for (unsigned i = 0; i < PAIRS; i++)
+        fill_pair(&pairs[i], task->k, dice, size);
+    measure_join(add_row("join", size, task, 0), pairs);
+    for (unsigned i = 0; i < PAIRS; i++)
+        double_pair(&pairs[i]);
+    measure_join(add_row("join copy", size, task, 0), pairs);
 }
 
 /* Measures the functions that need an order and no book. */
@@ -391,7 +423,7 @@ static void measure_order(struct task *task, unsigned nodes)
 }
 
 /* Measures all functions at all sizes. */
-static void measure_all(struct task *task)
+static void measure_all(struct task *task, struct pair *pairs)
 {
     struct dice dice = {20}, joining = {21};
     for (unsigned shape = 0; shape < SHAPES; shape++) {
@@ -411,7 +443,7 @@ static void measure_all(struct task *task)
         }
     }
     for (unsigned size = 0; size < SIZES; size++)
-        measure_joins(task, &joining, sizes[size]);
+        measure_joins(task, pairs, &joining, sizes[size]);
 }
 
 /* Prints a number, or a dash for none, in a column. */
@@ -487,7 +519,7 @@ static void print_all(void)
     static const char *const by_book[] = {"open", "check", "write_file", "read_file", "join", "join copy"};
     static const char *const without_book[] = {"read_text", "write_text", "subtree"};
     printf("Least processor time of a call over %d rounds. An order that is new has codes that the book has hardly seen.\n", ROUNDS);
-    printf("Joined are two books that share orders and parts, or a book and its copy; words are those of the book that they make.\n\n");
+    printf("Joined are two books that share orders and parts, or a book and its copy, %d such pairs by turns; words are those of what a pair makes, in the mean.\n\n", PAIRS);
     printf("%-12s %6s %6s %12s %12s %7s\n", "function", "words", "nodes", "library ns", "C ns", "ratio");
     for (unsigned i = 0; i < 6; i++)
         print_function(by_book[i]);
@@ -513,7 +545,8 @@ static void print_all(void)
 int main(int argc, char **argv)
 {
     struct task *task = calloc(1, sizeof *task);
-    demand(task != NULL && (task->copies = malloc(COPIES_BYTES)) != NULL, "no memory");
+    struct pair *pairs = calloc(PAIRS, sizeof *pairs);
+    demand(task != NULL && pairs != NULL && (task->copies = malloc(COPIES_BYTES)) != NULL, "no memory");
     task->k = 3;
     for (int i = 1; i < argc; i++) {
         if (!strcmp(argv[i], "indicative"))
@@ -522,10 +555,11 @@ int main(int argc, char **argv)
             task->k = (uint16_t)atoi(argv[i]);
     }
     demand(task->k >= 2 && task->k <= 6, "K is 2 to 6");
-    measure_all(task);
+    measure_all(task, pairs);
     printf("Books look %u deep. ", task->k);
     print_all();
     free(task->copies);
+    free(pairs);
     free(task);
     return 0;
 }

@@ -1,6 +1,7 @@
 /*
- * Prints what a book of built orders doubts: teaches it two order forms, lets it judge two new ones, and prints each of
- * these with a mark at the line that is doubted; first with a book that looks 3 deep, then with one that looks 2 deep.
+ * Prints what a book of built orders doubts: teaches an order form to each of two books, joins the one to the other, lets
+ * that judge two new forms, and prints each of these with a mark at the line that is doubted; first with books that look 3
+ * deep, then with books that look 2 deep.
  * It is linked with libofb.a. It ends with status 0, or with 1 after a refusal or if its output cannot be written.
  */
 #include <stdio.h>
@@ -15,7 +16,7 @@ static const char form_a[] = "0 1000\n1 2000\n2 0010\n1 3000\n2 3001\n";
 static const char form_b[] = "0 1000\n1 2000\n2 0016\n1 3000\n2 3001\n2 3002\n";
 static const char form_c[] = "0 1000\n1 2000\n2 0010\n1 3000\n2 3001\n2 3002\n";
 static const char form_d[] = "0 1000\n1 2000\n2 0010\n1 3000\n";
-static uint16_t book[BOOK_WORDS];
+static uint16_t desk[BOOK_WORDS], workshop[BOOK_WORDS];
 
 /* What the number of an answer means, for the calls made here. */
 static const char *meaning(unsigned number)
@@ -28,8 +29,10 @@ static const char *meaning(unsigned number)
     case OFB_NOT_IN_FORM: return "the words are no book in form";
     case OFB_NO_ROOM: return "the book has too little room";
     case OFB_TOO_MANY: return "the book cannot count further";
+    case OFB_NOT_AGREEING: return "a book does not agree with itself";
     case OFB_NO_FORM: return "the text is no order form";
     case OFB_SHORT_OUTPUT: return "the output is too short";
+    case OFB_OTHER_K: return "the two books look differently deep";
     case OFB_TOP_UNKNOWN: return "no order taught begins like this one";
     case OFB_LOW_UNKNOWN: return "this option, with all that stands below it, is in no order taught";
     case OFB_MIDDLE_UNKNOWN: return "this option, with what the book sees below it, is in no order taught";
@@ -52,20 +55,22 @@ static size_t read_form(const char *text, uint16_t order[ORDER_WORDS])
     return answer.written;
 }
 
-/* Teaches a form to the book. */
-static void teach(const char *text)
+/* Makes an empty book that looks k deep, and teaches it a form. */
+static void open_with(uint16_t book[BOOK_WORDS], uint16_t k, const char *text)
 {
     uint16_t order[ORDER_WORDS];
-    ofb_answer answer = ofb_teach(book, BOOK_WORDS, order, read_form(text, order));
+    ofb_answer answer = ofb_open(book, BOOK_WORDS, k);
+    if (answer.number != OFB_DONE) refused("ofb_open", answer);
+    answer = ofb_teach(book, BOOK_WORDS, order, read_form(text, order));
     if (answer.number != OFB_DONE) refused("ofb_teach", answer);
 }
 
-/* Lets the book judge a form, and prints the form with a mark at the line that is doubted. */
+/* Lets the desk's book judge a form, and prints the form with a mark at the line that is doubted. */
 static void judge(const char *name, const char *text)
 {
     uint16_t order[ORDER_WORDS];
     size_t words = read_form(text, order);
-    ofb_answer verdict = ofb_judge(book, BOOK_WORDS, order, words);
+    ofb_answer verdict = ofb_judge(desk, BOOK_WORDS, order, words);
     if (verdict.number != OFB_DONE && verdict.number < OFB_TOP_UNKNOWN) refused("ofb_judge", verdict);
     uint8_t out[TEXT_BYTES];
     ofb_answer answer = ofb_write_text(order, words, out, TEXT_BYTES);
@@ -77,14 +82,14 @@ static void judge(const char *name, const char *text)
     }
 }
 
-/* Makes an empty book that looks k deep, teaches it forms A and B, and lets it judge C and D. */
+/* Teaches form A to the desk's book and form B to the workshop's, joins this to that, and lets the desk's judge C and D. */
 static void try_book(uint16_t k)
 {
-    ofb_answer answer = ofb_open(book, BOOK_WORDS, k);
-    if (answer.number != OFB_DONE) refused("ofb_open", answer);
-    teach(form_a);
-    teach(form_b);
-    printf("A book that looks %u deep: %u teachings, %u of %u words used.\n", book[0], book[2], book[1], BOOK_WORDS);
+    open_with(desk, k, form_a);
+    open_with(workshop, k, form_b);
+    ofb_answer answer = ofb_join(desk, BOOK_WORDS, workshop, BOOK_WORDS);
+    if (answer.number != OFB_DONE) refused("ofb_join", answer);
+    printf("A book that looks %u deep: %u teachings, %u of %u words used.\n", desk[0], desk[2], desk[1], BOOK_WORDS);
     judge("C", form_c);
     judge("D", form_d);
 }

@@ -1,7 +1,7 @@
-//! Prints what a book of built orders doubts: teaches it two order forms, lets it judge two new ones, and prints each
-//! of these with a mark at the line that is doubted; first with a book that looks 3 deep, then with one that looks 2
-//! deep. It is linked with libofb.a. It ends with status 0, or with 1 after a refusal or if its output cannot be
-//! written.
+//! Prints what a book of built orders doubts: teaches an order form to each of two books, joins the one to the other,
+//! lets that judge two new forms, and prints each of these with a mark at the line that is doubted; first with books
+//! that look 3 deep, then with books that look 2 deep. It is linked with libofb.a. It ends with status 0, or with 1
+//! after a refusal or if its output cannot be written.
 
 use std::error::Error;
 use std::io::Write;
@@ -30,6 +30,7 @@ mod ofb {
     extern "C" {
         fn ofb_open(book: *mut u16, words: usize, k: u16) -> Answer;
         fn ofb_teach(book: *mut u16, words: usize, order: *const u16, count: usize) -> Answer;
+        fn ofb_join(book: *mut u16, words: usize, other: *const u16, other_words: usize) -> Answer;
         fn ofb_judge(book: *const u16, words: usize, order: *const u16, count: usize) -> Answer;
         fn ofb_read_text(text: *const u8, bytes: usize, out: *mut u16, words: usize) -> Answer;
         fn ofb_write_text(order: *const u16, words: usize, out: *mut u8, bytes: usize) -> Answer;
@@ -43,6 +44,11 @@ mod ofb {
     /// Teaches an order to the book.
     pub fn teach(book: &mut [u16], order: &[u16]) -> Answer {
         unsafe { ofb_teach(book.as_mut_ptr(), book.len(), order.as_ptr(), order.len()) }
+    }
+
+    /// Joins the orders of another book to the book.
+    pub fn join(book: &mut [u16], other: &[u16]) -> Answer {
+        unsafe { ofb_join(book.as_mut_ptr(), book.len(), other.as_ptr(), other.len()) }
     }
 
     /// Judges an order by the book.
@@ -76,8 +82,10 @@ fn meaning(number: u16) -> &'static str {
         5 => "the words are no book in form",
         6 => "the book has too little room",
         7 => "the book cannot count further",
+        9 => "a book does not agree with itself",
         10 => "the text is no order form",
         11 => "the output is too short",
+        15 => "the two books look differently deep",
         20 => "no order taught begins like this one",
         21 => "this option, with all that stands below it, is in no order taught",
         22 => "this option, with what the book sees below it, is in no order taught",
@@ -108,9 +116,10 @@ fn read_form(text: &str) -> Result<Vec<u16>, String> {
     Ok(order)
 }
 
-/// Teaches a form to the book.
-fn teach(book: &mut [u16], text: &str) -> Result<(), String> {
+/// Makes an empty book of the slice, which looks k deep, and teaches it a form.
+fn open_with(book: &mut [u16], k: u16, text: &str) -> Result<(), String> {
     let order = read_form(text)?;
+    done("ofb_open", ofb::open(book, k))?;
     done("ofb_teach", ofb::teach(book, &order))?;
     Ok(())
 }
@@ -138,17 +147,17 @@ fn judge(to: &mut dyn Write, book: &[u16], name: &str, text: &str) -> Result<(),
     Ok(())
 }
 
-/// Makes an empty book that looks k deep, teaches it forms A and B, and lets it judge C and D.
+/// Teaches form A to the desk's book and form B to the workshop's, joins this to that, and lets the desk's judge C and D.
 fn try_book(to: &mut dyn Write, k: u16) -> Result<(), Box<dyn Error>> {
-    let mut book = [0; 2000];
-    done("ofb_open", ofb::open(&mut book, k))?;
-    teach(&mut book, FORM_A)?;
-    teach(&mut book, FORM_B)?;
-    let [k, used, teachings] = [book[0], book[1], book[2]];
+    let (mut desk, mut workshop) = ([0; 2000], [0; 2000]);
+    open_with(&mut desk, k, FORM_A)?;
+    open_with(&mut workshop, k, FORM_B)?;
+    done("ofb_join", ofb::join(&mut desk, &workshop))?;
+    let [k, used, teachings] = [desk[0], desk[1], desk[2]];
     write!(to, "A book that looks {k} deep: {teachings} teachings, ")?;
-    writeln!(to, "{used} of {} words used.", book.len())?;
-    judge(to, &book, "C", FORM_C)?;
-    judge(to, &book, "D", FORM_D)
+    writeln!(to, "{used} of {} words used.", desk.len())?;
+    judge(to, &desk, "C", FORM_C)?;
+    judge(to, &desk, "D", FORM_D)
 }
 
 /// Tries the book as it looks 3 deep and 2 deep.
