@@ -1,5 +1,5 @@
 -- What is tallied for a section of a book in form is what it counts by the orders in its T. Assumes nothing.
-use Prim.Native.Nat.{ℕ, _*_, _≤_}
+use Prim.Native.Nat.{ℕ, _+_, _*_, _<_, _≤_}
 use mathlib.Core.Path.{_≡_, refl, sym, ap, _∙_}
 use mathlib.Core.Bool.{Bool, true, false}
 use mathlib.Core.List.{List, [], _∷_, List·Memᴰ·head as here, List·Memᴰ·tail as there}
@@ -9,7 +9,7 @@ use lib.Dec.{ltb}
 use borrow.Author.Tests.{ltb-true, ltb-false}
 use Rattle.words.specs.Base.{_and_, _∈_}
 use Rattle.words.proofs.Tests.{no-test, and-left, and-right, and-both}
-use Rattle.figures.specs.Limits.{greatest-count, most-book-words}
+use Rattle.figures.specs.Limits.{greatest-count, head-words}
 use Rattle.figures.specs.Numbers.{done}
 use Rattle.section.specs.Entries.{Entry, sectionWords, has, countOf, Sorted, Even}
 use Rattle.section.proofs.Counts.{has-entry, entry-count, counts-has, lacks-counts}
@@ -21,18 +21,22 @@ use Rattle.trees.specs.Reading.{Order, refused, order, byOrder, orderOf, causeO
 use Rattle.trees.proofs.Orders.{size, some-lines}
 use Rattle.trees.proofs.Fitting.{order-read}
 use Rattle.book.specs.Book.{Book, sectionOf, used, live, inForm}
+use Rattle.book.specs.Decoding.{bookIn}
+use Rattle.book.specs.Holding.{Holds}
 use Rattle.book.specs.Taught.{addEach, bookOf}
 use Rattle.book.specs.declared.Section.{Section}
+use Rattle.book.specs.declared.Places.{Places}
 use Rattle.book.proofs.Meaning.{form-proper, either}
 use Rattle.book.proofs.Sound.{form-sound, sound-section}
 use Rattle.book.proofs.Sections.{form-keys}
 use Rattle.book.proofs.Taught.{same-section, section-same, none-in}
 use Rattle.own.specs.Own.{ownBook, ownOf}
 use Rattle.amend.proofs.Sections.{form-sorted, used-split}
+use Rattle.amend.proofs.Stages.{uses}
 use Rattle.effects.specs.Calls.{treesIn}
 use Rattle.effects.proofs.Adds.{own-section, own-sorted}
 use Rattle.effects.proofs.Agreeing.{form-orders, teachings-sorted}
-use Rattle.agree.specs.Tallies.{most-entries, partsIn, allKnown, talliedAll, agreeingIn}
+use Rattle.agree.specs.Tallies.{partsIn, allKnown, talliedAll, agreeingIn, Roomy}
 use Rattle.agree.proofs.Tallied.{countedIn, count-most, countsBy, counts-few, tallied-is, same-by, by-same, counted-known, known-counted}
 
 -- ---- what one teaching of an order counts
@@ -117,9 +121,9 @@ module _ (b : Book) (form : inForm b ≡ true) (s : Section) where
       (either _ _ (λ e. agreed-known (same-section _ _ e)) (λ h.
       section-same _ counts (same-counts _ counts (form-sorted b form s) (teachings-sorted (b .k) (b .T) (form-orders b form) s) (known-agreed h))))
 
-  -- A section of a book of at most 16,384 words has no more entries than their places have room for.
-  pub few-entries : used b ≤ most-book-words → length (sectionOf s b) ≤ most-entries
-  few-entries h =
+  -- With the head, a section's entries use four words each at least.
+  pub entries-use : head-words + 4 * length (sectionOf s b) ≤ used b
+  entries-use =
       omega (
         arith,
         used-split s b,
@@ -127,6 +131,10 @@ module _ (b : Book) (form : inForm b ≡ true) (s : Section) where
             let f = sound-section b (form-sound b form) s .entry e m .tree in
             omega (arith, ap length (f .isOrder .spelt), size (f .tree), some-lines (f .tree))),
       )
+
+-- A scratch of n words has room for each section of a book that uses too few words for one entry more.
+pub few-entries : (ws : List ℕ) (p : Places) → Holds ws p → (n : ℕ) → p .used < head-words + 4 * (n + 1) → Roomy ws n
+few-entries ws p h n short s = omega (arith, entries-use (bookIn ws) (h .form) s, uses ws p h)
 
 -- No key of a section is empty.
 pub keys-filled : (b : Book) → inForm b ≡ true → (s : Section) (e : Entry) → e ∈ sectionOf s b → 1 ≤ length (e .key)

@@ -10,12 +10,13 @@ ghost use Rattle.figures.specs.Numbers.{done};
 ghost use Rattle.section.specs.Entries.{width, firstEntry};
 ghost use Rattle.tally.specs.Tallying.{listed, Indexed, hasAll, tallied, Few};
 ghost use Rattle.trees.specs.Reading.{causeOf};
+ghost use Rattle.book.specs.Book.{sectionOf};
 ghost use Rattle.book.specs.Decoding.{bookIn};
 ghost use Rattle.book.specs.Holding.{Holds};
 ghost use Rattle.book.specs.Taught.{agreeing};
 ghost use Rattle.own.specs.Own.{list-words};
 ghost use Rattle.book.specs.Checking.{checkOf};
-ghost use Rattle.agree.specs.Tallies.{most-entries, partsIn, allKnown, talliedAll, agreeingIn};
+ghost use Rattle.agree.specs.Tallies.{small-book, partsIn, allKnown, talliedAll, agreeingIn, Roomy};
 use book::BookForm;
 use book::Places;
 use book::Section;
@@ -28,6 +29,12 @@ use section::past;
 
 // No section has more entries: the shortest entry, that of a single node, takes four words.
 const MOST_ENTRIES: usize = (limits::MOST_BOOK_WORDS - limits::HEAD_WORDS) / 4;
+
+// The entries that the scratch for a small book has room for: places and counts of so many are two kilobytes to clear, of the most sixteen.
+const SMALL_ENTRIES: usize = 512;
+
+// No section of a book that uses at most so many words has more entries: the shortest takes four words.
+const SMALL_BOOK: usize = limits::HEAD_WORDS + 4 * SMALL_ENTRIES;
 
 // Tallies what the taught order at word `at` counts in a section, for the section's listed entries, by way of a scratch of zeros. Answers
 // false where a part has no entry.
@@ -106,8 +113,8 @@ fn section_agrees(
     list: &mut [u16],
 ) -> bool
     requires { ⌜ Holds (now book) places ⌝ }
-    requires { ⌜ length (now starts) ≡ most-entries ⌝ }
-    requires { ⌜ length (now counts) ≡ most-entries ⌝ }
+    requires { ⌜ length (sectionOf section (bookIn (now book))) ≤ length (now starts) ⌝ }
+    requires { ⌜ length (sectionOf section (bookIn (now book))) ≤ length (now counts) ⌝ }
     requires { ⌜ (now list ≡ replicate (length (now list)) 0) × (length (now list) ≡ list-words) ⌝ }
     ensures agrees { λ r. ⌜ r ≡ agreeingIn section (bookIn (now (book .entry))) ⌝ }
     ensures cleared { λ _. ⌜ now (list .exit) ≡ now (list .entry) ⌝ }
@@ -137,8 +144,8 @@ fn sections_agree(
     list: &mut [u16],
 ) -> bool
     requires { ⌜ Holds (now book) places ⌝ }
-    requires { ⌜ length (now starts) ≡ most-entries ⌝ }
-    requires { ⌜ length (now counts) ≡ most-entries ⌝ }
+    requires { ⌜ Roomy (now book) (length (now starts)) ⌝ }
+    requires { ⌜ Roomy (now book) (length (now counts)) ⌝ }
     requires { ⌜ (now list ≡ replicate (length (now list)) 0) × (length (now list) ≡ list-words) ⌝ }
     ensures agrees { λ r. ⌜ r ≡ agreeing (bookIn (now (book .entry))) ⌝ }
     ensures cleared { λ _. ⌜ now (list .exit) ≡ now (list .entry) ⌝ }
@@ -152,33 +159,67 @@ fn sections_agree(
     section_agrees(book, places, Section::Middles, starts, counts, list)
 }
 
+// Whether a book in form that uses few words agrees with itself, in a small scratch and a lent list of zeros, which is zeros again in the end.
+fn agrees_small(book: &[u16], places: Places, list: &mut [u16]) -> bool
+    requires { ⌜ Holds (now book) places ⌝ }
+    requires { ⌜ places .used ≤ small-book ⌝ }
+    requires { ⌜ (now list ≡ replicate (length (now list)) 0) × (length (now list) ≡ list-words) ⌝ }
+    ensures agrees { λ r. ⌜ r ≡ agreeing (bookIn (now (book .entry))) ⌝ }
+    ensures cleared { λ _. ⌜ now (list .exit) ≡ now (list .entry) ⌝ }
+{
+    let mut starts = [0u16; SMALL_ENTRIES];
+    let mut counts = [0u16; SMALL_ENTRIES];
+    sections_agree(book, places, &mut starts, &mut counts, list)
+}
+
+// Whether any book in form agrees with itself, in a scratch for the most entries and a lent list of zeros, which is zeros again in the end.
+fn agrees_large(book: &[u16], places: Places, list: &mut [u16]) -> bool
+    requires { ⌜ Holds (now book) places ⌝ }
+    requires { ⌜ (now list ≡ replicate (length (now list)) 0) × (length (now list) ≡ list-words) ⌝ }
+    ensures agrees { λ r. ⌜ r ≡ agreeing (bookIn (now (book .entry))) ⌝ }
+    ensures cleared { λ _. ⌜ now (list .exit) ≡ now (list .entry) ⌝ }
+{
+    let mut starts = [0u16; MOST_ENTRIES];
+    let mut counts = [0u16; MOST_ENTRIES];
+    sections_agree(book, places, &mut starts, &mut counts, list)
+}
+
+// Whether a book in form agrees with itself, in the small scratch where that has room. The list lent is of zeros, and is so again in the end.
+fn agrees(book: &[u16], places: Places, list: &mut [u16]) -> bool
+    requires { ⌜ Holds (now book) places ⌝ }
+    requires { ⌜ (now list ≡ replicate (length (now list)) 0) × (length (now list) ≡ list-words) ⌝ }
+    ensures agrees { λ r. ⌜ r ≡ agreeing (bookIn (now (book .entry))) ⌝ }
+    ensures cleared { λ _. ⌜ now (list .exit) ≡ now (list .entry) ⌝ }
+{
+    if places.used <= SMALL_BOOK {
+        return agrees_small(book, places, list);
+    }
+    agrees_large(book, places, list)
+}
+
 // Whether a book in form agrees with itself: 9, or 0.
 pub fn check_sections(book: &[u16], places: Places) -> Answer
     requires { ⌜ Holds (now book) places ⌝ }
     ensures { λ r. ⌜ r ≡ checkOf (now (book .entry)) ⌝ }
 {
-    let mut starts = [0u16; MOST_ENTRIES];
-    let mut counts = [0u16; MOST_ENTRIES];
     let mut list = [0u16; own::LIST_WORDS];
-    if !sections_agree(book, places, &mut starts, &mut counts, &mut list) {
+    if !agrees(book, places, &mut list) {
         return answered(numbers::NOT_AGREEING);
     }
     answered(numbers::DONE)
 }
 
-// Whether two books in form agree with themselves, the one and then the other, in one scratch.
+// Whether two books in form agree with themselves, the one and then the other, by one list.
 pub fn both_agree(book: &[u16], places: Places, other: &[u16], others: Places) -> bool
     requires { ⌜ Holds (now book) places ⌝ }
     requires { ⌜ Holds (now other) others ⌝ }
     ensures { λ r. ⌜ r ≡ (agreeing (bookIn (now (book .entry))) and agreeing (bookIn (now (other .entry)))) ⌝ }
 {
-    let mut starts = [0u16; MOST_ENTRIES];
-    let mut counts = [0u16; MOST_ENTRIES];
     let mut list = [0u16; own::LIST_WORDS];
-    if !sections_agree(book, places, &mut starts, &mut counts, &mut list) {
+    if !agrees(book, places, &mut list) {
         return false;
     }
-    sections_agree(other, others, &mut starts, &mut counts, &mut list)
+    agrees(other, others, &mut list)
 }
 
 // Whether the words are a book that agrees with itself: 4, 5, 9, or 0.

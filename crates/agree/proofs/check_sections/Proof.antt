@@ -1,4 +1,4 @@
--- `agree::check_sections` meets its contract, by a scratch of its own. Assumes nothing.
+-- `agree::check_sections` meets its contract, by a list of its own. Assumes nothing.
 use Prim.Native.Nat.{ℕ}
 use mathlib.Core.Path.{_≡_, refl, sym, _∙_}
 use mathlib.Core.Bool.{true, false}
@@ -31,42 +31,34 @@ module _ (ws : List ℕ) (p : Places) (h : Holds ws p) where
   unfolding if_then_else_
   check-done e = sym (check-held ws (bookIn ws) (held-book ws p h) ∙ rw e)
 
-slice-aggregate-sections-agree : tie.Need-slice-aggregate-sections-agree
-slice-aggregate-sections-agree c = search needs
+slice-aggregate-agrees : tie.Need-slice-aggregate-agrees
+slice-aggregate-agrees c = search needs
 
-slice-aggregate-sections-agree-2 : tie.Need-slice-aggregate-sections-agree-2
-slice-aggregate-sections-agree-2 c = search needs
-
-slice-aggregate-sections-agree-3 : tie.Need-slice-aggregate-sections-agree-3
-slice-aggregate-sections-agree-3 c = search needs
-
-sections-agree-requires : tie.Need-sections-agree-requires
-sections-agree-requires c κs = (c .before .before .before .before .pre, (refl, (refl, (all-zeros list-words, refl))))
+agrees-requires : tie.Need-agrees-requires
+agrees-requires c κs = (c .before .before .pre, (all-zeros list-words, refl))
 
 answered-requires : tie.Need-answered-requires
 answered-requires c κs = search needs
 
 returns : tie.Need-returns
 returns c =
-    let a = c .before .before .before .before .before in
-    c .answered .ensures ∙ check-not _ _ (a .before .before .before .before .before .pre) (sym (a .sections-agree .ensures .0) ∙ not-true _ (c .before .if1 .taken))
+    let a = c .before .before .before in
+    c .answered .ensures ∙ check-not _ _ (a .before .before .before .pre) (sym (a .agrees .ensures .0) ∙ not-true _ (c .before .if1 .taken))
 
 answered-requires-2 : tie.Need-answered-requires-2
 answered-requires-2 c κs = search needs
 
 returns-2 : tie.Need-returns-2
 returns-2 c =
-    let a = c .before .before .before .before .before in
-    c .answered2 .ensures ∙ check-done _ _ (a .before .before .before .before .before .pre) (sym (a .sections-agree .ensures .0) ∙ not-false _ (c .before .if1 .left))
+    let a = c .before .before .before in
+    c .answered2 .ensures ∙ check-done _ _ (a .before .before .before .pre) (sym (a .agrees .ensures .0) ∙ not-false _ (c .before .if1 .left))
 
 pub check-sections-spec : {M : Type 1} → statement M
 check-sections-spec =
     tie.close
     (tie.spec
-    slice-aggregate-sections-agree
-    slice-aggregate-sections-agree-2
-    slice-aggregate-sections-agree-3
-    sections-agree-requires
+    slice-aggregate-agrees
+    agrees-requires
     answered-requires
     returns
     answered-requires-2

@@ -19,11 +19,10 @@ use Rattle.book.specs.Decoding.{bookIn, startOf, slotOf}
 use Rattle.book.specs.Holding.{Holds}
 use Rattle.book.specs.declared.Section.{Section}
 use Rattle.book.specs.declared.Places.{Places}
-use Rattle.book.proofs.Meaning.{used-fits}
 use Rattle.amend.proofs.Sections.{slot-small}
 use Rattle.amend.proofs.Weights.{slot-within, ends-within}
-use Rattle.agree.specs.Tallies.{most-entries, allKnown, talliedAll, agreeingIn}
-use Rattle.agree.proofs.Counting.{tallied-few, agreeing-tallied, few-entries, keys-filled}
+use Rattle.agree.specs.Tallies.{allKnown, talliedAll, agreeingIn}
+use Rattle.agree.proofs.Counting.{tallied-few, agreeing-tallied, keys-filled}
 use Rattle.agree.proofs.section_agrees.Statement.{statement}
 use Rattle.agree.proofs.section_agrees.Tie as tie
 
@@ -63,10 +62,6 @@ module _ (ws : List ℕ) (p : Places) (h : Holds ws p) (s : Section) (at word : 
   -- There are as many as the section has.
   many-are : many ≡ length (sectionOf s (bookIn ws))
   many-are = sym (length-entries many (drop at ws)) ∙ ap length are
-
-  -- A scratch has room for them.
-  many-fit : many ≤ most-entries
-  many-fit = omega (arith, many-are, few-entries (bookIn ws) (h .form) s (omega (arith, used-fits ws (bookIn ws) (h .laid), h .short)))
 
   -- Their places are written over the front of a scratch.
   module _ (starts old : List ℕ) (wrote : starts ≡ over (startsOf at many (drop at ws)) old) where
@@ -133,13 +128,17 @@ called w = w .before .before .before .before .before
 abbrev told : tie.After-slot → ℕ
 told w = getD (called w .args .book .now) (w .slot .result) 0
 
--- A scratch has room for its entries.
-fits : (w : tie.After-slot) → told w ≤ most-entries
-fits w = let x = called w .args in many-fit _ _ (called w .pre .0) (x .section) (startOf (x .section) (x .places)) _ refl (w .slot .ensures)
+-- These are the section's entries.
+told-are : (w : tie.After-slot) → told w ≡ length (sectionOf (called w .args .section) (bookIn (called w .args .book .now)))
+told-are w = let x = called w .args in many-are _ _ (called w .pre .0) (x .section) (startOf (x .section) (x .places)) _ refl (w .slot .ensures)
 
--- The scratch lent for the counts has room for them.
+-- The scratch lent for their places has room for them.
+starts-fit : (w : tie.After-slot) → told w ≤ length (called w .args .starts .now)
+starts-fit w = omega (arith, told-are w, called w .pre .1 .0)
+
+-- So has the one lent for the counts.
 counts-fit : (w : tie.After-slot) → told w ≤ length (called w .args .counts .now)
-counts-fit w = omega (arith, fits w, called w .pre .1 .1 .0)
+counts-fit w = omega (arith, told-are w, called w .pre .1 .1 .0)
 
 -- The head's word, seen from where the counts are zeroed.
 abbrev worded : tie.After-clear → tie.After-slot
@@ -179,7 +178,7 @@ starts i = i .index .last .1 .1 .1 .0
 
 -- It has room for them.
 starts-room : (i : tie.After-index) → many-at i ≤ length (starts i)
-starts-room i = omega (arith, i .index .kept .1 .1 .1 .0, fits (slotted (begun i)), called (slotted (begun i)) .pre .1 .0)
+starts-room i = omega (arith, i .index .kept .1 .1 .1 .0, starts-fit (slotted (begun i)))
 
 -- The places are those of the section's entries.
 indexed : (i : tie.After-index) → Indexed (take (many-at i - 0) (starts i)) (called (slotted (begun i)) .args .book .now)
@@ -261,7 +260,7 @@ index-requires : tie.Need-index-requires
 index-requires c κs =
     let a = c .before in
     let b = called (slotted a) in
-    (within a, (b .pre .0 .short, omega (arith, fits (slotted a), b .pre .1 .0)))
+    (within a, (b .pre .0 .short, starts-fit (slotted a)))
 
 sub-tally-taught : tie.Need-sub-tally-taught
 sub-tally-taught c = search needs

@@ -3,6 +3,7 @@ use Prim.Native.Nat.{ℕ}
 use mathlib.Core.Path.{_≡_, refl, sym, subst, _∙_}
 use mathlib.Core.Bool.{true, false}
 use mathlib.Core.List.{List}
+use native.Mathlib.Omega.{arith}
 use lib.ListN.{length, replicate}
 use borrow.Author.Needs.{needs}
 use borrow.Author.Tests.{not-true, not-false}
@@ -64,7 +65,7 @@ clean-lows : (l : tie.After-section-agrees2) → Clean (l .section-agrees2 .last
 clean-lows l = subst Clean (sym (l .section-agrees2 .ensures .1)) (clean-tops (at-tops l))
 
 section-agrees-requires : tie.Need-section-agrees-requires
-section-agrees-requires c κs = search needs
+section-agrees-requires c κs = let s = c .before .before .before .before .before .before .before .pre in (s .0, (s .1 .0 Tops, (s .1 .1 .0 Tops, s .1 .1 .1)))
 
 same-length : tie.Need-same-length
 same-length c = search needs
@@ -85,7 +86,7 @@ section-agrees-requires-2 c κs =
     let r = c .before .before .before .before .before .before .before .before .before .before in
     let k = r .section-agrees .kept in
     let s = called r .pre in
-    (s .0, (k .1 .1 .1 .0 ∙ s .1 .0, (k .1 .1 .1 .1 .0 ∙ s .1 .1 .0, clean-tops r)))
+    (s .0, (omega (arith, k .1 .1 .1 .0, s .1 .0 Lows), (omega (arith, k .1 .1 .1 .1 .0, s .1 .1 .0 Lows), clean-tops r)))
 
 same-length-4 : tie.Need-same-length-4
 same-length-4 c = search needs
@@ -107,7 +108,7 @@ section-agrees-requires-3 c κs =
     let k₁ = at-tops l .section-agrees .kept in
     let k₂ = l .section-agrees2 .kept in
     let s = called (at-tops l) .pre in
-    (s .0, (k₂ .1 .1 .1 .0 ∙ k₁ .1 .1 .1 .0 ∙ s .1 .0, (k₂ .1 .1 .1 .1 .0 ∙ k₁ .1 .1 .1 .1 .0 ∙ s .1 .1 .0, clean-lows l)))
+    (s .0, (omega (arith, k₂ .1 .1 .1 .0, k₁ .1 .1 .1 .0, s .1 .0 Middles), (omega (arith, k₂ .1 .1 .1 .1 .0, k₁ .1 .1 .1 .1 .0, s .1 .1 .0 Middles), clean-lows l)))
 
 same-length-7 : tie.Need-same-length-7
 same-length-7 c = search needs
