@@ -5,7 +5,7 @@ ghost use mathlib.Core.Bool.{true};
 ghost use Prim.Native.Nat.{_+_, _≤_};
 ghost use lib.ListN.{length, drop, replicate};
 ghost use Rattle.words.specs.Base.{_and_};
-ghost use Rattle.figures.specs.Limits.{least-k};
+ghost use Rattle.figures.specs.Limits.{least-k, greatest-k};
 ghost use Rattle.figures.specs.Numbers.{done};
 ghost use Rattle.section.specs.Entries.{width, firstEntry};
 ghost use Rattle.tally.specs.Tallying.{listed, Indexed, hasAll, tallied, Few};
@@ -48,7 +48,7 @@ fn tally_order(
     list: &mut [u16],
 ) -> bool
     requires { ⌜ (at + width (drop at (now book)) ≤ length (now book)) × (causeOf (firstEntry (drop at (now book)) .key) ≡ done) ⌝ }
-    requires { ⌜ least-k ≤ k .k ⌝ }
+    requires { ⌜ (least-k ≤ k .k) × (k .k ≤ greatest-k) ⌝ }
     requires { ⌜ Indexed (now starts) (now book) ⌝ }
     requires { ⌜ (length (now counts) ≡ length (now starts)) ×
         Few (tallied (firstEntry (drop at (now book)) .count) (partsIn section (k .k) (firstEntry (drop at (now book)) .key)) (listed (now starts) (now book)) (now counts)) ⌝ }

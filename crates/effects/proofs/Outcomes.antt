@@ -9,7 +9,7 @@ use native.Mathlib.Omega.{arith}
 use borrow.Author.Tests.{le-leb, lt-leb}
 use lib.ListN.{length, getD, replicate, length-replicate}
 use Rattle.words.specs.Base.{if_then_else_}
-use Rattle.figures.specs.Limits.{least-k, most-book-words, greatest-count, greatest-depth}
+use Rattle.figures.specs.Limits.{least-k, greatest-k, most-book-words, greatest-count, greatest-depth}
 use Rattle.figures.specs.Numbers.{done, no-room, too-many, not-taught, not-agreeing}
 use Rattle.figures.specs.Answers.{answered}
 use Rattle.figures.specs.declared.Answer.{Answer}
@@ -95,9 +95,9 @@ by-cause ws os b i n c x f = by-order ws os b i f ∙ cause-refuses os n c x (le
 -- ---- a book in form
 
 module _ (ws : List ℕ) (p : Places) (H : Holds ws p) where
-  -- k is at least 2.
-  pub least : least-k ≤ p .k .k
-  least = omega (arith, H .depth, H .least)
+  -- k is 2 to 6.
+  pub allowed : (least-k ≤ p .k .k) × (p .k .k ≤ greatest-k)
+  allowed = (omega (arith, H .depth, H .least), omega (arith, H .depth, H .greatest))
 
   -- The words used are those that the places say.
   uses : p .used ≡ used (bookIn ws)
@@ -174,7 +174,7 @@ module _ (ws os : List ℕ) (p : Places) (H : Holds ws p) (e : causeOf os ≡ do
   module _ (own : List ℕ) (owns : Places) (came : owns ≡ placesOf (ownOf (p .k .k) os)) (wrote : own ≡ lay own-words (ownOf (p .k .k) os)) where
     -- The slice holds it.
     pub own-holds : Holds own owns
-    own-holds = rw (came, wrote) (laid-holds own-words (ownOf (p .k .k) os) own-formed (own-short os e (p .k .k) (least ws p H)) (omega arith))
+    own-holds = rw (came, wrote) (laid-holds own-words (ownOf (p .k .k) os) own-formed (own-short os e (p .k .k) (allowed ws p H .0) (allowed ws p H .1)) (omega arith))
 
     -- It is read there.
     own-read : bookIn own ≡ own-book

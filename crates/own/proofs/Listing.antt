@@ -37,7 +37,7 @@ use Rattle.trees.proofs.Spots.{two-words-a-line, short-order, PartIs, part-told
 use Rattle.trees.proofs.Cutting.{cut-shallow}
 use Rattle.book.specs.Taught.{addEach}
 use Rattle.book.proofs.Taught.{sorted-each}
-use Rattle.own.specs.Own.{entry-words, occurring, partsOnce, partLines, listOf, lowAt}
+use Rattle.own.specs.Own.{entry-words, occurring, partsOnce, eachWords, partWords, listOf, lowAt}
 
 -- ---- trees entered once
 
@@ -246,7 +246,7 @@ module _ (e : Entry) (even : 2 * (length (e .key) / 2) ≡ length (e .key)) wher
 -- ---- the loop over the lines
 
 -- The loop's place: so many entries are listed at the front of `out`, and with the parts of the lines left they come to all parts; `out` has
--- room for as many entries, and `entry` for one.
+-- room for an entry of each part left, and `entry` for any one.
 pub record Listing (low : Bool) (k : ℕ) (os out₀ out entry : List ℕ) (line used many : ℕ) : Type 0 where
   pub tree : Tree
   pub passes : Passed os tree
@@ -258,7 +258,7 @@ pub record Listing (low : Bool) (k : ℕ) (os out₀ out entry : List ℕ) (line
   pub uses : used ≡ length (sectionWords listed)
   pub counts : many ≡ length listed
   pub left : enterEach (partsIn low k (drop line (subtrees tree))) listed ≡ enterEach (partsIn low k (subtrees tree)) []
-  pub room : used + length (partsIn low k (drop line (subtrees tree))) * entry-words ≤ length out
+  pub room : used + eachWords (partsIn low k (drop line (subtrees tree))) ≤ length out
   pub spare : length entry ≡ entry-words
 
 -- A place by other names.
@@ -267,15 +267,15 @@ pub listing-named : (low : Bool) (k : ℕ) (os out₀ out entry : List ℕ) (lin
 listing-named low k os out₀ out entry line used many out′ entry′ used′ many′ o e u m st = rw (o, e, u, m) st
 
 -- Before the first line nothing is listed.
-pub list-start : (low : Bool) (k : ℕ) (os out entry : List ℕ) → causeOf os ≡ done → out ≡ replicate (length out) 0 → partLines low k os * entry-words ≤ length out
+pub list-start : (low : Bool) (k : ℕ) (os out entry : List ℕ) → causeOf os ≡ done → out ≡ replicate (length out) 0 → partWords low k os ≤ length out
     → length entry ≡ entry-words → Listing low k os out out entry 0 0 0
-unfolding partLines byOrder Sorted Even padded sectionWords
+unfolding partWords byOrder Sorted Even padded sectionWords
 list-start low k os out entry e zeros room spare =
     let x = has-tree os e in
     let t = x .tree in
     let p = x .passes in
     let none : length out - 0 ≡ length out = omega arith in
-    let all : length (occurring low k t) * entry-words ≤ length out = rw (p .is) at room in
+    let all : eachWords (occurring low k t) ≤ length out = rw (p .is) at room in
     record {
       tree = t;
       passes = p;
@@ -384,8 +384,9 @@ module _ (low : Bool) (k : ℕ) (os out₀ out entry : List ℕ) (line used many
     part-even = omega (arith, size (cut (spot .tree) (k - 1)))
 
     -- There is room for it and for those behind it.
-    part-room : used + (2 + length (part .key)) + length (partsIn low k (drop (line + 1) (subtrees (st .tree)))) * entry-words ≤ length out
-    part-room = omega (arith, st .room, ap length parts-here, cut-short (k - 1))
+    part-room : used + (2 + length (part .key)) + eachWords (partsIn low k (drop (line + 1) (subtrees (st .tree)))) ≤ length out
+    unfolding eachWords
+    part-room = omega (arith, st .room, ap eachWords parts-here)
 
     -- What is written of it: the cut at d = k-1, up to `end`.
     module _ (d end : ℕ) (entry′ : List ℕ) (deep : d ≡ k - 1) (ends : end ≡ 2 + length (cutOf os (line * 2) d))

@@ -1,16 +1,17 @@
 -- An order's own book: what it is, how many words it takes, and the slice that it is listed in, stage by stage. Assumes nothing.
-use Prim.Native.Nat.{ℕ, _+_, _*_, _-_, _/_, _≤_, _<_}
+use Prim.Native.Nat.{ℕ, suc, _+_, _*_, _-_, _/_, _≤_, _<_}
 use mathlib.Core.Path.{_≡_, refl, sym, ap, subst, _∙_}
-use mathlib.Core.Bool.{Bool, true, false, Bool·beq}
-use mathlib.Core.List.{List, [], _∷_, _++_, append-assoc, append-nil, List·Memᴰ·head as here, List·Memᴰ·tail as there}
+use mathlib.Core.Bool.{Bool, true, false}
+use mathlib.Core.List.{List, [], _∷_, _++_, append-assoc, append-nil}
+use native.Mathlib.Nat.{mul-le-mul}
 use native.Mathlib.Omega.{arith}
 use lib.ListN.{length, take, drop, set, replicate, length-append, length-replicate, replicate-append-replicate}
 use lib.Seq.{take-at, drop-at}
 use borrow.Rule.Slice.PartMut.{putMid}
-use Rattle.words.specs.Base.{over, _∈_}
+use Rattle.words.specs.Base.{over}
 use Rattle.words.proofs.Tests.{no-test}
 use Rattle.words.proofs.Shifts.{tail-all, tail-back}
-use Rattle.figures.specs.Limits.{least-k, most-nodes, most-words, greatest-depth, head-words}
+use Rattle.figures.specs.Limits.{least-k, greatest-k, most-nodes, most-words, greatest-depth, head-words}
 use Rattle.figures.specs.Numbers.{done}
 use Rattle.section.specs.Entries.{Entry, counted, entryWords, sectionWords, Sorted, total, add}
 use Rattle.changes.specs.Editing.{addOnce, padded}
@@ -23,7 +24,8 @@ use Rattle.trees.specs.Parts.{isLow, top}
 use Rattle.trees.specs.declared.Walked.{Walked}
 use Rattle.trees.proofs.Orders.{size, some-lines}
 use Rattle.trees.proofs.Causes.{Passed, has-tree}
-use Rattle.trees.proofs.Cutting.{cut-shallow, cut-nodes, subtree-nodes}
+use Rattle.trees.proofs.Cutting.{cut-shallow}
+use Rattle.trees.proofs.Shares.{cutNodes, shares}
 use Rattle.trees.proofs.Lines.{walk-spot, cut-spot}
 use Rattle.trees.proofs.Spots.{two-words-a-line, top-spot, top-room}
 use Rattle.book.specs.Book.{Book, body, used, live, encode, lay}
@@ -31,8 +33,8 @@ use Rattle.book.specs.Decoding.{placesOf}
 use Rattle.book.specs.declared.Places.{Places}
 use Rattle.book.specs.Taught.{addEach, taught, bookOf}
 use Rattle.book.proofs.Meaning.{used-is}
-use Rattle.own.specs.Own.{entry-words, own-words, ownOf, partLines, listOf}
-use Rattle.own.proofs.Listing.{enterEach, entered-all, partsIn, parts-none, parts-all, parts-once, parts-more, parts-same, told-same, told-other, size-once}
+use Rattle.own.specs.Own.{list-words, own-words, ownOf, eachWords, partWords, listOf}
+use Rattle.own.proofs.Listing.{enterEach, entered-all, partsIn, parts-none, parts-all, parts-once, parts-more, parts-same, size-once}
 
 -- ---- how many words it takes
 
@@ -50,44 +52,34 @@ pub over-zeros : (w out : List ℕ) → length w ≤ length out → out ≡ repl
 unfolding padded
 over-zeros w out fits zeros = ap (over w) zeros ∙ ap (λ (l : List ℕ). w ++ l) (drop-zeros (length out) (length w) fits)
 
--- Every subtree stands for a part of one kind.
-parts-both : (k : ℕ) (ss : List Tree) → least-k ≤ k → length (partsIn true k ss) + length (partsIn false k ss) ≡ length ss
+-- Every subtree stands for a part of one kind, its cut at k-1: a head of two words, and two words for each node of the cut.
+parts-both : (k : ℕ) (ss : List Tree) → least-k ≤ k → eachWords (partsIn true k ss) + eachWords (partsIn false k ss) ≡ 2 * length ss + 2 * cutNodes (k - 1) ss
+unfolding eachWords cutNodes
 parts-both k [] least = rw (parts-none true k, parts-none false k) refl
-parts-both k (s ∷ ss) least = go (isLow k s) refl (parts-both k ss least)
+parts-both k (s ∷ ss) least = go (isLow k s) refl (parts-both k ss least) (size (cut s (k - 1)))
   where
-    go : (b : Bool) → isLow k s ≡ b → length (partsIn true k ss) + length (partsIn false k ss) ≡ length ss
-        → length (partsIn true k (s ∷ ss)) + length (partsIn false k (s ∷ ss)) ≡ length (s ∷ ss)
-    go true e ih = rw (parts-more k s ss least true e, parts-same k s ss least false (λ f. no-test (sym f ∙ e))) (omega arith)
-    go false e ih = rw (parts-same k s ss least true (λ f. no-test (sym e ∙ f)), parts-more k s ss least false e) (omega arith)
+    go : (b : Bool) → isLow k s ≡ b → eachWords (partsIn true k ss) + eachWords (partsIn false k ss) ≡ 2 * length ss + 2 * cutNodes (k - 1) ss
+        → length (words (cut s (k - 1))) ≡ length (subtrees (cut s (k - 1))) * 2
+        → eachWords (partsIn true k (s ∷ ss)) + eachWords (partsIn false k (s ∷ ss)) ≡ 2 * length (s ∷ ss) + 2 * cutNodes (k - 1) (s ∷ ss)
+    go true e ih two = rw (parts-more k s ss least true e, parts-same k s ss least false (λ f. no-test (sym f ∙ e))) (omega arith)
+    go false e ih two = rw (parts-same k s ss least true (λ f. no-test (sym e ∙ f)), parts-more k s ss least false e) (omega arith)
 
--- Each part that is entered takes at most an entry's words.
-parts-size : (low : Bool) (k : ℕ) (ss : List Tree) (es : List Entry) → least-k ≤ k → Sorted es → ((s : Tree) → s ∈ ss → length (subtrees s) ≤ most-nodes)
-    → length (sectionWords (enterEach (partsIn low k ss) es)) ≤ length (sectionWords es) + length (partsIn low k ss) * entry-words
-unfolding enterEach
-parts-size low k [] es least sorted few = rw (parts-none low k) (omega arith)
-parts-size low k (s ∷ ss) es least sorted few =
-    go (Bool·beq (isLow k s) low) refl (λ fs h. parts-size low k ss fs least h (λ u m. few u (there m)))
-  where
-    go : (b : Bool) → Bool·beq (isLow k s) low ≡ b
-        → ((fs : List Entry) → Sorted fs → length (sectionWords (enterEach (partsIn low k ss) fs)) ≤ length (sectionWords fs) + length (partsIn low k ss) * entry-words)
-        → length (sectionWords (enterEach (partsIn low k (s ∷ ss)) es)) ≤ length (sectionWords es) + length (partsIn low k (s ∷ ss)) * entry-words
-    go true e ih =
-        rw (parts-more k s ss least low (told-same (isLow k s) low e))
-        (omega (
-          arith,
-          ih (addOnce (counted (words (cut s (k - 1))) 1) es) (sorted-add-once (counted (words (cut s (k - 1))) 1) es (omega arith) sorted),
-          size-once (counted (words (cut s (k - 1))) 1) es sorted,
-          few s (here refl),
-          cut-nodes s (k - 1),
-          size (cut s (k - 1)),
-        ))
-    go false e ih = rw (parts-same k s ss least low (told-other (isLow k s) low e)) (ih es sorted)
+-- Trees that are entered take at most the words of an entry for each.
+each-size : (ts : List Tree) (es : List Entry) → Sorted es → length (sectionWords (enterEach ts es)) ≤ length (sectionWords es) + eachWords ts
+unfolding enterEach eachWords
+each-size [] es sorted = omega arith
+each-size (t ∷ ts) es sorted =
+    omega (
+      arith,
+      each-size ts (addOnce (counted (words t) 1) es) (sorted-add-once (counted (words t) 1) es (omega arith) sorted),
+      size-once (counted (words t) 1) es sorted,
+    )
 
 module _ (k : ℕ) (os : List ℕ) (t : Tree) (p : Passed os t) (least : least-k ≤ k) where
-  -- The lines of a kind are the parts of the kind.
-  lines-are : (low : Bool) → partLines low k os ≡ length (partsIn low k (subtrees t))
-  unfolding partLines byOrder
-  lines-are low = rw (p .is, parts-all low k t)
+  -- The words for the parts of a kind are those for what the lines stand for.
+  words-are : (low : Bool) → partWords low k os ≡ eachWords (partsIn low k (subtrees t))
+  unfolding partWords byOrder
+  words-are low = rw (p .is, parts-all low k t)
 
   -- The list is what its parts come to.
   list-is : (low : Bool) → listOf low k os ≡ enterEach (partsIn low k (subtrees t)) []
@@ -112,20 +104,22 @@ module _ (os : List ℕ) (is : causeOf os ≡ done) where
       rw (cut-spot os 0 (found (x .tree)) s d) (subst (λ (w : Walked). Room w most-words) (walk-spot os 0 (found (x .tree)) s d) (whole-ready d))
 
   module _ (k : ℕ) (least : least-k ≤ k) where
-    -- No more than 64 lines stand for a part.
-    pub few-lines : partLines true k os + partLines false k os ≤ most-nodes
-    few-lines =
-        let x = has-tree os is in
-        omega (arith, lines-are k os (x .tree) (x .passes) least true, lines-are k os (x .tree) (x .passes) least false, parts-both k (subtrees (x .tree)) least, x .passes .nodes)
-
-    -- The list of a kind takes an entry's words for each line of the kind at most.
-    pub list-short : (low : Bool) → length (sectionWords (listOf low k os)) ≤ partLines low k os * entry-words
+    -- The list of a kind takes an entry's words for each part of the kind at most.
+    pub list-short : (low : Bool) → length (sectionWords (listOf low k os)) ≤ partWords low k os
     unfolding Sorted sectionWords
     list-short low =
         let x = has-tree os is in
         let t = x .tree in
-        rw (list-is k os t (x .passes) least low, lines-are k os t (x .passes) least low)
-        (omega (arith, parts-size low k (subtrees t) [] least tt (λ s m. omega (arith, subtree-nodes t m, x .passes .nodes))))
+        rw (list-is k os t (x .passes) least low, words-are k os t (x .passes) least low) (omega (arith, each-size (partsIn low k (subtrees t)) [] tt))
+
+    -- All parts have room in the scratch, since each of at most 64 nodes stands in at most k of them.
+    pub few-words : k ≤ greatest-k → partWords true k os + partWords false k os ≤ list-words
+    few-words most =
+        let x = has-tree os is in
+        let t = x .tree in
+        let levels : suc (k - 1) ≤ greatest-k = omega arith in
+        let times : suc (k - 1) * length (subtrees t) ≤ greatest-k * most-nodes = mul-le-mul levels (x .passes .nodes) in
+        omega (arith, words-are k os t (x .passes) least true, words-are k os t (x .passes) least false, parts-both k (subtrees t) least, shares t (k - 1), x .passes .nodes)
 
     -- Its own book has one entry for the order, one for its top, and the two lists.
     pub own-is : ownOf k os ≡ record { k = k; T = counted (cutOf os 0 greatest-depth) 1 ∷ []; R = counted (cutOf os 0 (k - 2)) 1 ∷ []; L = listOf true k os; P = listOf false k os }
@@ -139,8 +133,8 @@ module _ (os : List ℕ) (is : causeOf os ≡ done) where
         rw (x .passes .is, ← all, ← some)
 
     -- It takes no more words than its slice has.
-    pub own-short : used (ownOf k os) ≤ own-words
-    own-short =
+    pub own-short : k ≤ greatest-k → used (ownOf k os) ≤ own-words
+    own-short most =
         let whole = cutOf os 0 greatest-depth in
         let top = cutOf os 0 (k - 2) in
         let e = ap used own-is in
@@ -154,7 +148,7 @@ module _ (os : List ℕ) (is : causeOf os ≡ done) where
           whole-short (k - 2),
           list-short true,
           list-short false,
-          few-lines,
+          few-words most,
         )
 
 -- ---- the slice, stage by stage

@@ -3,10 +3,10 @@ use Prim.Native.Nat.{ℕ, _+_, _*_}
 use mathlib.Core.Bool.{Bool, true, false}
 use mathlib.Core.List.{List, [], _∷_}
 use lib.ListN.{length}
-use Rattle.figures.specs.Limits.{most-nodes, most-words, head-words}
+use Rattle.figures.specs.Limits.{most-nodes, most-words, head-words, greatest-k}
 use Rattle.section.specs.Entries.{Entry, sectionWords}
 use Rattle.changes.specs.declared.Size.{Size}
-use Rattle.trees.specs.Trees.{Tree}
+use Rattle.trees.specs.Trees.{Tree, words}
 use Rattle.trees.specs.Reading.{byOrder, orderOf}
 use Rattle.trees.specs.Parts.{lows, middles, lowParts, middleParts}
 use Rattle.trees.specs.declared.PartAt.{PartAt}
@@ -18,13 +18,15 @@ use Rattle.book.specs.Taught.{emptyBook, addEach, bookOf}
 abbrev pub entry-words : ℕ
 entry-words = 2 + most-words
 
--- What one teaching of an order counts in a section takes no more words: an entry for each line, as long as the longest order's.
+-- All low and middle parts of an order take no more words, nor does what one teaching counts in any one section. Each line stands for one
+-- part, whose entry has a head of two words. The part is the cut at k-1 of the line's subtree, so a node has its two words in the part of its
+-- own line and in those of at most k-1 lines above it.
 abbrev pub list-words : ℕ
-list-words = most-nodes * entry-words
+list-words = most-nodes * (2 + 2 * greatest-k)
 
--- No order's own book takes more words: its head, the order, its top, and a part for each line, each as long as the longest order.
+-- No order's own book takes more words: its head, the order, its top, and all its low and middle parts.
 abbrev pub own-words : ℕ
-own-words = head-words + (2 + most-nodes) * entry-words
+own-words = head-words + 2 * entry-words + list-words
 
 -- The book of one teaching of an order.
 abbrev pub ownBook : ℕ → Tree → Book
@@ -44,9 +46,14 @@ abbrev pub partsOnce : Bool → ℕ → Tree → List Tree
 partsOnce true k t = lowParts k t
 partsOnce false k t = middleParts k t
 
--- How many lines of an order stand for a part of the kind.
-unfoldable pub partLines : Bool → ℕ → List ℕ → ℕ
-partLines low k os = byOrder (orderOf os) (λ n. 0) (λ t. length (occurring low k t))
+-- The words of an entry for each of these trees, as often as they occur.
+unfoldable pub eachWords : List Tree → ℕ
+eachWords [] = 0
+eachWords (t ∷ ts) = 2 + length (words t) + eachWords ts
+
+-- The words of an entry for each part of the kind, as often as it occurs in the order; 0 where the words are no order.
+unfoldable pub partWords : Bool → ℕ → List ℕ → ℕ
+partWords low k os = byOrder (orderOf os) (λ n. 0) (λ t. eachWords (occurring low k t))
 
 -- The entries of one teaching for the order's parts of a kind.
 unfoldable pub listOf : Bool → ℕ → List ℕ → List Entry

@@ -5,7 +5,7 @@ ghost use mathlib.Core.List.{[], _∷_};
 ghost use Prim.Native.Nat.{_+_, _*_, _/_, _≤_, _<_};
 ghost use lib.ListN.{length, replicate};
 ghost use Rattle.words.specs.Base.{over};
-ghost use Rattle.figures.specs.Limits.{least-k, most-nodes};
+ghost use Rattle.figures.specs.Limits.{least-k, greatest-k, most-nodes};
 ghost use Rattle.figures.specs.Numbers.{done};
 ghost use Rattle.section.specs.Entries.{counted, entryWords, sectionWords};
 ghost use Rattle.changes.specs.Editing.{padded};
@@ -14,7 +14,7 @@ ghost use Rattle.trees.specs.Levels.{LinesLevelled};
 ghost use Rattle.trees.specs.Walks.{cutOf, partAtOf};
 ghost use Rattle.book.specs.Book.{sectionOf, lay};
 ghost use Rattle.book.specs.Decoding.{placesOf};
-ghost use Rattle.own.specs.Own.{entry-words, list-words, own-words, ownOf, partLines, listOf, sizeOf, lowAt};
+ghost use Rattle.own.specs.Own.{entry-words, list-words, own-words, ownOf, partWords, listOf, sizeOf, lowAt};
 use book::Places;
 use book::Section;
 use changes::Size;
@@ -25,11 +25,12 @@ use trees::PartAt;
 // The most words that an entry takes.
 const ENTRY_WORDS: usize = 2 + limits::MOST_WORDS;
 
-// What one teaching of an order counts in a section takes no more words: an entry for each line, as long as the longest order's.
-pub const LIST_WORDS: usize = limits::MOST_NODES * ENTRY_WORDS;
+// All low and middle parts of an order take no more words: for each line the two words of an entry's head, and for each node two words in the
+// part of its own line and in those of at most k-1 lines above it.
+pub const LIST_WORDS: usize = limits::MOST_NODES * (2 + 2 * Depth::GREATEST as usize);
 
-// No order's own book takes more words: its head, the order, its top, and a part for each line, each as long as the longest order.
-pub const OWN_WORDS: usize = limits::HEAD_WORDS + (2 + limits::MOST_NODES) * ENTRY_WORDS;
+// No order's own book takes more words: its head, the order, its top, and all its low and middle parts.
+pub const OWN_WORDS: usize = limits::HEAD_WORDS + 2 * ENTRY_WORDS + LIST_WORDS;
 
 // Writes an entry of count 1 for the cut at d of the subtree of a line, the lines counted from 0, to the front of `out`. Answers its number of words.
 fn write_entry(
@@ -81,7 +82,7 @@ fn list_parts(
     requires { ⌜ causeOf (now order) ≡ done ⌝ }
     requires { ⌜ LinesLevelled (now order) (now levels) × (length (now levels) ≡ most-nodes) ⌝ }
     requires { ⌜ now out ≡ replicate (length (now out)) 0 ⌝ }
-    requires { ⌜ partLines low (k .k) (now order) * entry-words ≤ length (now out) ⌝ }
+    requires { ⌜ partWords low (k .k) (now order) ≤ length (now out) ⌝ }
     ensures came { λ r. ⌜ r ≡ sizeOf (listOf low (k .k) (now (order .entry))) ⌝ }
     ensures wrote { λ _. ⌜ now (out .exit) ≡ padded (length (now (out .entry))) (sectionWords (listOf low (k .k) (now (order .entry)))) ⌝ }
 {
@@ -123,7 +124,7 @@ pub fn list_section(
     section: Section,
     out: &mut [u16],
 ) -> Size
-    requires { ⌜ least-k ≤ k .k ⌝ }
+    requires { ⌜ (least-k ≤ k .k) × (k .k ≤ greatest-k) ⌝ }
     requires { ⌜ causeOf (now order) ≡ done ⌝ }
     requires { ⌜ LinesLevelled (now order) (now levels) × (length (now levels) ≡ most-nodes) ⌝ }
     requires { ⌜ now out ≡ replicate (length (now out)) 0 ⌝ }
@@ -146,7 +147,7 @@ pub fn list_own(
     k: Depth,
     own: &mut [u16],
 ) -> Places
-    requires { ⌜ least-k ≤ k .k ⌝ }
+    requires { ⌜ (least-k ≤ k .k) × (k .k ≤ greatest-k) ⌝ }
     requires { ⌜ causeOf (now order) ≡ done ⌝ }
     requires { ⌜ LinesLevelled (now order) (now levels) × (length (now levels) ≡ most-nodes) ⌝ }
     requires { ⌜ now own ≡ replicate (length (now own)) 0 ⌝ }

@@ -1,5 +1,6 @@
 -- The laws of the crate, which the proofs of functions in other crates, and other laws, cite.
 pub mod Cutting
+pub mod Shares
 pub mod Unique
 pub mod Once
 pub mod Paper

@@ -22,7 +22,7 @@ use Rattle.book.specs.declared.Section.{Section}
 use Rattle.book.specs.declared.Section.the-variants.{Taught}
 use Rattle.book.specs.declared.Places.{Places}
 use Rattle.own.specs.Own.{list-words}
-use Rattle.effects.proofs.Outcomes.{least}
+use Rattle.effects.proofs.Outcomes.{allowed}
 use Rattle.agree.specs.Tallies.{partsIn, allKnown, talliedAll}
 use Rattle.agree.proofs.Counting.{taught-cause}
 use Rattle.agree.proofs.tally_taught.Statement.{statement}
@@ -174,7 +174,7 @@ tally-order-requires : tie.Need-tally-order-requires Inv-loop μ-loop
 tally-order-requires c κs =
     let t = c .before .before in
     let b = called (t .before) in
-    ((turn-within t, turn-order t), (least _ _ (b .pre .0), (b .pre .1 .0, ((t .before .loop .inv .long, turn-few t), turn-list (t .before)))))
+    ((turn-within t, turn-order t), (allowed _ _ (b .pre .0), (b .pre .1 .0, ((t .before .loop .inv .long, turn-few t), turn-list (t .before)))))
 
 same-length : tie.Need-same-length Inv-loop μ-loop
 same-length c =

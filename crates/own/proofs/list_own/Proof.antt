@@ -1,5 +1,5 @@
 -- `own::list_own` meets its contract: the slice stage by stage, then its head. Assumes nothing.
-use Prim.Native.Nat.{ℕ, _+_, _*_, _-_, _≤_}
+use Prim.Native.Nat.{ℕ, _+_, _-_, _≤_}
 use mathlib.Core.Path.{_≡_, refl, sym, ap, ap₂, _∙_}
 use mathlib.Core.List.{List, [], _++_}
 use mathlib.Core.Bool.{true, false}
@@ -14,8 +14,8 @@ use Rattle.changes.proofs.Relaying.{length-size}
 use Rattle.trees.specs.Walks.{cutOf}
 use Rattle.book.specs.Book.{lay}
 use Rattle.book.specs.Decoding.{placesOf}
-use Rattle.own.specs.Own.{entry-words, own-words, partLines, listOf}
-use Rattle.own.proofs.Owning.{first-line, whole-short, few-lines, list-short, own-is, Stage, stage-start, stage-long, stage-within, stage-head, stage-fits, stage-zeros, stage-over, stage-padded, head-written, book, book-body, book-live, book-places}
+use Rattle.own.specs.Own.{entry-words, own-words, partWords, listOf}
+use Rattle.own.proofs.Owning.{first-line, whole-short, few-words, list-short, own-is, Stage, stage-start, stage-long, stage-within, stage-head, stage-fits, stage-zeros, stage-over, stage-padded, head-written, book, book-body, book-live, book-places}
 use Rattle.own.proofs.list_own.Statement.{statement}
 use Rattle.own.proofs.list_own.Tie as tie
 
@@ -74,13 +74,13 @@ stage₂ c =
 lows-room : (c : tie.After-write-entry2) →
     let a = c .before .before .before .before .before in
     let x = a .before .before .before .before .args in
-    head-words + a .write-entry .result + c .write-entry2 .result + (partLines true (x .k .k) (x .order .now) + partLines false (x .k .k) (x .order .now)) * entry-words ≤ own-words
+    head-words + a .write-entry .result + c .write-entry2 .result + (partWords true (x .k .k) (x .order .now) + partWords false (x .k .k) (x .order .now)) ≤ own-words
 lows-room c =
     let a = c .before .before .before .before .before in
     let b = a .before .before .before .before in
     let x = b .args in
     let os = x .order .now in
-    omega (arith, a .write-entry .ensures .0, c .write-entry2 .ensures .0, whole-short os (b .pre .1 .0) greatest-depth, whole-short os (b .pre .1 .0) (c .before .before .of-tops .result), few-lines os (b .pre .1 .0) (x .k .k) (b .pre .0))
+    omega (arith, a .write-entry .ensures .0, c .write-entry2 .ensures .0, whole-short os (b .pre .1 .0) greatest-depth, whole-short os (b .pre .1 .0) (c .before .before .of-tops .result), few-words os (b .pre .1 .0) (x .k .k) (b .pre .0 .0) (b .pre .0 .1))
 
 -- The slice once the low parts stand there.
 abbrev own₃ : tie.After-list-parts → List ℕ
@@ -104,21 +104,21 @@ stage₃ c =
     let os = x .order .now in
     let ws = sectionWords (listOf true (x .k .k) os) in
     let uses : c .list-parts .result .used ≡ length ws = ap (λ (z : Size). z .used) (c .list-parts .ensures .0) in
-    stage-padded _ _ _ _ (stage₂ t) ws _ _ (omega (arith, uses)) (omega (arith, b .pre .1 .1 .1 .1, lows-room t, list-short os (b .pre .1 .0) (x .k .k) (b .pre .0) true)) (c .list-parts .ensures .1)
+    stage-padded _ _ _ _ (stage₂ t) ws _ _ (omega (arith, uses)) (omega (arith, b .pre .1 .1 .1 .1, lows-room t, list-short os (b .pre .1 .0) (x .k .k) (b .pre .0 .0) true)) (c .list-parts .ensures .1)
 
 -- Where the middle parts start, there is room for them.
 middles-room : (c : tie.After-list-parts) →
     let t = c .before .before .before .before in
     let a = t .before .before .before .before .before in
     let x = a .before .before .before .before .args in
-    head-words + a .write-entry .result + t .write-entry2 .result + c .list-parts .result .used + partLines false (x .k .k) (x .order .now) * entry-words ≤ own-words
+    head-words + a .write-entry .result + t .write-entry2 .result + c .list-parts .result .used + partWords false (x .k .k) (x .order .now) ≤ own-words
 middles-room c =
     let t = c .before .before .before .before in
     let b = t .before .before .before .before .before .before .before .before .before in
     let x = b .args in
     let os = x .order .now in
     let uses : c .list-parts .result .used ≡ length (sectionWords (listOf true (x .k .k) os)) = ap (λ (z : Size). z .used) (c .list-parts .ensures .0) in
-    omega (arith, uses, lows-room t, list-short os (b .pre .1 .0) (x .k .k) (b .pre .0) true)
+    omega (arith, uses, lows-room t, list-short os (b .pre .1 .0) (x .k .k) (b .pre .0 .0) true)
 
 -- The slice once the middle parts stand there.
 abbrev own₄ : tie.After-list-parts2 → List ℕ
@@ -144,7 +144,7 @@ stage₄ c =
     let os = x .order .now in
     let ws = sectionWords (listOf false (x .k .k) os) in
     let uses : c .list-parts2 .result .used ≡ length ws = ap (λ (z : Size). z .used) (c .list-parts2 .ensures .0) in
-    stage-padded _ _ _ _ (stage₃ l) ws _ _ (omega (arith, uses)) (omega (arith, b .pre .1 .1 .1 .1, middles-room l, list-short os (b .pre .1 .0) (x .k .k) (b .pre .0) false)) (c .list-parts2 .ensures .1)
+    stage-padded _ _ _ _ (stage₃ l) ws _ _ (omega (arith, uses)) (omega (arith, b .pre .1 .1 .1 .1, middles-room l, list-short os (b .pre .1 .0) (x .k .k) (b .pre .0 .0) false)) (c .list-parts2 .ensures .1)
 
 -- The whole has room.
 used-room : (c : tie.After-list-parts2) →
@@ -225,7 +225,7 @@ list-parts-requires : tie.Need-list-parts-requires
 list-parts-requires c κs =
     let t = c .before .before .before in
     let b = t .before .before .before .before .before .before .before .before .before in
-    (b .pre .0, (b .pre .1 .0, (b .pre .1 .1 .0, (stage-zeros _ _ _ _ (stage₂ t), stage-fits _ _ _ _ (stage₂ t) _ (omega (arith, b .pre .1 .1 .1 .1, lows-room t))))))
+    (b .pre .0 .0, (b .pre .1 .0, (b .pre .1 .1 .0, (stage-zeros _ _ _ _ (stage₂ t), stage-fits _ _ _ _ (stage₂ t) _ (omega (arith, b .pre .1 .1 .1 .1, lows-room t))))))
 
 add-middles : tie.Need-add-middles
 add-middles c = omega (arith, middles-room (c .before .before .before))
@@ -246,7 +246,7 @@ list-parts-requires-2 : tie.Need-list-parts-requires-2
 list-parts-requires-2 c κs =
     let l = c .before .before .before .before in
     let b = l .before .before .before .before .before .before .before .before .before .before .before .before .before in
-    (b .pre .0, (b .pre .1 .0, (b .pre .1 .1 .0, (stage-zeros _ _ _ _ (stage₃ l), stage-fits _ _ _ _ (stage₃ l) _ (omega (arith, b .pre .1 .1 .1 .1, middles-room l))))))
+    (b .pre .0 .0, (b .pre .1 .0, (b .pre .1 .1 .0, (stage-zeros _ _ _ _ (stage₃ l), stage-fits _ _ _ _ (stage₃ l) _ (omega (arith, b .pre .1 .1 .1 .1, middles-room l))))))
 
 add-used : tie.Need-add-used
 add-used c = omega (arith, used-room (c .before .before .before))
@@ -301,7 +301,7 @@ returns c =
     let top = cutOf os 0 (k - 2) in
     let ls = listOf true k os in
     let ms = listOf false k os in
-    let own = own-is os (b .pre .1 .0) k (b .pre .0) in
+    let own = own-is os (b .pre .1 .0) k (b .pre .0 .0) in
     let low = l .list-parts .ensures .0 in
     let middle = m .list-parts2 .ensures .0 in
     let came : t .write-entry2 .result ≡ 2 + length top = rw (t .before .before .of-tops .ensures) at (t .write-entry2 .ensures .0) in (

@@ -1,5 +1,5 @@
 -- `own::list_section` meets its contract: a section of the own book is the cut or the list that is written for it. Assumes nothing.
-use Prim.Native.Nat.{ℕ, _*_, _-_, _≤_}
+use Prim.Native.Nat.{ℕ, _-_, _≤_}
 use mathlib.Core.Path.{_≡_, refl, sym, ap, ap₂, _∙_}
 use mathlib.Core.Bool.{Bool, true, false}
 use mathlib.Core.List.{List, [], _∷_}
@@ -13,8 +13,8 @@ use Rattle.trees.specs.Walks.{cutOf}
 use Rattle.book.specs.Book.{Book, sectionOf}
 use Rattle.book.specs.declared.Section.{Section}
 use Rattle.book.specs.declared.Section.the-variants.{Taught, Tops, Lows, Middles}
-use Rattle.own.specs.Own.{entry-words, ownOf, partLines, listOf, sizeOf}
-use Rattle.own.proofs.Owning.{few-lines, own-is}
+use Rattle.own.specs.Own.{entry-words, ownOf, partWords, listOf, sizeOf}
+use Rattle.own.proofs.Owning.{few-words, own-is}
 use Rattle.own.proofs.list_section.Statement.{statement}
 use Rattle.own.proofs.list_section.Tie as tie
 
@@ -35,7 +35,7 @@ listed Middles b = listOf false (b .args .k .k) (b .args .order .now)
 -- The section that is asked for is what is listed for it.
 section-is : (b : tie.Start) (s : Section) → b .args .section ≡ s → listed s b ≡ sectionOf (b .args .section) (ownOf (b .args .k .k) (b .args .order .now))
 unfolding sectionOf
-section-is b s told = is s ∙ sym (ap₂ sectionOf told (own-is (b .args .order .now) (b .pre .1 .0) (b .args .k .k) (b .pre .0)))
+section-is b s told = is s ∙ sym (ap₂ sectionOf told (own-is (b .args .order .now) (b .pre .1 .0) (b .args .k .k) (b .pre .0 .0)))
   where
     is : (s : Section) → listed s b ≡ sectionOf s (own b)
     is Taught = refl
@@ -48,9 +48,9 @@ cut-fits : (b : tie.Start) → entry-words ≤ length (b .args .out .now)
 cut-fits b = omega (arith, b .pre .1 .1 .1 .1)
 
 -- The slice has room for the parts of a kind.
-parts-fit : (b : tie.Start) (low : Bool) → partLines low (b .args .k .k) (b .args .order .now) * entry-words ≤ length (b .args .out .now)
-parts-fit b true = omega (arith, b .pre .1 .1 .1 .1, few-lines (b .args .order .now) (b .pre .1 .0) (b .args .k .k) (b .pre .0))
-parts-fit b false = omega (arith, b .pre .1 .1 .1 .1, few-lines (b .args .order .now) (b .pre .1 .0) (b .args .k .k) (b .pre .0))
+parts-fit : (b : tie.Start) (low : Bool) → partWords low (b .args .k .k) (b .args .order .now) ≤ length (b .args .out .now)
+parts-fit b true = omega (arith, b .pre .1 .1 .1 .1, few-words (b .args .order .now) (b .pre .1 .0) (b .args .k .k) (b .pre .0 .0) (b .pre .0 .1))
+parts-fit b false = omega (arith, b .pre .1 .1 .1 .1, few-words (b .args .order .now) (b .pre .1 .0) (b .args .k .k) (b .pre .0 .0) (b .pre .0 .1))
 
 -- The words of a section with zeros behind them, in a slice of as many words as the one that was lent.
 abbrev laid : tie.Start → List Entry → List ℕ
@@ -75,13 +75,13 @@ enum-told-3 : tie.Need-enum-told-3
 enum-told-3 c = search needs
 
 list-parts-requires : tie.Need-list-parts-requires
-list-parts-requires c κs = let b = c .before .before .before .before .before in (b .pre .0, (b .pre .1 .0, (b .pre .1 .1 .0, (b .pre .1 .1 .1 .0, parts-fit b true))))
+list-parts-requires c κs = let b = c .before .before .before .before .before in (b .pre .0 .0, (b .pre .1 .0, (b .pre .1 .1 .0, (b .pre .1 .1 .1 .0, parts-fit b true))))
 
 enum-told-4 : tie.Need-enum-told-4
 enum-told-4 c = search needs
 
 list-parts-requires-2 : tie.Need-list-parts-requires-2
-list-parts-requires-2 c κs = let b = c .before .before .before .before .before in (b .pre .0, (b .pre .1 .0, (b .pre .1 .1 .0, (b .pre .1 .1 .1 .0, parts-fit b false))))
+list-parts-requires-2 c κs = let b = c .before .before .before .before .before in (b .pre .0 .0, (b .pre .1 .0, (b .pre .1 .1 .0, (b .pre .1 .1 .1 .0, parts-fit b false))))
 
 same-length : tie.Need-same-length
 same-length c = search needs

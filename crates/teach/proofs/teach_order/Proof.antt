@@ -9,7 +9,7 @@ use Rattle.trees.specs.Levels.{LinesLevelled}
 use Rattle.book.specs.Holding.{Holds}
 use Rattle.own.specs.Own.{own-words}
 use Rattle.amend.specs.declared.BookWeighed.{BookWeighed}
-use Rattle.effects.proofs.Outcomes.{all-zeros, told, teach-refused, used-room, least, teach-full, own-holds, teach-overfull, teach-crowded, teach-ready, teach-done}
+use Rattle.effects.proofs.Outcomes.{all-zeros, told, teach-refused, used-room, allowed, teach-full, own-holds, teach-overfull, teach-crowded, teach-ready, teach-done}
 use Rattle.teach.proofs.teach_order.Statement.{statement}
 use Rattle.teach.proofs.teach_order.Tie as tie
 
@@ -58,7 +58,7 @@ list-own-requires : tie.Need-list-own-requires
 list-own-requires c κs =
     let o = c .before .before .before .before in
     let s = o .before .before .before .before .before in
-    (least _ _ (s .pre), (ordered o, (levelled o, (all-zeros own-words, refl))))
+    (allowed _ _ (s .pre), (ordered o, (levelled o, (all-zeros own-words, refl))))
 
 slice-aggregate-weigh-book : tie.Need-slice-aggregate-weigh-book
 slice-aggregate-weigh-book c = search needs

@@ -8,7 +8,7 @@ use Rattle.trees.specs.Reading.{causeOf}
 use Rattle.trees.specs.Levels.{LinesLevelled}
 use Rattle.book.specs.Holding.{Holds}
 use Rattle.own.specs.Own.{own-words}
-use Rattle.effects.proofs.Outcomes.{all-zeros, told, withdraw-refused, least, own-holds, withdraw-untaught, withdraw-ready, withdraw-disagrees, withdraw-done}
+use Rattle.effects.proofs.Outcomes.{all-zeros, told, withdraw-refused, allowed, own-holds, withdraw-untaught, withdraw-ready, withdraw-disagrees, withdraw-done}
 use Rattle.teach.proofs.withdraw_order.Statement.{statement}
 use Rattle.teach.proofs.withdraw_order.Tie as tie
 
@@ -46,7 +46,7 @@ list-own-requires : tie.Need-list-own-requires
 list-own-requires c κs =
     let o = c .before .before in
     let s = o .before .before .before .before .before in
-    (least _ _ (s .pre), (ordered o, (levelled o, (all-zeros own-words, refl))))
+    (allowed _ _ (s .pre), (ordered o, (levelled o, (all-zeros own-words, refl))))
 
 slice-aggregate-weigh-section : tie.Need-slice-aggregate-weigh-section
 slice-aggregate-weigh-section c = search needs
