@@ -247,7 +247,7 @@ walk-start os levels line d k = record {
 
 module _ (os levels : List ℕ) (line d end deep count : ℕ) (known : Known os levels line) (w : Walking os levels line d end deep count) where
   -- A line whose level is greater is counted by what it keeps.
-  walk-next : end < length os / 2 → getD levels line 0 < getD levels end 0
+  pub walk-next : end < length os / 2 → getD levels line 0 < getD levels end 0
       → (n : ℕ) → length (lineKept d (getD levels end 0 - getD levels line 0) (getD os (end * 2) 0) (getD os (end * 2 + 1) 0)) ≡ n
       → Walking os levels line d (end + 1) (max deep (getD levels end 0 - getD levels line 0)) (count + n)
   walk-next h l n e =

@@ -1,3 +1,4 @@
 -- What the proofs of several functions, and those of other crates, use.
 pub mod Listing
+pub mod Lowness
 pub mod Owning

@@ -20,7 +20,6 @@ use book::Section;
 use changes::Size;
 use figures::Depth;
 use figures::limits;
-use trees::PartAt;
 
 // The most words that an entry takes.
 const ENTRY_WORDS: usize = 2 + limits::MOST_WORDS;
@@ -55,18 +54,29 @@ fn write_entry(
     2 + count
 }
 
-// Whether a line, counted from 0, stands for a low part.
+// Whether a line, counted from 0, stands for a low part: no line of its subtree is more than k-2 levels below it.
 fn is_low(order: &[u16], levels: &[u8; limits::MOST_NODES], line: usize, k: Depth) -> bool
     requires { ⌜ causeOf (now order) ≡ done ⌝ }
     requires { ⌜ LinesLevelled (now order) (now levels) × (length (now levels) ≡ most-nodes) ⌝ }
     requires { ⌜ line < length (now order) / 2 ⌝ }
     ensures { λ r. ⌜ r ≡ lowAt (partAtOf (now (order .entry)) (line * 2) (k .k)) ⌝ }
 {
-    match parts::part_line(order, levels, line, k) {
-        PartAt::NoPart => false,
-        PartAt::LowTo { end: _ } => true,
-        PartAt::MiddleTo { end: _, count: _ } => false,
+    let lines = order.len() / 2;
+    let own = levels[line];
+    let deepest = k.of_tops();
+    let mut end = line + 1;
+    while end < lines {
+        let level = levels[end];
+        if level <= own {
+            return true;
+        }
+        let below = (level - own) as usize;
+        if deepest < below {
+            return false;
+        }
+        end += 1;
     }
+    true
 }
 
 // Lists the order's low parts, or its middle parts, at the front of `out`, whose words are zero: an entry of count 1 for each, once however
