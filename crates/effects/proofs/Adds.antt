@@ -30,7 +30,6 @@ use Rattle.effects.specs.Calls.{lowerEach, withdrawn, hasEach, hasParts,
 use Rattle.own.specs.Own.{ownBook}
 use Rattle.amend.specs.Counts.{withinCounts}
 use Rattle.amend.specs.Changing.{withSection, changedIn, changedBook, lackingParts, lackingAll, overfullAny}
-use Rattle.amend.specs.declared.Change.{Change}
 use Rattle.amend.specs.declared.Change.the-variants.{Teach, Withdraw}
 use Rattle.amend.proofs.Sections.{form-sorted, form-fitting}
 use Rattle.amend.proofs.Changed.{changed-section, used-changed}

@@ -1,18 +1,15 @@
 -- Whether a line stands for a low part, by the levels of the lines that follow it: the first that is too deep decides. Assumes nothing.
 use Prim.Native.Nat.{ℕ, _+_, _-_, _*_, _/_, _≤_, _<_, max}
-use mathlib.Core.Path.{_≡_, refl, ap, sym, _∙_}
-use mathlib.Core.Bool.{Bool, true, false}
+use mathlib.Core.Path.{_≡_, refl, ap, sym}
+use mathlib.Core.Bool.{true, false}
 use mathlib.Core.List.{List}
 use native.Mathlib.Omega.{arith}
 use lib.ListN.{length, getD}
 use Rattle.figures.specs.Limits.{most-words}
-use Rattle.trees.specs.Walks.{walkOf, partAtOf}
-use Rattle.trees.specs.Levels.{levelsIn}
-use Rattle.trees.specs.declared.Walked.the-variants.{Whole}
+use Rattle.trees.specs.Walks.{partAtOf}
 use Rattle.trees.proofs.Spots.{line-at, short-order}
 use Rattle.trees.proofs.PartsAt.{part-low, part-middle}
-use Rattle.trees.proofs.SubtreeLevels.{deepest}
-use Rattle.cuts.proofs.ByLevels.{Known, Going, Walking, walk-start, walk-next, walk-low, walk-all}
+use Rattle.cuts.proofs.ByLevels.{Known, Walking, walk-start, walk-next, walk-low, walk-all}
 use Rattle.own.specs.Own.{lowAt}
 
 -- The subtree of a line is gone over up to line `end`, and none of its lines so far is more than `most` levels below it.

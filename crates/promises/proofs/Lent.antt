@@ -3,7 +3,7 @@
 -- function changes more than its contract says. Assumes nothing.
 use Prim.Native.Nat.{ℕ}
 use mathlib.Core.Path.{_≡_, refl}
-use mathlib.Core.List.{List, [], _∷_}
+use mathlib.Core.List.{[], _∷_}
 use contract.Lifetimes.{Within}
 use denote.Builtin
 use denote.Signature.{Slot, plain}

@@ -15,7 +15,7 @@ use Rattle.figures.specs.Limits.{least-k, greatest-k, greatest-count, head-word
 use Rattle.figures.specs.Numbers.{done}
 use Rattle.figures.specs.Answers.{answered}
 use Rattle.figures.specs.declared.Answer.{Answer}
-use Rattle.section.specs.Entries.{Entry, has}
+use Rattle.section.specs.Entries.{has}
 use Rattle.section.proofs.Counts.{has-counts}
 use Rattle.trees.specs.Trees.{Tree}
 use Rattle.trees.specs.Reading.{orderOf, order}
@@ -39,7 +39,7 @@ use Rattle.effects.proofs.Conditions.{teach-0, teach-writes, teach-refusal-leav
 use Rattle.effects.proofs.Counted.{taught-uses}
 use Rattle.effects.proofs.Undoing.{undo}
 use Rattle.effects.proofs.Sequences.{teach-agrees, withdraw-agrees}
-use Rattle.effects.proofs.Agreeing.{TaughtOrders, form-orders}
+use Rattle.effects.proofs.Agreeing.{form-orders}
 use Rattle.amend.proofs.Sums.{added}
 use Rattle.sums.specs.Joining.{joined, joinOf}
 use Rattle.sums.proofs.Joined.{joined-adds, joined-live}

@@ -1,7 +1,7 @@
 -- What a run starts with: an opened book is the book of no orders, and the book of a file that was read is the book of the orders that its T counts,
 -- each as often as it counts. Assumes nothing.
 use Prim.Native.Nat.{ℕ, _≤_}
-use mathlib.Core.Path.{_≡_, refl, sym, ap, _∙_}
+use mathlib.Core.Path.{_≡_, sym, ap, _∙_}
 use mathlib.Core.Bool.{true}
 use mathlib.Core.List.{List, []}
 use mathlib.Core.Option.{Option}

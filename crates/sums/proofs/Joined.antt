@@ -5,18 +5,16 @@ use mathlib.Core.Path.{_≡_, sym, ap, ap₂, _∙_}
 use mathlib.Core.Bool.{true, false}
 use mathlib.Core.List.{List, [], _++_, append-nil}
 use native.Mathlib.Omega.{arith}
-use lib.Dec.{leb}
 use borrow.Author.Tests.{le-leb, lt-leb}
 use Rattle.words.proofs.Tests.{and-both, fails-left}
 use Rattle.figures.specs.Limits.{greatest-count}
 use Rattle.section.specs.Entries.{countOf}
 use Rattle.book.specs.Book.{Book, sectionOf, used, live, inForm}
-use Rattle.book.specs.Sound.{SoundBook}
 use Rattle.book.specs.Taught.{Teaching, bookOf, teachingsIn, agreeing}
 use Rattle.book.specs.declared.Section.{Section}
 use Rattle.book.specs.declared.Section.the-variants.{Taught, Tops, Lows, Middles}
 use Rattle.book.proofs.Sound.{form-sound, sound-form}
-use Rattle.book.proofs.Taught.{taught-k, taught-formed}
+use Rattle.book.proofs.Taught.{taught-formed}
 use Rattle.amend.specs.Counts.{withinCounts}
 use Rattle.amend.proofs.Sections.{form-sorted, form-fitting}
 use Rattle.amend.proofs.Changed.{live-changed}
@@ -64,11 +62,7 @@ module _ (b c : Book) (g : Grown b) (h : Grown c) (same : b .k ≡ c .k) where
   pub joined-turned : joined b c ≡ added b c
   joined-turned = joined-adds ∙ added-turns c b (in-order c h) (in-order b g) (sym same)
 
-  -- It takes no fewer words than the first.
-  pub first-uses : used b ≤ used (joined b c)
-  first-uses = omega (arith, ap used joined-adds, added-uses c b (in-order c h) (in-order b g))
-
-  -- Nor fewer than the second.
+  -- It takes no fewer words than the second.
   pub second-uses : used c ≤ used (joined b c)
   second-uses = omega (arith, ap used joined-turned, added-uses b c (in-order b g) (in-order c h))
 

@@ -1,6 +1,6 @@
 -- `agree::both_agree` meets its contract: the second book finds the list as the first did. Assumes nothing.
 use mathlib.Core.Path.{_≡_, refl, sym, subst, _∙_}
-use mathlib.Core.Bool.{Bool, true, false}
+use mathlib.Core.Bool.{Bool, true}
 use mathlib.Core.List.{List}
 use lib.ListN.{length, replicate}
 use Prim.Native.Nat.{ℕ}

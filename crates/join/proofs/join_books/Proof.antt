@@ -1,5 +1,5 @@
 -- `join::join_books` meets its contract, by the tests that it makes in turn. Assumes nothing.
-use mathlib.Core.Path.{_≡_, _∙_}
+use mathlib.Core.Path.{_∙_}
 use borrow.Author.Needs.{needs}
 use Rattle.book.specs.Decoding.{bookIn}
 use Rattle.effects.proofs.Outcomes.{told}
