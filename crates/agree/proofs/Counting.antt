@@ -11,58 +11,28 @@ use Rattle.words.specs.Base.{_and_, _∈_}
 use Rattle.words.proofs.Tests.{no-test, and-left, and-right, and-both}
 use Rattle.figures.specs.Limits.{greatest-count, head-words}
 use Rattle.figures.specs.Numbers.{done}
-use Rattle.section.specs.Entries.{Entry, sectionWords, has, countOf, Sorted, Even}
+use Rattle.section.specs.Entries.{Entry, sectionWords, has, countOf}
 use Rattle.section.proofs.Counts.{has-entry, entry-count, counts-has, lacks-counts}
 use Rattle.section.proofs.Sorting.{same-counts}
-use Rattle.section.proofs.Sizes.{size-first, even-add}
+use Rattle.section.proofs.Sizes.{size-first}
 use Rattle.tally.specs.Tallying.{Few, sameCounts}
-use Rattle.trees.specs.Trees.{Tree, words}
-use Rattle.trees.specs.Reading.{Order, refused, order, byOrder, orderOf, causeOf}
+use Rattle.trees.specs.Reading.{byOrder, causeOf}
 use Rattle.trees.proofs.Orders.{size, some-lines}
 use Rattle.trees.proofs.Fitting.{order-read}
 use Rattle.book.specs.Book.{Book, sectionOf, used, live, inForm}
 use Rattle.book.specs.Decoding.{bookIn}
 use Rattle.book.specs.Holding.{Holds}
-use Rattle.book.specs.Taught.{addEach, bookOf}
 use Rattle.book.specs.declared.Section.{Section}
 use Rattle.book.specs.declared.Places.{Places}
 use Rattle.book.proofs.Meaning.{form-proper, either}
 use Rattle.book.proofs.Sound.{form-sound, sound-section}
 use Rattle.book.proofs.Sections.{form-keys}
-use Rattle.book.proofs.Taught.{same-section, section-same, none-in}
-use Rattle.own.specs.Own.{ownBook, ownOf}
+use Rattle.book.proofs.Taught.{same-section, section-same}
 use Rattle.amend.proofs.Sections.{form-sorted, used-split}
 use Rattle.amend.proofs.Stages.{uses}
-use Rattle.effects.specs.Calls.{treesIn}
-use Rattle.effects.proofs.Adds.{own-section, own-sorted}
 use Rattle.effects.proofs.Agreeing.{form-orders, teachings-sorted}
-use Rattle.agree.specs.Tallies.{partsIn, allKnown, talliedAll, agreeingIn, Roomy}
+use Rattle.agree.specs.Tallies.{allKnown, talliedAll, agreeingIn, Roomy}
 use Rattle.agree.proofs.Tallied.{countedIn, count-most, countsBy, counts-few, tallied-is, same-by, by-same, counted-known, known-counted}
-
--- ---- what one teaching of an order counts
-
--- What holds of the section of any order's own book, and of no entries, holds of what the order with these words counts.
-parts-by : (Q : List Entry → Type 0) (s : Section) (k : ℕ) (os : List ℕ) → Q [] → ((t : Tree) → Q (sectionOf s (ownBook k t))) → Q (partsIn s k os)
-unfolding ownOf byOrder bookOf
-parts-by Q s k os none own = go (orderOf os)
-  where
-    go : (o : Order) → Q (sectionOf s (byOrder o (λ n. bookOf k []) (ownBook k)))
-    go (refused n) = rw (none-in s k) none
-    go (order t) = own t
-
--- What one teaching of an order counts in a section is sorted.
-pub parts-sorted : (s : Section) (k : ℕ) (os : List ℕ) → Sorted (partsIn s k os)
-parts-sorted s k os = parts-by Sorted s k os (unfold Sorted in tt) (λ t. own-sorted k t s)
-
--- Entries of n of each tree have two words a node.
-even-each : (n : ℕ) (ts : List Tree) → Even (addEach n ts [])
-unfolding addEach Even
-even-each n [] = tt
-even-each n (t ∷ ts) = even-add n (words t) (addEach n ts []) (omega (arith, size t)) (even-each n ts)
-
--- What one teaching of an order counts in a section has two words a node.
-pub parts-even : (s : Section) (k : ℕ) (os : List ℕ) → Even (partsIn s k os)
-parts-even s k os = parts-by Even s k os (unfold Even in tt) (λ t. rw (own-section 1 k t s) (even-each 1 (treesIn s k t)))
 
 -- ---- a section of a book in form
 

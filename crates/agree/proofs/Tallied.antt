@@ -1,6 +1,6 @@
 -- What the orders of a T in form count in a section, what is tallied for them there, and what the tests of the tallies say. Assumes nothing.
 use Prim.Native.Nat.{ℕ, zero, suc, _+_, _≤_}
-use mathlib.Core.Path.{_≡_, refl, sym, ap, _∙_}
+use mathlib.Core.Path.{_≡_, refl, sym, ap, ap₂, _∙_}
 use mathlib.Core.Bool.{Bool, true, false}
 use mathlib.Core.List.{List, [], _∷_, List·Memᴰ·head as here, List·Memᴰ·tail as there, List·Memᴰ·not-nil}
 use native.Mathlib.Omega.{arith}
@@ -11,7 +11,8 @@ use Rattle.words.proofs.Tests.{and-left, and-right, and-both, words-same}
 use Rattle.figures.specs.Limits.{greatest-depth}
 use Rattle.section.specs.Entries.{Entry, has, countOf, total, Sorted}
 use Rattle.section.proofs.Counts.{counts-own, counts-other, count-add, has-add, has-entry, entry-has}
-use Rattle.tally.specs.Tallying.{hasAll, tallied, sameCounts}
+use Rattle.tally.specs.Tallying.{onEach, tallied, sameCounts}
+use Rattle.tally.proofs.Tallies.{each-known, known-each}
 use Rattle.trees.specs.Trees.{Tree, words}
 use Rattle.trees.specs.Reading.{byOrder}
 use Rattle.trees.specs.Fits.{Fits}
@@ -110,9 +111,13 @@ counts-few f n (e ∷ es) h (suc i) = counts-few f n es h i
 
 -- What is tallied for an order is n more for each key that it counts.
 tallied-counts : (n : ℕ) (os es : List Entry) (f : List ℕ → ℕ) → tallied n os es (countsBy f es) ≡ countsBy (λ z. f z + (if has z os then n else 0)) es
-unfolding tallied countsBy
+unfolding onEach countsBy if_then_else_
 tallied-counts n os [] f = refl
-tallied-counts n os (e ∷ es) f = ap (λ (cs : List ℕ). (f (e .key) + (if has (e .key) os then n else 0)) ∷ cs) (tallied-counts n os es f)
+tallied-counts n os (e ∷ es) f = ap₂ (λ (c : ℕ) (cs : List ℕ). c ∷ cs) (go (has (e .key) os)) (tallied-counts n os es f)
+  where
+    go : (b : Bool) → (if b then f (e .key) + n else f (e .key)) ≡ f (e .key) + (if b then n else 0)
+    go true = refl
+    go false = omega arith
 
 -- What is tallied for the orders of a T in form is, for each key, what they count.
 all-counts : (s : Section) (k : ℕ) (ts es : List Entry) → TaughtOrders ts → (f : List ℕ → ℕ) → talliedAll s k ts es (countsBy f es) ≡ countsBy (λ z. f z + countOf z (countedIn s k ts)) es
@@ -141,19 +146,6 @@ unfolding sameCounts countsBy
 by-same f [] h i m = absurd (List·Memᴰ·not-nil m)
 by-same f (e ∷ es) h i (here q) = rw q (eqb-true (e .count) (f (e .key)) (and-left _ _ h))
 by-same f (e ∷ es) h i (there m) = by-same f es (and-right _ _ h) i m
-
--- The test for keys passes where each key of the first list has an entry among the second.
-each-known : (os es : List Entry) → ((o : Entry) → o ∈ os → has (o .key) es ≡ true) → hasAll os es ≡ true
-unfolding hasAll
-each-known [] es h = refl
-each-known (o ∷ os) es h = and-both (h o (here refl)) (each-known os es (λ i m. h i (there m)))
-
--- It passes only where each has one.
-known-each : (os es : List Entry) → hasAll os es ≡ true → (o : Entry) → o ∈ os → has (o .key) es ≡ true
-unfolding hasAll
-known-each [] es h i m = absurd (List·Memᴰ·not-nil m)
-known-each (o ∷ os) es h i (here q) = rw q (and-left _ _ h)
-known-each (o ∷ os) es h i (there m) = known-each os es (and-right _ _ h) i m
 
 module _ (s : Section) (k : ℕ) where
   -- All is known where each key that the orders count has an entry.

@@ -17,7 +17,7 @@ use Rattle.own.specs.Own.{ownOf}
 abbrev pub most-entries : ℕ
 most-entries = (most-book-words - head-words) / 4
 
--- The entries that the scratch for a small book has room for: places and counts of so many are two kilobytes to clear, of the most sixteen.
+-- The entries that the scratch for a small book has room for: places, counts and marks of so many are three kilobytes to clear, of the most twenty-four.
 abbrev pub small-entries : ℕ
 small-entries = 512
 

@@ -5,16 +5,15 @@ ghost use mathlib.Core.Bool.{true};
 ghost use Prim.Native.Nat.{_+_, _≤_};
 ghost use lib.ListN.{length, drop, replicate};
 ghost use Rattle.words.specs.Base.{_and_};
-ghost use Rattle.figures.specs.Limits.{least-k, greatest-k};
+ghost use Rattle.figures.specs.Limits.{least-k};
 ghost use Rattle.figures.specs.Numbers.{done};
 ghost use Rattle.section.specs.Entries.{width, firstEntry};
-ghost use Rattle.tally.specs.Tallying.{listed, Indexed, hasAll, tallied, Few};
+ghost use Rattle.tally.specs.Tallying.{listed, Indexed, Few, Ready, Taken};
 ghost use Rattle.trees.specs.Reading.{causeOf};
 ghost use Rattle.book.specs.Book.{sectionOf};
 ghost use Rattle.book.specs.Decoding.{bookIn};
 ghost use Rattle.book.specs.Holding.{Holds};
 ghost use Rattle.book.specs.Taught.{agreeing};
-ghost use Rattle.own.specs.Own.{list-words};
 ghost use Rattle.book.specs.Checking.{checkOf};
 ghost use Rattle.agree.specs.Tallies.{small-book, partsIn, allKnown, talliedAll, agreeingIn, Roomy};
 use book::BookForm;
@@ -30,14 +29,14 @@ use section::past;
 // No section has more entries: the shortest entry, that of a single node, takes four words.
 const MOST_ENTRIES: usize = (limits::MOST_BOOK_WORDS - limits::HEAD_WORDS) / 4;
 
-// The entries that the scratch for a small book has room for: places and counts of so many are two kilobytes to clear, of the most sixteen.
+// The entries that the scratch for a small book has room for: places, counts and marks of so many are three kilobytes to clear, of the most twenty-four.
 const SMALL_ENTRIES: usize = 512;
 
 // No section of a book that uses at most so many words has more entries: the shortest takes four words.
 const SMALL_BOOK: usize = limits::HEAD_WORDS + 4 * SMALL_ENTRIES;
 
-// Tallies what the taught order at word `at` counts in a section, for the section's listed entries, by way of a scratch of zeros. Answers
-// false where a part has no entry.
+// Tallies what the taught order at word `at` counts in a section, for the section's listed entries, by marks of this turn. Answers false where
+// a part has no entry; what was tallied then is of no use.
 fn tally_order(
     book: &[u16],
     at: usize,
@@ -45,55 +44,57 @@ fn tally_order(
     section: Section,
     starts: &[u16],
     counts: &mut [u16],
-    list: &mut [u16],
+    marks: &mut [u16],
+    turn: u16,
 ) -> bool
     requires { ⌜ (at + width (drop at (now book)) ≤ length (now book)) × (causeOf (firstEntry (drop at (now book)) .key) ≡ done) ⌝ }
-    requires { ⌜ (least-k ≤ k .k) × (k .k ≤ greatest-k) ⌝ }
+    requires { ⌜ least-k ≤ k .k ⌝ }
     requires { ⌜ Indexed (now starts) (now book) ⌝ }
-    requires { ⌜ (length (now counts) ≡ length (now starts)) ×
-        Few (tallied (firstEntry (drop at (now book)) .count) (partsIn section (k .k) (firstEntry (drop at (now book)) .key)) (listed (now starts) (now book)) (now counts)) ⌝ }
-    requires { ⌜ (now list ≡ replicate (length (now list)) 0) × (length (now list) ≡ list-words) ⌝ }
-    ensures known { λ r. ⌜ r ≡ hasAll (partsIn section (k .k) (firstEntry (drop at (now (book .entry))) .key)) (listed (now (starts .entry)) (now (book .entry))) ⌝ }
-    ensures counted { λ r. ⌜ (r ≡ true → now (counts .exit) ≡
-        tallied (firstEntry (drop at (now (book .entry))) .count) (partsIn section (k .k) (firstEntry (drop at (now (book .entry))) .key))
-        (listed (now (starts .entry)) (now (book .entry))) (now (counts .entry))) ⌝ }
-    ensures cleared { λ _. ⌜ now (list .exit) ≡ now (list .entry) ⌝ }
+    requires { ⌜ Ready turn (firstEntry (drop at (now book)) .count) (partsIn section (k .k) (firstEntry (drop at (now book)) .key)) (listed (now starts) (now book)) (now counts) (now marks) ⌝ }
+    ensures { λ r. ⌜ Taken turn (firstEntry (drop at (now (book .entry))) .count) (partsIn section (k .k) (firstEntry (drop at (now (book .entry))) .key))
+        (listed (now (starts .entry)) (now (book .entry))) (now (counts .entry)) (now (marks .entry)) (now (counts .exit)) (now (marks .exit)) r ⌝ }
 {
     let start = at + 2;
     let end = past(book, at);
     let by = book[at + 1];
     let mut levels = [0u8; limits::MOST_NODES];
     order::cause_into(&book[start..end], &mut levels);
-    let size = own::list_section(&book[start..end], &levels, k, section, list);
-    let known = tally::tally(book, starts, counts, list, size.many, by);
-    let used = size.used;
-    words::clear(&mut list[0..used]);
-    known
+    own::tally_section(
+        &book[start..end],
+        &levels,
+        k,
+        section,
+        book,
+        starts,
+        counts,
+        marks,
+        turn,
+        by,
+    )
 }
 
-// Tallies what all taught orders count in a section, for the section's listed entries, by way of a scratch of zeros, which is zeros again in the
-// end. Answers false where a part has no entry; what was tallied then is of no use.
+// Tallies what all taught orders count in a section, for the section's listed entries, none of which is marked. An order's turn has the number of
+// orders left. Answers false where a part has no entry; what was tallied then is of no use.
 fn tally_taught(
     book: &[u16],
     places: Places,
     section: Section,
     starts: &[u16],
     counts: &mut [u16],
-    list: &mut [u16],
+    marks: &mut [u16],
 ) -> bool
     requires { ⌜ Holds (now book) places ⌝ }
     requires { ⌜ Indexed (now starts) (now book) ⌝ }
     requires { ⌜ (length (now counts) ≡ length (now starts)) × Few (talliedAll section (bookIn (now book) .k) (bookIn (now book) .T) (listed (now starts) (now book)) (now counts)) ⌝ }
-    requires { ⌜ (now list ≡ replicate (length (now list)) 0) × (length (now list) ≡ list-words) ⌝ }
+    requires { ⌜ now marks ≡ replicate (length (now starts)) 0 ⌝ }
     ensures known { λ r. ⌜ r ≡ allKnown section (bookIn (now (book .entry)) .k) (bookIn (now (book .entry)) .T) (listed (now (starts .entry)) (now (book .entry))) ⌝ }
     ensures counted { λ r. ⌜ (r ≡ true → now (counts .exit) ≡
         talliedAll section (bookIn (now (book .entry)) .k) (bookIn (now (book .entry)) .T) (listed (now (starts .entry)) (now (book .entry))) (now (counts .entry))) ⌝ }
-    ensures cleared { λ _. ⌜ now (list .exit) ≡ now (list .entry) ⌝ }
 {
     let mut at = limits::HEAD_WORDS;
     let mut left = book[limits::TAUGHT_WORD];
     while 0 < left {
-        if !tally_order(book, at, places.k, section, starts, counts, list) {
+        if !tally_order(book, at, places.k, section, starts, counts, marks, left) {
             return false;
         }
         at = past(book, at);
@@ -102,25 +103,25 @@ fn tally_taught(
     true
 }
 
-// Whether a section of a book in form is that of its T, trees and counts. Lent as scratch: places and counts for its entries, with any words in
-// them, and a list of zeros, which is zeros again in the end.
+// Whether a section of a book in form is that of its T, trees and counts. Lent as scratch: places, counts and marks for its entries, with any
+// words in them.
 fn section_agrees(
     book: &[u16],
     places: Places,
     section: Section,
     starts: &mut [u16],
     counts: &mut [u16],
-    list: &mut [u16],
+    marks: &mut [u16],
 ) -> bool
     requires { ⌜ Holds (now book) places ⌝ }
     requires { ⌜ length (sectionOf section (bookIn (now book))) ≤ length (now starts) ⌝ }
     requires { ⌜ length (sectionOf section (bookIn (now book))) ≤ length (now counts) ⌝ }
-    requires { ⌜ (now list ≡ replicate (length (now list)) 0) × (length (now list) ≡ list-words) ⌝ }
-    ensures agrees { λ r. ⌜ r ≡ agreeingIn section (bookIn (now (book .entry))) ⌝ }
-    ensures cleared { λ _. ⌜ now (list .exit) ≡ now (list .entry) ⌝ }
+    requires { ⌜ length (sectionOf section (bookIn (now book))) ≤ length (now marks) ⌝ }
+    ensures { λ r. ⌜ r ≡ agreeingIn section (bookIn (now (book .entry))) ⌝ }
 {
     let many = book[book::slot(section)] as usize;
     words::clear(&mut counts[0..many]);
+    words::clear(&mut marks[0..many]);
     tally::index(book, book::start(section, places), many, starts);
     if !tally_taught(
         book,
@@ -128,7 +129,7 @@ fn section_agrees(
         section,
         &starts[0..many],
         &mut counts[0..many],
-        list,
+        &mut marks[0..many],
     ) {
         return false;
     }
@@ -141,60 +142,55 @@ fn sections_agree(
     places: Places,
     starts: &mut [u16],
     counts: &mut [u16],
-    list: &mut [u16],
+    marks: &mut [u16],
 ) -> bool
     requires { ⌜ Holds (now book) places ⌝ }
     requires { ⌜ Roomy (now book) (length (now starts)) ⌝ }
     requires { ⌜ Roomy (now book) (length (now counts)) ⌝ }
-    requires { ⌜ (now list ≡ replicate (length (now list)) 0) × (length (now list) ≡ list-words) ⌝ }
-    ensures agrees { λ r. ⌜ r ≡ agreeing (bookIn (now (book .entry))) ⌝ }
-    ensures cleared { λ _. ⌜ now (list .exit) ≡ now (list .entry) ⌝ }
+    requires { ⌜ Roomy (now book) (length (now marks)) ⌝ }
+    ensures { λ r. ⌜ r ≡ agreeing (bookIn (now (book .entry))) ⌝ }
 {
-    if !section_agrees(book, places, Section::Tops, starts, counts, list) {
+    if !section_agrees(book, places, Section::Tops, starts, counts, marks) {
         return false;
     }
-    if !section_agrees(book, places, Section::Lows, starts, counts, list) {
+    if !section_agrees(book, places, Section::Lows, starts, counts, marks) {
         return false;
     }
-    section_agrees(book, places, Section::Middles, starts, counts, list)
+    section_agrees(book, places, Section::Middles, starts, counts, marks)
 }
 
-// Whether a book in form that uses few words agrees with itself, in a small scratch and a lent list of zeros, which is zeros again in the end.
-fn agrees_small(book: &[u16], places: Places, list: &mut [u16]) -> bool
+// Whether a book in form that uses few words agrees with itself, in a small scratch.
+fn agrees_small(book: &[u16], places: Places) -> bool
     requires { ⌜ Holds (now book) places ⌝ }
     requires { ⌜ places .used ≤ small-book ⌝ }
-    requires { ⌜ (now list ≡ replicate (length (now list)) 0) × (length (now list) ≡ list-words) ⌝ }
-    ensures agrees { λ r. ⌜ r ≡ agreeing (bookIn (now (book .entry))) ⌝ }
-    ensures cleared { λ _. ⌜ now (list .exit) ≡ now (list .entry) ⌝ }
+    ensures { λ r. ⌜ r ≡ agreeing (bookIn (now (book .entry))) ⌝ }
 {
     let mut starts = [0u16; SMALL_ENTRIES];
     let mut counts = [0u16; SMALL_ENTRIES];
-    sections_agree(book, places, &mut starts, &mut counts, list)
+    let mut marks = [0u16; SMALL_ENTRIES];
+    sections_agree(book, places, &mut starts, &mut counts, &mut marks)
 }
 
-// Whether any book in form agrees with itself, in a scratch for the most entries and a lent list of zeros, which is zeros again in the end.
-fn agrees_large(book: &[u16], places: Places, list: &mut [u16]) -> bool
+// Whether any book in form agrees with itself, in a scratch for the most entries.
+fn agrees_large(book: &[u16], places: Places) -> bool
     requires { ⌜ Holds (now book) places ⌝ }
-    requires { ⌜ (now list ≡ replicate (length (now list)) 0) × (length (now list) ≡ list-words) ⌝ }
-    ensures agrees { λ r. ⌜ r ≡ agreeing (bookIn (now (book .entry))) ⌝ }
-    ensures cleared { λ _. ⌜ now (list .exit) ≡ now (list .entry) ⌝ }
+    ensures { λ r. ⌜ r ≡ agreeing (bookIn (now (book .entry))) ⌝ }
 {
     let mut starts = [0u16; MOST_ENTRIES];
     let mut counts = [0u16; MOST_ENTRIES];
-    sections_agree(book, places, &mut starts, &mut counts, list)
+    let mut marks = [0u16; MOST_ENTRIES];
+    sections_agree(book, places, &mut starts, &mut counts, &mut marks)
 }
 
-// Whether a book in form agrees with itself, in the small scratch where that has room. The list lent is of zeros, and is so again in the end.
-fn agrees(book: &[u16], places: Places, list: &mut [u16]) -> bool
+// Whether a book in form agrees with itself, in the small scratch where that has room.
+fn agrees(book: &[u16], places: Places) -> bool
     requires { ⌜ Holds (now book) places ⌝ }
-    requires { ⌜ (now list ≡ replicate (length (now list)) 0) × (length (now list) ≡ list-words) ⌝ }
-    ensures agrees { λ r. ⌜ r ≡ agreeing (bookIn (now (book .entry))) ⌝ }
-    ensures cleared { λ _. ⌜ now (list .exit) ≡ now (list .entry) ⌝ }
+    ensures { λ r. ⌜ r ≡ agreeing (bookIn (now (book .entry))) ⌝ }
 {
     if places.used <= SMALL_BOOK {
-        return agrees_small(book, places, list);
+        return agrees_small(book, places);
     }
-    agrees_large(book, places, list)
+    agrees_large(book, places)
 }
 
 // Whether a book in form agrees with itself: 9, or 0.
@@ -202,24 +198,22 @@ pub fn check_sections(book: &[u16], places: Places) -> Answer
     requires { ⌜ Holds (now book) places ⌝ }
     ensures { λ r. ⌜ r ≡ checkOf (now (book .entry)) ⌝ }
 {
-    let mut list = [0u16; own::LIST_WORDS];
-    if !agrees(book, places, &mut list) {
+    if !agrees(book, places) {
         return answered(numbers::NOT_AGREEING);
     }
     answered(numbers::DONE)
 }
 
-// Whether two books in form agree with themselves, the one and then the other, by one list.
+// Whether two books in form agree with themselves, the one and then the other.
 pub fn both_agree(book: &[u16], places: Places, other: &[u16], others: Places) -> bool
     requires { ⌜ Holds (now book) places ⌝ }
     requires { ⌜ Holds (now other) others ⌝ }
     ensures { λ r. ⌜ r ≡ (agreeing (bookIn (now (book .entry))) and agreeing (bookIn (now (other .entry)))) ⌝ }
 {
-    let mut list = [0u16; own::LIST_WORDS];
-    if !agrees(book, places, &mut list) {
+    if !agrees(book, places) {
         return false;
     }
-    agrees(other, others, &mut list)
+    agrees(other, others)
 }
 
 // Whether the words are a book that agrees with itself: 4, 5, 9, or 0.

@@ -7,11 +7,13 @@ use mathlib.Core.List.{List, [], _∷_, _++_, append-assoc, List·Memᴰ·head a
 use native.Mathlib.Omega.{arith}
 use lib.ListN.{length, take, drop}
 use lib.Seq.{take-all}
-use Rattle.words.specs.Base.{if_then_else_, _∈_}
+use Rattle.words.specs.Base.{if_then_else_, sameWords, _∈_}
 use Rattle.words.specs.Compare.{_≺_}
+use Rattle.words.proofs.Tests.{words-same}
 use Rattle.section.specs.Entries.{Entry, counted, entryWords, sectionWords, width, firstEntry, entries, has, look, Below, Sorted, add}
 use Rattle.changes.specs.Editing.{addOnce, Laid, Edited}
 use Rattle.section.specs.declared.Found.the-variants.{At, Absent}
+use Rattle.section.proofs.Counts.{has-add}
 use Rattle.section.proofs.Searches.{look-has, look-lacks, look-gap}
 use Rattle.section.proofs.Sorting.{sorted-add}
 use Rattle.changes.proofs.Adding.{add-below}
@@ -37,6 +39,16 @@ module _ (e : Entry) (es : List Entry) where
       go : (b : Bool) → has (e .key) es ≡ b → Sorted (addOnce e es)
       go true h = rw (once-has h) s
       go false h = rw (once-lacks h) (sorted-add (e .count) (e .key) es p s)
+
+-- With an entry once more a section has its key, and those it had.
+pub has-once : (e : Entry) (es : List Entry) (z : List ℕ) → has z (addOnce e es) ≡ (if sameWords (e .key) z then true else has z es)
+unfolding if_then_else_
+has-once e es z = go (has (e .key) es) refl (sameWords (e .key) z) refl
+  where
+    go : (b : Bool) → has (e .key) es ≡ b → (c : Bool) → sameWords (e .key) z ≡ c → has z (addOnce e es) ≡ (if sameWords (e .key) z then true else has z es)
+    go true h true t = rw (once-has e es h, t, ← words-same (e .key) z t) h
+    go true h false t = rw (once-has e es h, t)
+    go false h c t = rw (once-lacks e es h) (has-add (e .count) (e .key) z es)
 
 -- n more of a key that has no entry are entered between the entries with lower keys and the others.
 pub add-gap : (n : ℕ) (key : List ℕ) (front back : List Entry) → ((e : Entry) → e ∈ front → e .key ≺ key) → Below key back

@@ -2,3 +2,5 @@
 pub mod Listing
 pub mod Lowness
 pub mod Owning
+pub mod Turns
+pub mod Written

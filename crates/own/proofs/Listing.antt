@@ -20,7 +20,7 @@ use Rattle.section.proofs.Sizes.{size-add, even-add}
 use Rattle.section.proofs.Words.{words-entries, words-span}
 use Rattle.section.proofs.Counts.{has-add}
 use Rattle.section.proofs.Sorting.{sorted-add, add-commutes}
-use Rattle.changes.proofs.Once.{once-has, once-lacks, sorted-add-once}
+use Rattle.changes.proofs.Once.{once-has, once-lacks, sorted-add-once, has-once}
 use Rattle.trees.specs.Trees.{Tree, words, depth, cut, subtrees}
 use Rattle.trees.specs.Parts.{isLow, isMiddle, middle, lows, middles, sameTree, eachOnce, lowParts, middleParts}
 use Rattle.trees.specs.Reading.{byOrder, causeOf}
@@ -243,65 +243,51 @@ module _ (e : Entry) (even : 2 * (length (e .key) / 2) ≡ length (e .key)) wher
   entry-first : firstEntry (entryWords e) ≡ e
   entry-first = rw (even, take-length)
 
--- ---- the loop over the lines
+-- ---- the lines that are gone over
 
--- The loop's place: so many entries are listed at the front of `out`, and with the parts of the lines left they come to all parts; `out` has
--- room for an entry of each part left, and `entry` for any one.
-pub record Listing (low : Bool) (k : ℕ) (os out₀ out entry : List ℕ) (line used many : ℕ) : Type 0 where
-  pub tree : Tree
-  pub passes : Passed os tree
-  pub listed : List Entry
+-- All parts, entered one after the other, are those that one teaching counts.
+pub all-entered : (low : Bool) (k : ℕ) (os : List ℕ) (t : Tree) → Passed os t → listOf low k os ≡ enterEach (partsIn low k (subtrees t)) []
+unfolding listOf byOrder
+all-entered low k os t p = rw (p .is) (sym (entered-all (partsIn low k (subtrees t)) ∙ ap (λ (ts : List Tree). addEach 1 ts []) (parts-once low k t)))
+
+-- The entry of the part that a line stands for: its subtree's cut at k-1, which is the subtree itself where that is low.
+abbrev pub partHere : ℕ → List ℕ → ℕ → Entry
+partHere k os line = counted (cutOf os (line * 2) (k - 1)) 1
+
+-- So many lines of an order are gone over, and these entries are those of their parts: with the parts of the lines left they come to all parts.
+pub record Gone (low : Bool) (k : ℕ) (os : List ℕ) (t : Tree) (line : ℕ) (listed : List Entry) : Type 0 where
+  pub passes : Passed os t
   pub sorted : Sorted listed
-  pub even : Even listed
-  pub words : out ≡ padded (length out₀) (sectionWords listed)
-  pub long : length out ≡ length out₀
-  pub uses : used ≡ length (sectionWords listed)
-  pub counts : many ≡ length listed
-  pub left : enterEach (partsIn low k (drop line (subtrees tree))) listed ≡ enterEach (partsIn low k (subtrees tree)) []
-  pub room : used + eachWords (partsIn low k (drop line (subtrees tree))) ≤ length out
-  pub spare : length entry ≡ entry-words
+  pub left : enterEach (partsIn low k (drop line (subtrees t))) listed ≡ enterEach (partsIn low k (subtrees t)) []
 
--- A place by other names.
-pub listing-named : (low : Bool) (k : ℕ) (os out₀ out entry : List ℕ) (line used many : ℕ) (out′ entry′ : List ℕ) (used′ many′ : ℕ) → out′ ≡ out → entry′ ≡ entry → used′ ≡ used → many′ ≡ many
-    → Listing low k os out₀ out entry line used many → Listing low k os out₀ out′ entry′ line used′ many′
-listing-named low k os out₀ out entry line used many out′ entry′ used′ many′ o e u m st = rw (o, e, u, m) st
+-- Before the first line there are none.
+pub gone-none : (low : Bool) (k : ℕ) (os : List ℕ) (t : Tree) → Passed os t → Gone low k os t 0 []
+unfolding Sorted
+gone-none low k os t p = record { passes = p; sorted = tt; left = refl }
 
--- Before the first line nothing is listed.
-pub list-start : (low : Bool) (k : ℕ) (os out entry : List ℕ) → causeOf os ≡ done → out ≡ replicate (length out) 0 → partWords low k os ≤ length out
-    → length entry ≡ entry-words → Listing low k os out out entry 0 0 0
-unfolding partWords byOrder Sorted Even padded sectionWords
-list-start low k os out entry e zeros room spare =
-    let x = has-tree os e in
-    let t = x .tree in
-    let p = x .passes in
-    let none : length out - 0 ≡ length out = omega arith in
-    let all : eachWords (occurring low k t) ≤ length out = rw (p .is) at room in
-    record {
-      tree = t;
-      passes = p;
-      listed = [];
-      sorted = tt;
-      even = tt;
-      words = rw none zeros;
-      long = refl;
-      uses = refl;
-      counts = refl;
-      left = refl;
-      room = rw (parts-all low k t) (omega arith);
-      spare = spare;
-    }
+-- A key that was entered stays.
+has-entered : (z : List ℕ) (ts : List Tree) (es : List Entry) → has z es ≡ true → has z (enterEach ts es) ≡ true
+unfolding enterEach if_then_else_
+has-entered z [] es h = h
+has-entered z (t ∷ ts) es h = has-entered z ts (addOnce (counted (words t) 1) es) (go (sameWords (words t) z) (has-once (counted (words t) 1) es z))
+  where
+    go : (b : Bool) → has z (addOnce (counted (words t) 1) es) ≡ (if b then true else has z es) → has z (addOnce (counted (words t) 1) es) ≡ true
+    go true e = e
+    go false e = e ∙ h
 
--- The parts that are listed past the last line.
-pub list-end : (low : Bool) (k : ℕ) (os out₀ out entry : List ℕ) (line used many : ℕ) (st : Listing low k os out₀ out entry line used many) → length os / 2 ≤ line
-    → st .listed ≡ listOf low k os
-unfolding listOf byOrder enterEach
-list-end low k os out₀ out entry line used many st past =
-    let t = st .tree in
-    let none : partsIn low k (drop line (subtrees t)) ≡ [] =
-    ap (partsIn low k) (drop-of-length-le (subtrees t) {i = line} (omega (arith, two-words-a-line os t (st .passes)))) ∙ parts-none low k in
-    let all : st .listed ≡ addEach 1 (partsOnce low k t) [] =
-    ap (λ (ts : List Tree). enterEach ts (st .listed)) (sym none) ∙ st .left ∙ entered-all (partsIn low k (subtrees t)) ∙ ap (λ (ts : List Tree). addEach 1 ts []) (parts-once low k t) in
-    rw (st .passes .is) all
+module _ (low : Bool) (k : ℕ) (os : List ℕ) (t : Tree) (line : ℕ) (listed : List Entry) (g : Gone low k os t line listed) where
+  -- Past the last line they are those of all parts.
+  pub gone-all : length os / 2 ≤ line → listed ≡ listOf low k os
+  unfolding enterEach
+  gone-all past =
+      let none : partsIn low k (drop line (subtrees t)) ≡ [] =
+      ap (partsIn low k) (drop-of-length-le (subtrees t) {i = line} (omega (arith, two-words-a-line os t (g .passes)))) ∙ parts-none low k in
+      ap (λ (ts : List Tree). enterEach ts listed) (sym none) ∙ g .left ∙ sym (all-entered low k os t (g .passes))
+
+  -- A key that they have is one of all parts.
+  pub gone-has : (z : List ℕ) → has z listed ≡ true → has z (listOf low k os) ≡ true
+  gone-has z h =
+      ap (has z) (all-entered low k os t (g .passes) ∙ sym (g .left)) ∙ has-entered z (partsIn low k (drop line (subtrees t))) listed h
 
 -- Two answers that are told the same are the same.
 pub told-same : (a b : Bool) → Bool·beq a b ≡ true → a ≡ b
@@ -323,80 +309,160 @@ low-told k at s NoPart p = absurd p
 low-told k at s (LowTo e) p = sym (p .0)
 low-told k at s (MiddleTo e c) p = sym (p .0)
 
-module _ (low : Bool) (k : ℕ) (os out₀ out entry : List ℕ) (line used many : ℕ) (st : Listing low k os out₀ out entry line used many) (more : line < length os / 2) where
+module _ (low : Bool) (k : ℕ) (os : List ℕ) (t : Tree) (line : ℕ) (listed : List Entry) (g : Gone low k os t line listed) (more : line < length os / 2) where
   -- The line's subtree stands at its word.
-  spot : Spot os (line * 2) (treeAt (subtrees (st .tree)) line)
-  spot = line-spot os (st .tree) line (st .passes) (omega (arith, two-words-a-line os (st .tree) (st .passes)))
+  spot : Spot os (line * 2) (treeAt (subtrees t) line)
+  spot = line-spot os t line (g .passes) (omega (arith, two-words-a-line os t (g .passes)))
 
   -- It is the first of those left.
-  next : drop line (subtrees (st .tree)) ≡ spot .tree ∷ drop (line + 1) (subtrees (st .tree))
-  next = tree-next (subtrees (st .tree)) line (spot .tree) (spot .is)
+  next : drop line (subtrees t) ≡ spot .tree ∷ drop (line + 1) (subtrees t)
+  next = tree-next (subtrees t) line (spot .tree) (spot .is)
 
   -- Its kind is what stands at its word.
   kind-here : (b : Bool) → b ≡ lowAt (partAtOf os (line * 2) k) → isLow k (spot .tree) ≡ b
   kind-here b is =
-      let short = short-order os (st .tree) (st .passes) in
+      let short = short-order os t (g .passes) in
       sym (is ∙ low-told k (line * 2) (spot .tree) (partAtOf os (line * 2) k) (part-told os (line * 2) _ spot k (partAtOf os (line * 2) k) (partAtOf os (line * 2) k) short refl refl))
 
   -- 128 words are room for its cut.
   cut-ready : (d : ℕ) → Room (walkOf os (line * 2) d) most-words
-  cut-ready d = cut-room os (line * 2) _ spot d most-words (short-order os (st .tree) (st .passes)) (omega arith)
+  cut-ready d = cut-room os (line * 2) _ spot d most-words (short-order os t (g .passes)) (omega arith)
 
   -- Its cut has at most 128 words.
   cut-short : (d : ℕ) → length (words (cut (spot .tree) d)) ≤ most-words
   cut-short d = subst (λ (w : Walked). Room w most-words) (walk-spot os (line * 2) _ spot d) (cut-ready d)
 
+  -- It has two words a node.
+  cut-even : (d : ℕ) → 2 * (length (cutOf os (line * 2) d) / 2) ≡ length (cutOf os (line * 2) d)
+  cut-even d = rw (cut-spot os (line * 2) _ spot d) (omega (arith, size (cut (spot .tree) d)))
+
   -- So many words are written of it at most.
   pub cut-most : (d : ℕ) → length (cutOf os (line * 2) d) ≤ most-words
   cut-most d = rw (cut-spot os (line * 2) _ spot d) (cut-short d)
 
+  module _ (b : Bool) (least : least-k ≤ k) (is : b ≡ lowAt (partAtOf os (line * 2) k)) where
+    -- A line of the other kind stands for none of the parts left.
+    parts-past : Bool·beq b low ≡ false → partsIn low k (drop line (subtrees t)) ≡ partsIn low k (drop (line + 1) (subtrees t))
+    parts-past other =
+        ap (partsIn low k) next ∙ parts-same k (spot .tree) (drop (line + 1) (subtrees t)) least low (λ e. told-other b low other (sym (kind-here b is) ∙ e))
+
+    -- Past it the entries are as they were.
+    pub gone-passed : Bool·beq b low ≡ false → Gone low k os t (line + 1) listed
+    gone-passed other = record {
+      passes = g .passes;
+      sorted = g .sorted;
+      left = ap (λ (ts : List Tree). enterEach ts listed) (sym (parts-past other)) ∙ g .left;
+    }
+
+    module _ (same : Bool·beq b low ≡ true) where
+      -- The parts left are that of the line, and those of the lines behind it.
+      parts-here : partsIn low k (drop line (subtrees t)) ≡ cut (spot .tree) (k - 1) ∷ partsIn low k (drop (line + 1) (subtrees t))
+      parts-here = ap (partsIn low k) next ∙ parts-more k (spot .tree) (drop (line + 1) (subtrees t)) least low (kind-here b is ∙ told-same b low same)
+
+      -- Its entry has its words of those for the parts left.
+      words-here : eachWords (partsIn low k (drop line (subtrees t))) ≡ 2 + length (partHere k os line .key) + eachWords (partsIn low k (drop (line + 1) (subtrees t)))
+      unfolding eachWords
+      words-here = ap eachWords parts-here ∙ rw (cut-spot os (line * 2) _ spot (k - 1))
+
+      -- Past the line its part is entered once.
+      pub gone-entered : Gone low k os t (line + 1) (addOnce (partHere k os line) listed)
+      unfolding enterEach
+      gone-entered = record {
+        passes = g .passes;
+        sorted = sorted-add-once (partHere k os line) listed (omega arith) (g .sorted);
+        left = ap (λ (w : List ℕ). enterEach (partsIn low k (drop (line + 1) (subtrees t))) (addOnce (counted w 1) listed)) (cut-spot os (line * 2) _ spot (k - 1))
+            ∙ ap (λ (ts : List Tree). enterEach ts listed) (sym parts-here) ∙ g .left;
+      }
+
+-- ---- the loop that lists
+
+-- The loop's place: so many entries are listed at the front of `out`, those of the lines gone over; `out` has room for an entry of each part
+-- left, and `entry` for any one.
+pub record Listing (low : Bool) (k : ℕ) (os out₀ out entry : List ℕ) (line used many : ℕ) : Type 0 where
+  pub tree : Tree
+  pub listed : List Entry
+  pub gone : Gone low k os tree line listed
+  pub even : Even listed
+  pub words : out ≡ padded (length out₀) (sectionWords listed)
+  pub long : length out ≡ length out₀
+  pub uses : used ≡ length (sectionWords listed)
+  pub counts : many ≡ length listed
+  pub room : used + eachWords (partsIn low k (drop line (subtrees tree))) ≤ length out
+  pub spare : length entry ≡ entry-words
+
+-- A place by other names.
+pub listing-named : (low : Bool) (k : ℕ) (os out₀ out entry : List ℕ) (line used many : ℕ) (out′ entry′ : List ℕ) (used′ many′ : ℕ) → out′ ≡ out → entry′ ≡ entry → used′ ≡ used → many′ ≡ many
+    → Listing low k os out₀ out entry line used many → Listing low k os out₀ out′ entry′ line used′ many′
+listing-named low k os out₀ out entry line used many out′ entry′ used′ many′ o e u m st = rw (o, e, u, m) st
+
+-- Before the first line nothing is listed.
+pub list-start : (low : Bool) (k : ℕ) (os out entry : List ℕ) → causeOf os ≡ done → out ≡ replicate (length out) 0 → partWords low k os ≤ length out
+    → length entry ≡ entry-words → Listing low k os out out entry 0 0 0
+unfolding partWords byOrder Even padded sectionWords
+list-start low k os out entry e zeros room spare =
+    let x = has-tree os e in
+    let t = x .tree in
+    let p = x .passes in
+    let none : length out - 0 ≡ length out = omega arith in
+    let all : eachWords (occurring low k t) ≤ length out = rw (p .is) at room in
+    record {
+      tree = t;
+      listed = [];
+      gone = gone-none low k os t p;
+      even = tt;
+      words = rw none zeros;
+      long = refl;
+      uses = refl;
+      counts = refl;
+      room = rw (parts-all low k t) (omega arith);
+      spare = spare;
+    }
+
+-- The parts that are listed past the last line.
+pub list-end : (low : Bool) (k : ℕ) (os out₀ out entry : List ℕ) (line used many : ℕ) (st : Listing low k os out₀ out entry line used many) → length os / 2 ≤ line
+    → st .listed ≡ listOf low k os
+list-end low k os out₀ out entry line used many st past = gone-all low k os (st .tree) line (st .listed) (st .gone) past
+
+module _ (low : Bool) (k : ℕ) (os out₀ out entry : List ℕ) (line used many : ℕ) (st : Listing low k os out₀ out entry line used many) (more : line < length os / 2)
+    (b : Bool) (least : least-k ≤ k) (is : b ≡ lowAt (partAtOf os (line * 2) k)) where
   -- A line of the other kind leaves the list as it is.
-  pub line-passed : (b : Bool) → least-k ≤ k → b ≡ lowAt (partAtOf os (line * 2) k) → Bool·beq b low ≡ false → Listing low k os out₀ out entry (line + 1) used many
-  line-passed b least is other =
-      let same : partsIn low k (drop line (subtrees (st .tree))) ≡ partsIn low k (drop (line + 1) (subtrees (st .tree))) =
-      ap (partsIn low k) next ∙ parts-same k (spot .tree) (drop (line + 1) (subtrees (st .tree))) least low (λ e. told-other b low other (sym (kind-here b is) ∙ e)) in
+  pub line-passed : Bool·beq b low ≡ false → Listing low k os out₀ out entry (line + 1) used many
+  line-passed other =
       record {
         tree = st .tree;
-        passes = st .passes;
         listed = st .listed;
-        sorted = st .sorted;
+        gone = gone-passed low k os (st .tree) line (st .listed) (st .gone) more b least is other;
         even = st .even;
         words = st .words;
         long = st .long;
         uses = st .uses;
         counts = st .counts;
-        left = ap (λ (ts : List Tree). enterEach ts (st .listed)) (sym same) ∙ st .left;
-        room = rw (← same) (st .room);
+        room = rw (← parts-past low k os (st .tree) line (st .listed) (st .gone) more b least is other) (st .room);
         spare = st .spare;
       }
 
-  module _ (b : Bool) (least : least-k ≤ k) (is : b ≡ lowAt (partAtOf os (line * 2) k)) (same : Bool·beq b low ≡ true) where
-    -- The parts left are that of the line, and those of the lines behind it.
-    parts-here : partsIn low k (drop line (subtrees (st .tree))) ≡ cut (spot .tree) (k - 1) ∷ partsIn low k (drop (line + 1) (subtrees (st .tree)))
-    parts-here = ap (partsIn low k) next ∙ parts-more k (spot .tree) (drop (line + 1) (subtrees (st .tree))) least low (kind-here b is ∙ told-same b low same)
-
+  module _ (same : Bool·beq b low ≡ true) where
     -- The entry of the line's part.
-    abbrev part : Entry
-    part = counted (words (cut (spot .tree) (k - 1))) 1
+    abbrev this : Entry
+    this = partHere k os line
 
     -- It has two words a node.
-    part-even : 2 * (length (part .key) / 2) ≡ length (part .key)
-    part-even = omega (arith, size (cut (spot .tree) (k - 1)))
+    this-even : 2 * (length (this .key) / 2) ≡ length (this .key)
+    this-even = cut-even low k os (st .tree) line (st .listed) (st .gone) more (k - 1)
 
     -- There is room for it and for those behind it.
-    part-room : used + (2 + length (part .key)) + eachWords (partsIn low k (drop (line + 1) (subtrees (st .tree)))) ≤ length out
-    unfolding eachWords
-    part-room = omega (arith, st .room, ap eachWords parts-here)
+    part-room : used + (2 + length (this .key)) + eachWords (partsIn low k (drop (line + 1) (subtrees (st .tree)))) ≤ length out
+    part-room = omega (arith, st .room, words-here low k os (st .tree) line (st .listed) (st .gone) more b least is same)
 
     -- What is written of it: the cut at d = k-1, up to `end`.
     module _ (d end : ℕ) (entry′ : List ℕ) (deep : d ≡ k - 1) (ends : end ≡ 2 + length (cutOf os (line * 2) d))
         (wrote : entry′ ≡ over (entryWords (counted (cutOf os (line * 2) d) 1)) entry) where
       -- The entry's words stand before the end.
-      entry-here : take (end - 0) (drop 0 entry′) ≡ entryWords part
+      entry-here : take (end - 0) (drop 0 entry′) ≡ entryWords this
       entry-here =
-          let is-cut : cutOf os (line * 2) d ≡ words (cut (spot .tree) (k - 1)) = cut-spot os (line * 2) _ spot d ∙ ap (λ (n : ℕ). words (cut (spot .tree) n)) deep in
-          let long : length (entryWords part) ≡ end - 0 = omega (arith, ends, ap length is-cut) in
-          ap (take (end - 0)) (wrote ∙ ap (λ (w : List ℕ). over (entryWords (counted w 1)) entry) is-cut) ∙ take-at (entryWords part) (drop (length (entryWords part)) entry) (end - 0) long
+          let is-cut : cutOf os (line * 2) d ≡ this .key = ap (cutOf os (line * 2)) deep in
+          let long : length (entryWords this) ≡ end - 0 = omega (arith, ends, ap length is-cut) in
+          ap (take (end - 0)) (wrote ∙ ap (λ (w : List ℕ). over (entryWords (counted w 1)) entry) is-cut) ∙ take-at (entryWords this) (drop (length (entryWords this)) entry) (end - 0) long
 
       -- The words that are listed have room.
       listed-fits : length (sectionWords (st .listed)) ≤ length out₀
@@ -410,32 +476,29 @@ module _ (low : Bool) (k : ℕ) (os out₀ out entry : List ℕ) (line used many
       pub enter-ready : (Laid out many used × Sorted (entries many out)) × ((width (take (end - 0) (drop 0 entry′)) ≡ length (take (end - 0) (drop 0 entry′))) × (used + length (take (end - 0) (drop 0 entry′)) ≤ length out))
       enter-ready =
           let laid : Laid out many used = rw (st .words, st .counts, st .uses) (padded-laid (length out₀) (st .listed) (st .even) listed-fits) in
-          ((laid, rw listed-here (st .sorted)), (rw entry-here (entry-width part part-even), rw entry-here (omega (arith, part-room))))
+          ((laid, rw listed-here (st .gone .sorted)), (rw entry-here (entry-width this this-even), rw entry-here (omega (arith, part-room))))
 
       -- Once it is entered the lines behind it are left.
       pub line-entered : (out′ : List ℕ) (size : Size) → Edited out many used (addOnce (firstEntry (take (end - 0) (drop 0 entry′))) (entries many out)) out′ size
           → Listing low k os out₀ out′ entry′ (line + 1) (size .used) (size .many)
-      unfolding enterEach
       line-entered out′ size ed =
           let n = length out₀ in
-          let new : List Entry = addOnce part (st .listed) in
-          let is-new : addOnce (firstEntry (take (end - 0) (drop 0 entry′))) (entries many out) ≡ new = ap₂ addOnce (ap firstEntry entry-here ∙ entry-first part part-even) listed-here in
+          let new : List Entry = addOnce this (st .listed) in
+          let is-new : addOnce (firstEntry (take (end - 0) (drop 0 entry′))) (entries many out) ≡ new = ap₂ addOnce (ap firstEntry entry-here ∙ entry-first this this-even) listed-here in
           let after = padded-edited n (st .listed) (st .even) listed-fits new out out′ many used size (st .words) (st .counts) (st .uses) (subst (λ (es : List Entry). Edited out many used es out′ size) is-new ed) in
-          let more-words : length (sectionWords new) ≤ length (sectionWords (st .listed)) + (2 + length (part .key)) = size-once part (st .listed) (st .sorted) in
-          let even = even-once part (st .listed) part-even (st .even) in
+          let more-words : length (sectionWords new) ≤ length (sectionWords (st .listed)) + (2 + length (this .key)) = size-once this (st .listed) (st .gone .sorted) in
+          let even = even-once this (st .listed) this-even (st .even) in
           let fits : length (sectionWords new) ≤ n = omega (arith, more-words, part-room, st .uses, st .long) in
           let long : length out′ ≡ n = ap length (after .0) ∙ padded-long n new even fits in
           record {
             tree = st .tree;
-            passes = st .passes;
             listed = new;
-            sorted = sorted-add-once part (st .listed) (omega arith) (st .sorted);
+            gone = gone-entered low k os (st .tree) line (st .listed) (st .gone) more b least is same;
             even = even;
             words = after .0;
             long = long;
             uses = after .1;
             counts = after .2;
-            left = ap (λ (ts : List Tree). enterEach ts (st .listed)) (sym parts-here) ∙ st .left;
             room = omega (arith, after .1, more-words, part-room, st .uses, st .long, long);
-            spare = ap length wrote ∙ simp (length-append, length-drop) (omega (arith, cut-most d, st .spare));
+            spare = ap length wrote ∙ simp (length-append, length-drop) (omega (arith, cut-most low k os (st .tree) line (st .listed) (st .gone) more d, st .spare));
           }

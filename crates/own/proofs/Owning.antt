@@ -34,7 +34,7 @@ use Rattle.book.specs.declared.Places.{Places}
 use Rattle.book.specs.Taught.{addEach, taught, bookOf}
 use Rattle.book.proofs.Meaning.{used-is}
 use Rattle.own.specs.Own.{list-words, own-words, ownOf, eachWords, partWords, listOf}
-use Rattle.own.proofs.Listing.{enterEach, entered-all, partsIn, parts-none, parts-all, parts-once, parts-more, parts-same, size-once}
+use Rattle.own.proofs.Listing.{enterEach, all-entered, partsIn, parts-none, parts-all, parts-more, parts-same, size-once}
 
 -- ---- how many words it takes
 
@@ -81,11 +81,6 @@ module _ (k : ℕ) (os : List ℕ) (t : Tree) (p : Passed os t) (least : least-k
   unfolding partWords byOrder
   words-are low = rw (p .is, parts-all low k t)
 
-  -- The list is what its parts come to.
-  list-is : (low : Bool) → listOf low k os ≡ enterEach (partsIn low k (subtrees t)) []
-  unfolding listOf byOrder
-  list-is low = rw (p .is) (sym (entered-all (partsIn low k (subtrees t)) ∙ ap (λ (ts : List Tree). addEach 1 ts []) (parts-once low k t)))
-
 -- An order within the limits, and what it says of its own book.
 module _ (os : List ℕ) (is : causeOf os ≡ done) where
   -- It has a first line.
@@ -110,7 +105,7 @@ module _ (os : List ℕ) (is : causeOf os ≡ done) where
     list-short low =
         let x = has-tree os is in
         let t = x .tree in
-        rw (list-is k os t (x .passes) least low, words-are k os t (x .passes) least low) (omega (arith, each-size (partsIn low k (subtrees t)) [] tt))
+        rw (all-entered low k os t (x .passes), words-are k os t (x .passes) least low) (omega (arith, each-size (partsIn low k (subtrees t)) [] tt))
 
     -- All parts have room in the scratch, since each of at most 64 nodes stands in at most k of them.
     pub few-words : k ≤ greatest-k → partWords true k os + partWords false k os ≤ list-words

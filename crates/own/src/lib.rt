@@ -1,20 +1,20 @@
 // An order's own book: the book of one teaching of it, listed in a lent slice. Each part is entered once, where it belongs, so that the parts
 // ascend and a book can be weighed against them and changed by them in one pass. Assumes nothing beyond each function's `requires`.
 ghost use mathlib.Core.Path.{_≡_};
-ghost use mathlib.Core.List.{[], _∷_};
 ghost use Prim.Native.Nat.{_+_, _*_, _/_, _≤_, _<_};
 ghost use lib.ListN.{length, replicate};
 ghost use Rattle.words.specs.Base.{over};
-ghost use Rattle.figures.specs.Limits.{least-k, greatest-k, most-nodes};
+ghost use Rattle.figures.specs.Limits.{least-k, greatest-k, most-nodes, most-words};
 ghost use Rattle.figures.specs.Numbers.{done};
-ghost use Rattle.section.specs.Entries.{counted, entryWords, sectionWords};
+ghost use Rattle.section.specs.Entries.{counted, entryWords, sectionWords, has};
 ghost use Rattle.changes.specs.Editing.{padded};
+ghost use Rattle.tally.specs.Tallying.{listed, Indexed, soughtIn, Few, talliedOnce, markedOnce, Ready, Taken};
 ghost use Rattle.trees.specs.Reading.{causeOf};
 ghost use Rattle.trees.specs.Levels.{LinesLevelled};
 ghost use Rattle.trees.specs.Walks.{cutOf, partAtOf};
 ghost use Rattle.book.specs.Book.{sectionOf, lay};
 ghost use Rattle.book.specs.Decoding.{placesOf};
-ghost use Rattle.own.specs.Own.{entry-words, list-words, own-words, ownOf, partWords, listOf, sizeOf, lowAt};
+ghost use Rattle.own.specs.Own.{entry-words, own-words, ownOf, partWords, listOf, sizeOf, lowAt};
 use book::Places;
 use book::Section;
 use changes::Size;
@@ -26,7 +26,7 @@ const ENTRY_WORDS: usize = 2 + limits::MOST_WORDS;
 
 // All low and middle parts of an order take no more words: for each line the two words of an entry's head, and for each node two words in the
 // part of its own line and in those of at most k-1 lines above it.
-pub const LIST_WORDS: usize = limits::MOST_NODES * (2 + 2 * Depth::GREATEST as usize);
+const LIST_WORDS: usize = limits::MOST_NODES * (2 + 2 * Depth::GREATEST as usize);
 
 // No order's own book takes more words: its head, the order, its top, and all its low and middle parts.
 pub const OWN_WORDS: usize = limits::HEAD_WORDS + 2 * ENTRY_WORDS + LIST_WORDS;
@@ -113,40 +113,167 @@ fn list_parts(
     Size { used, many }
 }
 
-// Lists the order's cut at d alone, at the front of `out`, whose words are zero: an entry of count 1.
-fn list_cut(order: &[u16], levels: &[u8; limits::MOST_NODES], d: usize, out: &mut [u16]) -> Size
+// Tallies `by` for the cut at d of the subtree of a line, the lines counted from 0, among the listed entries of a section of a book, once a
+// turn, by way of a scratch for its words. Answers whether it has an entry.
+fn tally_cut(
+    order: &[u16],
+    levels: &[u8; limits::MOST_NODES],
+    line: usize,
+    d: usize,
+    part: &mut [u16],
+    book: &[u16],
+    starts: &[u16],
+    counts: &mut [u16],
+    marks: &mut [u16],
+    turn: u16,
+    by: u16,
+) -> bool
     requires { ⌜ causeOf (now order) ≡ done ⌝ }
     requires { ⌜ LinesLevelled (now order) (now levels) × (length (now levels) ≡ most-nodes) ⌝ }
-    requires { ⌜ now out ≡ replicate (length (now out)) 0 ⌝ }
-    requires { ⌜ entry-words ≤ length (now out) ⌝ }
-    ensures came { λ r. ⌜ r ≡ sizeOf (counted (cutOf (now (order .entry)) 0 d) 1 ∷ []) ⌝ }
-    ensures wrote { λ _. ⌜ now (out .exit) ≡ padded (length (now (out .entry))) (sectionWords (counted (cutOf (now (order .entry)) 0 d) 1 ∷ [])) ⌝ }
+    requires { ⌜ line < length (now order) / 2 ⌝ }
+    requires { ⌜ most-words ≤ length (now part) ⌝ }
+    requires { ⌜ Indexed (now starts) (now book) ⌝ }
+    requires { ⌜ (length (now counts) ≡ length (now starts)) × (length (now marks) ≡ length (now starts)) ⌝ }
+    requires { ⌜ Few (talliedOnce by turn (soughtIn (cutOf (now order) (line * 2) d) (listed (now starts) (now book))) (now marks) (now counts)) ⌝ }
+    ensures known { λ r. ⌜ r ≡ has (cutOf (now (order .entry)) (line * 2) d) (listed (now (starts .entry)) (now (book .entry))) ⌝ }
+    ensures counted { λ _. ⌜ now (counts .exit) ≡ talliedOnce by turn (soughtIn (cutOf (now (order .entry)) (line * 2) d) (listed (now (starts .entry)) (now (book .entry)))) (now (marks .entry)) (now (counts .entry)) ⌝ }
+    ensures noted { λ _. ⌜ now (marks .exit) ≡ markedOnce turn (soughtIn (cutOf (now (order .entry)) (line * 2) d) (listed (now (starts .entry)) (now (book .entry)))) (now (marks .entry)) ⌝ }
 {
-    let used = write_entry(order, levels, 0, d, out);
-    Size { used, many: 1 }
+    let laid = cuts::put_line(order, levels, line, d, part);
+    let end = laid.count;
+    tally::tally_once(book, starts, counts, marks, &part[0..end], turn, by)
 }
 
-// Lists what one teaching of the order counts in a section, T included, at the front of `out`, whose words are zero. Answers the size.
-pub fn list_section(
+// Tallies `by` for each of the order's low parts, or of its middle parts, as `tally_cut` does for one. Answers false where one has no entry;
+// what was tallied then is of no use.
+fn tally_parts(
+    order: &[u16],
+    levels: &[u8; limits::MOST_NODES],
+    k: Depth,
+    low: bool,
+    part: &mut [u16],
+    book: &[u16],
+    starts: &[u16],
+    counts: &mut [u16],
+    marks: &mut [u16],
+    turn: u16,
+    by: u16,
+) -> bool
+    requires { ⌜ least-k ≤ k .k ⌝ }
+    requires { ⌜ causeOf (now order) ≡ done ⌝ }
+    requires { ⌜ LinesLevelled (now order) (now levels) × (length (now levels) ≡ most-nodes) ⌝ }
+    requires { ⌜ most-words ≤ length (now part) ⌝ }
+    requires { ⌜ Indexed (now starts) (now book) ⌝ }
+    requires { ⌜ Ready turn by (listOf low (k .k) (now order)) (listed (now starts) (now book)) (now counts) (now marks) ⌝ }
+    ensures { λ r. ⌜ Taken turn by (listOf low (k .k) (now (order .entry))) (listed (now (starts .entry)) (now (book .entry))) (now (counts .entry)) (now (marks .entry)) (now (counts .exit)) (now (marks .exit)) r ⌝ }
+{
+    let lines = order.len() / 2;
+    let mut line: usize = 0;
+    while line < lines {
+        if is_low(order, levels, line, k) == low {
+            let d = k.of_middles();
+            if !tally_cut(
+                order,
+                levels,
+                line,
+                d,
+                part,
+                book,
+                starts,
+                counts,
+                marks,
+                turn,
+                by,
+            ) {
+                return false;
+            }
+        }
+        line += 1;
+    }
+    true
+}
+
+// Tallies `by` for each entry that one teaching of the order counts in a section, T included, among the section's listed entries in a book,
+// each once, by marks of this turn. Answers false where one has no entry; what was tallied then is of no use.
+pub fn tally_section(
     order: &[u16],
     levels: &[u8; limits::MOST_NODES],
     k: Depth,
     section: Section,
-    out: &mut [u16],
-) -> Size
-    requires { ⌜ (least-k ≤ k .k) × (k .k ≤ greatest-k) ⌝ }
+    book: &[u16],
+    starts: &[u16],
+    counts: &mut [u16],
+    marks: &mut [u16],
+    turn: u16,
+    by: u16,
+) -> bool
+    requires { ⌜ least-k ≤ k .k ⌝ }
     requires { ⌜ causeOf (now order) ≡ done ⌝ }
     requires { ⌜ LinesLevelled (now order) (now levels) × (length (now levels) ≡ most-nodes) ⌝ }
-    requires { ⌜ now out ≡ replicate (length (now out)) 0 ⌝ }
-    requires { ⌜ length (now out) ≡ list-words ⌝ }
-    ensures came { λ r. ⌜ r ≡ sizeOf (sectionOf section (ownOf (k .k) (now (order .entry)))) ⌝ }
-    ensures wrote { λ _. ⌜ now (out .exit) ≡ padded (length (now (out .entry))) (sectionWords (sectionOf section (ownOf (k .k) (now (order .entry))))) ⌝ }
+    requires { ⌜ Indexed (now starts) (now book) ⌝ }
+    requires { ⌜ Ready turn by (sectionOf section (ownOf (k .k) (now order))) (listed (now starts) (now book)) (now counts) (now marks) ⌝ }
+    ensures { λ r. ⌜ Taken turn by (sectionOf section (ownOf (k .k) (now (order .entry)))) (listed (now (starts .entry)) (now (book .entry))) (now (counts .entry)) (now (marks .entry)) (now (counts .exit)) (now (marks .exit)) r ⌝ }
 {
+    let mut part = [0u16; limits::MOST_WORDS];
     match section {
-        Section::Taught => list_cut(order, levels, limits::GREATEST_DEPTH, out),
-        Section::Tops => list_cut(order, levels, k.of_tops(), out),
-        Section::Lows => list_parts(order, levels, k, true, out),
-        Section::Middles => list_parts(order, levels, k, false, out),
+        Section::Taught => {
+            let d = limits::GREATEST_DEPTH;
+            tally_cut(
+                order,
+                levels,
+                0,
+                d,
+                &mut part,
+                book,
+                starts,
+                counts,
+                marks,
+                turn,
+                by,
+            )
+        }
+        Section::Tops => {
+            let d = k.of_tops();
+            tally_cut(
+                order,
+                levels,
+                0,
+                d,
+                &mut part,
+                book,
+                starts,
+                counts,
+                marks,
+                turn,
+                by,
+            )
+        }
+        Section::Lows => tally_parts(
+            order,
+            levels,
+            k,
+            true,
+            &mut part,
+            book,
+            starts,
+            counts,
+            marks,
+            turn,
+            by,
+        ),
+        Section::Middles => tally_parts(
+            order,
+            levels,
+            k,
+            false,
+            &mut part,
+            book,
+            starts,
+            counts,
+            marks,
+            turn,
+            by,
+        ),
     }
 }
 

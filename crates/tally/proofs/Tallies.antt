@@ -1,8 +1,8 @@
 -- Which entry a search by halving finds, and the turns of tallying counts and of comparing them. Assumes nothing.
 use Prim.Native.Nat.{ℕ, zero, suc, _+_, _-_, _≤_, _<_}
-use mathlib.Core.Path.{_≡_, refl, sym, _∙_}
+use mathlib.Core.Path.{_≡_, refl, sym, ap, _∙_}
 use mathlib.Core.Bool.{Bool, true, false}
-use mathlib.Core.List.{List, [], _∷_, List·Memᴰ·head as here}
+use mathlib.Core.List.{List, [], _∷_, List·Memᴰ·head as here, List·Memᴰ·tail as there, List·Memᴰ·not-nil}
 use native.Mathlib.Nat.{add-zero, not-suc-le-zero}
 use native.Mathlib.Numerals.{add-one}
 use native.Mathlib.Decide.{decLt}
@@ -11,15 +11,15 @@ use lib.Dec.{eqb}
 use lib.ListN.{length, getD, set, drop, drop-of-length-le}
 use lib.Seq.{drop-cons, getD-drop, getD-set-same}
 use borrow.Author.Tests.{eq-eqb, ne-eqb}
-use Rattle.words.specs.Base.{_and_, if_then_else_, sameWords}
+use Rattle.words.specs.Base.{_and_, if_then_else_, sameWords, _∈_}
 use Rattle.words.specs.Compare.{compareOf, _≺_}
 use Rattle.words.specs.declared.Compared.the-variants.{Equal, Higher}
 use Rattle.words.proofs.Ordered.{≺-trans, compare-equal, compare-flip}
-use Rattle.words.proofs.Tests.{no-test, same-words, words-same, fails-left}
+use Rattle.words.proofs.Tests.{no-test, and-left, and-right, and-both, same-words, words-same, fails-left}
 use Rattle.figures.specs.Limits.{greatest-count}
 use Rattle.section.specs.Entries.{Entry, counted, has, Below, Sorted}
-use Rattle.section.proofs.Counts.{lower-differs, below-trans, below-lacks, entry-has}
-use Rattle.tally.specs.Tallying.{listed, soughtIn, hasAll, tallied, Few, sameCounts}
+use Rattle.section.proofs.Counts.{lower-differs, below-trans, has-entry, entry-has}
+use Rattle.tally.specs.Tallying.{listed, soughtIn, hasAll, onEach, tallied, marked, Unmarked, onOne, sameCounts}
 use Rattle.tally.specs.declared.Sought.{Sought}
 use Rattle.tally.specs.declared.Sought.the-variants.{Missing, Number}
 
@@ -181,86 +181,140 @@ sought-has key (e ∷ es) i h = go (sameWords (e .key) key) refl (soughtIn key e
         let l = later j q in
         (omega arith, rw t (l .1))
 
--- ---- counts tallied
+-- ---- numbers for the entries
+
+-- There are as many as before.
+pub length-each : (f : ℕ → ℕ) (os es : List Entry) (cs : List ℕ) → length (onEach f os es cs) ≡ length cs
+unfolding onEach
+length-each f os [] cs = refl
+length-each f os (e ∷ es) [] = refl
+length-each f os (e ∷ es) (c ∷ cs) = ap suc (length-each f os es cs)
+
+-- With no key none is changed.
+pub each-none : (f : ℕ → ℕ) (es : List Entry) (cs : List ℕ) → onEach f [] es cs ≡ cs
+unfolding onEach has if_then_else_
+each-none f [] cs = refl
+each-none f (e ∷ es) [] = refl
+each-none f (e ∷ es) (c ∷ cs) = rw (each-none f es cs)
 
 -- No count becomes less.
 pub tallied-least : (n : ℕ) (os es : List Entry) (cs : List ℕ) (i : ℕ) → getD cs i 0 ≤ getD (tallied n os es cs) i 0
-unfolding tallied
+unfolding onEach if_then_else_
 tallied-least n os [] cs i = omega arith
 tallied-least n os (e ∷ es) [] i = omega arith
-tallied-least n os (e ∷ es) (c ∷ cs) zero = omega arith
+tallied-least n os (e ∷ es) (c ∷ cs) zero = go (has (e .key) os)
+  where
+    go : (b : Bool) → c ≤ (if b then c + n else c)
+    go true = omega arith
+    go false = omega arith
 tallied-least n os (e ∷ es) (c ∷ cs) (suc i) = tallied-least n os es cs i
 
--- With no key nothing is tallied.
-pub tallied-none : (n : ℕ) (es : List Entry) (cs : List ℕ) → tallied n [] es cs ≡ cs
-unfolding tallied has if_then_else_
-tallied-none n [] cs = refl
-tallied-none n (e ∷ es) [] = refl
-tallied-none n (e ∷ es) (c ∷ cs) = rw (add-zero, tallied-none n es cs)
+-- By more keys no count becomes less.
+pub tallied-more : (n : ℕ) (os fs es : List Entry) (cs : List ℕ) → ((z : List ℕ) → has z os ≡ true → has z fs ≡ true) → (i : ℕ)
+    → getD (tallied n os es cs) i 0 ≤ getD (tallied n fs es cs) i 0
+unfolding onEach if_then_else_
+tallied-more n os fs [] cs h i = omega arith
+tallied-more n os fs (e ∷ es) [] h i = omega arith
+tallied-more n os fs (e ∷ es) (c ∷ cs) h zero = go (has (e .key) os) refl (has (e .key) fs) refl
+  where
+    go : (a : Bool) → has (e .key) os ≡ a → (b : Bool) → has (e .key) fs ≡ b → (if a then c + n else c) ≤ (if b then c + n else c)
+    go true p true q = omega arith
+    go true p false q = no-test (sym q ∙ h (e .key) p)
+    go false p true q = omega arith
+    go false p false q = omega arith
+tallied-more n os fs (e ∷ es) (c ∷ cs) h (suc i) = tallied-more n os fs es cs h i
 
--- A first key, with others behind it.
-module _ (o : Entry) (os : List Entry) where
-  -- Another key has an entry just if it has one behind the first.
-  has-other : (z : List ℕ) → sameWords (o .key) z ≡ false → has z (o ∷ os) ≡ has z os
-  unfolding has if_then_else_
-  has-other z t = rw t
+-- Of another turn no mark comes.
+pub marked-other : (j turn : ℕ) (os es : List Entry) (ms : List ℕ) → (turn ≡ j → ⊥) → Unmarked j ms → Unmarked j (marked turn os es ms)
+unfolding onEach if_then_else_
+marked-other j turn os [] ms other u i = u i
+marked-other j turn os (e ∷ es) [] other u i = u i
+marked-other j turn os (e ∷ es) (m ∷ ms) other u zero = go (has (e .key) os)
+  where
+    go : (b : Bool) → (if b then turn else m) ≡ j → ⊥
+    go true = other
+    go false = u zero
+marked-other j turn os (e ∷ es) (m ∷ ms) other u (suc i) = marked-other j turn os es ms other (λ l. u (suc l)) i
 
-  -- Where its entry is found those behind it decide whether all are known.
-  pub known-first : (es : List Entry) (i : ℕ) → soughtIn (o .key) es ≡ Number i → hasAll (o ∷ os) es ≡ hasAll os es
-  unfolding hasAll _and_
-  known-first es i h = rw (sought-has (o .key) es i h .1)
+-- ---- one key more
 
-  -- Where it has no entry not all are known.
-  pub unknown-first : (es : List Entry) → soughtIn (o .key) es ≡ Missing → hasAll (o ∷ os) es ≡ false
-  unfolding hasAll
-  unknown-first es h = fails-left _ _ (sought-lacks (o .key) es h)
+-- The second list has one key more than the first, or the same.
+module _ (key : List ℕ) (os fs : List Entry) (more : (z : List ℕ) → has z fs ≡ (if sameWords key z then true else has z os)) where
+  -- It has that key.
+  more-own : has key fs ≡ true
+  unfolding if_then_else_
+  more-own = more key ∙ rw (same-words key)
 
--- A first key, with others behind it, and n more for each.
-module _ (n : ℕ) (o : Entry) (os : List Entry) where
-  -- For entries above it nothing is tallied by it.
-  tallied-above : (es : List Entry) (cs : List ℕ) → Below (o .key) es → Sorted es → tallied n (o ∷ os) es cs ≡ tallied n os es cs
-  unfolding tallied Below Sorted
-  tallied-above [] cs b s = refl
-  tallied-above (e ∷ es) [] b s = refl
-  tallied-above (e ∷ es) (c ∷ cs) b s =
-      rw (has-other o os (e .key) (lower-differs (o .key) (e .key) b), tallied-above es cs (below-trans (o .key) (e .key) es b (s .1)) (s .2))
+  -- Another key it has if the first does.
+  more-other : (z : List ℕ) → sameWords key z ≡ false → has z fs ≡ has z os
+  unfolding if_then_else_
+  more-other z t = more z ∙ rw t
 
-  -- Its entry gets n more, and no more by those behind it.
-  tallied-own : (e : Entry) (es : List Entry) (c : ℕ) (cs : List ℕ) → e .key ≡ o .key → Sorted (o ∷ os) → Sorted (e ∷ es)
-      → tallied n (o ∷ os) (e ∷ es) (c ∷ cs) ≡ tallied n os (e ∷ es) ((c + n) ∷ cs)
-  unfolding tallied Sorted if_then_else_
-  tallied-own e es c cs k p s =
-      let first : has (e .key) (o ∷ os) ≡ true = entry-has (e .key) (here refl) (sym k) in
-      let behind : has (e .key) os ≡ false = below-lacks (e .key) os (rw k (p .1)) (p .2) in
-      rw (first, behind, tallied-above es cs (rw (← k) (s .1)) (s .2), add-zero)
+  module _ (f : ℕ → ℕ) where
+    -- For entries above it both lists change the same.
+    each-above : (es : List Entry) (cs : List ℕ) → Below key es → Sorted es → onEach f fs es cs ≡ onEach f os es cs
+    unfolding onEach Below Sorted
+    each-above [] cs b s = refl
+    each-above (e ∷ es) [] b s = refl
+    each-above (e ∷ es) (c ∷ cs) b s =
+        rw (more-other (e .key) (lower-differs key (e .key) b), each-above es cs (below-trans key (e .key) es b (s .1)) (s .2))
 
-  -- An entry of another key is counted as without it.
-  tallied-other : (e : Entry) (es : List Entry) (c : ℕ) (cs : List ℕ) → sameWords (e .key) (o .key) ≡ false
-      → tallied n (o ∷ os) (e ∷ es) (c ∷ cs) ≡ (c + (if has (e .key) os then n else 0)) ∷ tallied n (o ∷ os) es cs
-  unfolding tallied
-  tallied-other e es c cs t = rw (has-other o os (e .key) (different (e .key) (o .key) t))
+    -- What was changed for the first list, and then for the entry of that key, once a turn, is changed for the second.
+    pub once-more : (turn : ℕ) (es : List Entry) (ms cs : List ℕ) → Sorted es → length ms ≡ length es → length cs ≡ length es → Unmarked turn ms
+        → onOne f turn (soughtIn key es) (marked turn os es ms) (onEach f os es cs) ≡ onEach f fs es cs
+    unfolding onOne onEach Sorted soughtIn if_then_else_
+    once-more turn [] ms cs s lm lc u = refl
+    once-more turn (e ∷ es) [] cs s lm lc u = absurd (omega arith)
+    once-more turn (e ∷ es) (m ∷ ms) [] s lm lc u = absurd (omega arith)
+    once-more turn (e ∷ es) (m ∷ ms) (c ∷ cs) s lm lc u =
+        go (sameWords (e .key) key) refl (soughtIn key es) refl (once-more turn es ms cs (s .2) (omega arith) (omega arith) (λ i. u (suc i)))
+      where
+        own : e .key ≡ key → (b : Bool) → has (e .key) os ≡ b
+            → onOne f turn (Number 0) (marked turn os (e ∷ es) (m ∷ ms)) (onEach f os (e ∷ es) (c ∷ cs)) ≡ onEach f fs (e ∷ es) (c ∷ cs)
+        own k true h =
+            let first : has (e .key) fs ≡ true = rw k more-own in
+            rw (h, eq-eqb turn turn refl, first, each-above es cs (rw (← k) (s .1)) (s .2))
+        own k false h =
+            let first : has (e .key) fs ≡ true = rw k more-own in
+            rw (h, ne-eqb m turn (u 0), first, each-above es cs (rw (← k) (s .1)) (s .2))
 
-  -- With n more for its entry, those behind it are still to be tallied.
-  pub tallied-first : Sorted (o ∷ os) → (es : List Entry) (cs : List ℕ) (i : ℕ) → Sorted es → soughtIn (o .key) es ≡ Number i
-      → tallied n (o ∷ os) es cs ≡ tallied n os es (set cs i (getD cs i 0 + n))
-  unfolding tallied Sorted soughtIn if_then_else_
-  tallied-first p [] cs i s h = absurd (let m : _≡_ {A = ℕ} 0 1 = cc in omega arith)
-  tallied-first p (e ∷ es) [] i s h = refl
-  tallied-first p (e ∷ es) (c ∷ cs) i s h = go (sameWords (e .key) (o .key)) refl (soughtIn (o .key) es) refl (λ j. tallied-first p es cs j (s .2))
-    where
-      go : (b : Bool) → sameWords (e .key) (o .key) ≡ b → (r : Sought) → soughtIn (o .key) es ≡ r
-          → ((j : ℕ) → soughtIn (o .key) es ≡ Number j → tallied n (o ∷ os) es cs ≡ tallied n os es (set cs j (getD cs j 0 + n)))
-          → tallied n (o ∷ os) (e ∷ es) (c ∷ cs) ≡ tallied n os (e ∷ es) (set (c ∷ cs) i (getD (c ∷ cs) i 0 + n))
-      go true t r q later =
-          let z : Number 0 ≡ Number i = rw t at h in
-          let m : 0 ≡ i = cc in
-          tallied-own e es c cs (words-same (e .key) (o .key) t) p s ∙ rw (← m)
-      go false t Missing q later = let z : Missing ≡ Number i = rw (t, q) at h in absurd (let m : _≡_ {A = ℕ} 0 1 = cc in omega arith)
-      go false t (Number j) q later =
-          let z : Number (suc j) ≡ Number i = rw (t, q) at h in
-          let m : suc j ≡ i = cc in
-          tallied-other e es c cs t ∙ rw (← m, later j q)
+        go : (b : Bool) → sameWords (e .key) key ≡ b → (r : Sought) → soughtIn key es ≡ r
+            → onOne f turn (soughtIn key es) (marked turn os es ms) (onEach f os es cs) ≡ onEach f fs es cs
+            → onOne f turn (soughtIn key (e ∷ es)) (marked turn os (e ∷ es) (m ∷ ms)) (onEach f os (e ∷ es) (c ∷ cs)) ≡ onEach f fs (e ∷ es) (c ∷ cs)
+        go true t r q later = rw t (own (words-same (e .key) key t) (has (e .key) os) refl)
+        go false t Missing q later = rw (t, q, more-other (e .key) (different (e .key) key t)) (ap (λ (l : List ℕ). (if has (e .key) os then f c else c) ∷ l) (rw q at later))
+        go false t (Number j) q later = rw (t, q, more-other (e .key) (different (e .key) key t)) (tail (eqb (getD (marked turn os es ms) j 0) turn) refl (rw q at later))
+          where
+            tail : (b : Bool) → eqb (getD (marked turn os es ms) j 0) turn ≡ b
+                → (if eqb (getD (marked turn os es ms) j 0) turn then onEach f os es cs else set (onEach f os es cs) j (f (getD (onEach f os es cs) j 0))) ≡ onEach f fs es cs
+                → (if eqb (getD (marked turn os es ms) j 0) turn then ((if has (e .key) os then f c else c) ∷ onEach f os es cs)
+                else ((if has (e .key) os then f c else c) ∷ set (onEach f os es cs) j (f (getD (onEach f os es cs) j 0)))) ≡ ((if has (e .key) os then f c else c) ∷ onEach f fs es cs)
+            tail true p ih = rw p (ap (λ (l : List ℕ). (if has (e .key) os then f c else c) ∷ l) (rw p at ih))
+            tail false p ih = rw p (ap (λ (l : List ℕ). (if has (e .key) os then f c else c) ∷ l) (rw p at ih))
 
--- A count that was stored fits where all do that are tallied then.
-pub stored-fits : (n : ℕ) (os es : List Entry) (cs : List ℕ) (i v : ℕ) → i < length cs → Few (tallied n os es (set cs i v)) → v ≤ greatest-count
-stored-fits n os es cs i v h few = omega (arith, few i, tallied-least n os es (set cs i v) i, getD-set-same cs i v 0 h)
+-- ---- all keys
+
+-- The test for keys passes where each key of the first list has an entry among the second.
+pub each-known : (os es : List Entry) → ((o : Entry) → o ∈ os → has (o .key) es ≡ true) → hasAll os es ≡ true
+unfolding hasAll
+each-known [] es h = refl
+each-known (o ∷ os) es h = and-both (h o (here refl)) (each-known os es (λ i m. h i (there m)))
+
+-- It passes only where each has one.
+pub known-each : (os es : List Entry) → hasAll os es ≡ true → (o : Entry) → o ∈ os → has (o .key) es ≡ true
+unfolding hasAll
+known-each [] es h i m = absurd (List·Memᴰ·not-nil m)
+known-each (o ∷ os) es h i (here q) = rw q (and-left _ _ h)
+known-each (o ∷ os) es h i (there m) = known-each os es (and-right _ _ h) i m
+
+-- It passes where the second list has each key that the first has.
+pub all-known : (os es : List Entry) → ((z : List ℕ) → has z os ≡ true → has z es ≡ true) → hasAll os es ≡ true
+all-known os es h = each-known os es (λ o m. h (o .key) (entry-has (o .key) m refl))
+
+-- It fails where the first list has a key that the second lacks.
+pub one-unknown : (z : List ℕ) (os es : List Entry) → has z os ≡ true → has z es ≡ false → hasAll os es ≡ false
+one-unknown z os es known lacks = go (hasAll os es) refl
+  where
+    go : (b : Bool) → hasAll os es ≡ b → hasAll os es ≡ false
+    go true h = let o = has-entry z os known in no-test (sym lacks ∙ ap (λ (y : List ℕ). has y es) (sym (o .2)) ∙ known-each os es h (o .0) (o .1))
+    go false h = h

@@ -1,9 +1,10 @@
 -- Entries by the places where they start, and counts that are tallied for them. Assumes nothing: these are definitions.
 use Prim.Native.Nat.{ℕ, zero, suc, _+_, _≤_, _<_}
+use mathlib.Core.Path.{_≡_}
 use mathlib.Core.Bool.{Bool, true, false}
 use mathlib.Core.List.{List, [], _∷_}
 use lib.Dec.{eqb}
-use lib.ListN.{length, getD, drop}
+use lib.ListN.{length, getD, set, drop}
 use Rattle.words.specs.Base.{_and_, if_then_else_, sameWords, _∈_}
 use Rattle.figures.specs.Limits.{greatest-count}
 use Rattle.section.specs.Entries.{Entry, width, firstEntry, has, Sorted}
@@ -45,15 +46,54 @@ unfoldable pub hasAll : List Entry → List Entry → Bool
 hasAll [] es = true
 hasAll (o ∷ os) es = has (o .key) es and hasAll os es
 
+-- The numbers, one for each entry of the second list, changed by f for each whose key the first list has.
+unfoldable pub onEach : (ℕ → ℕ) → List Entry → List Entry → List ℕ → List ℕ
+onEach f os [] cs = cs
+onEach f os (e ∷ es) [] = []
+onEach f os (e ∷ es) (c ∷ cs) = (if has (e .key) os then f c else c) ∷ onEach f os es cs
+
 -- The counts, one for each entry of the second list, with n more for each whose key the first list has.
-unfoldable pub tallied : ℕ → List Entry → List Entry → List ℕ → List ℕ
-tallied n os [] cs = cs
-tallied n os (e ∷ es) [] = []
-tallied n os (e ∷ es) (c ∷ cs) = (c + (if has (e .key) os then n else 0)) ∷ tallied n os es cs
+abbrev pub tallied : ℕ → List Entry → List Entry → List ℕ → List ℕ
+tallied n os es cs = onEach (λ (c : ℕ). c + n) os es cs
+
+-- The marks, one for each entry of the second list, with the turn's number for each whose key the first list has.
+abbrev pub marked : ℕ → List Entry → List Entry → List ℕ → List ℕ
+marked turn os es ms = onEach (λ (m : ℕ). turn) os es ms
+
+-- No entry has the turn's mark.
+abbrev pub Unmarked : ℕ → List ℕ → Type 0
+Unmarked turn ms = (i : ℕ) → getD ms i 0 ≡ turn → ⊥
+
+-- The numbers, one for each entry, changed by f for the one that is sought, unless it has the turn's mark.
+unfoldable pub onOne : (ℕ → ℕ) → ℕ → Sought → List ℕ → List ℕ → List ℕ
+onOne f turn Missing ms cs = cs
+onOne f turn (Number i) ms cs = if eqb (getD ms i 0) turn then cs else set cs i (f (getD cs i 0))
+
+-- The counts with n more for the entry that is sought, once a turn.
+abbrev pub talliedOnce : ℕ → ℕ → Sought → List ℕ → List ℕ → List ℕ
+talliedOnce n turn r ms cs = onOne (λ (c : ℕ). c + n) turn r ms cs
+
+-- The marks with the turn's number for the entry that is sought.
+abbrev pub markedOnce : ℕ → Sought → List ℕ → List ℕ
+markedOnce turn r ms = onOne (λ (m : ℕ). turn) turn r ms ms
 
 -- No count passes 65,535.
 abbrev pub Few : List ℕ → Type 0
 Few cs = (i : ℕ) → getD cs i 0 ≤ greatest-count
+
+-- What a turn needs that is to tally n for each key of the first list: a count and a mark for each entry of the second, none of them the
+-- turn's, and no count that passes 65,535 then.
+pub record Ready (turn n : ℕ) (os es : List Entry) (cs ms : List ℕ) : Type 0 where
+  pub counts : length cs ≡ length es
+  pub marks : length ms ≡ length es
+  pub fresh : Unmarked turn ms
+  pub few : Few (tallied n os es cs)
+
+-- What the turn comes to: whether each key has an entry and, if so, the counts and the marks.
+pub record Taken (turn n : ℕ) (os es : List Entry) (cs ms cs′ ms′ : List ℕ) (known : Bool) : Type 0 where
+  pub told : known ≡ hasAll os es
+  pub counted : known ≡ true → cs′ ≡ tallied n os es cs
+  pub noted : known ≡ true → ms′ ≡ marked turn os es ms
 
 -- Each entry counts what was tallied for it.
 unfoldable pub sameCounts : List Entry → List ℕ → Bool

@@ -1,14 +1,13 @@
-// Counts tallied for the entries of a section: an index of their places, the entry of a key by halving, and more for each entry whose key
-// another list has. It knows nothing of trees, and assumes nothing beyond each function's `requires`.
+// Counts tallied for the entries of a section: an index of their places, the entry of a key by halving, and more for the entry of a key,
+// once a turn. It knows nothing of trees, and assumes nothing beyond each function's `requires`.
 ghost use mathlib.Core.Path.{_≡_};
-ghost use mathlib.Core.Bool.{true};
 ghost use Prim.Native.Nat.{_+_, _≤_};
 ghost use lib.ListN.{length, getD, drop};
 ghost use Rattle.words.specs.Base.{over};
 ghost use Rattle.words.specs.Compare.{compareOf};
 ghost use Rattle.figures.specs.Limits.{most-book-words};
-ghost use Rattle.section.specs.Entries.{width, firstEntry, entries, span, Sorted};
-ghost use Rattle.tally.specs.Tallying.{startsOf, listed, Indexed, soughtIn, hasAll, tallied, Few, sameCounts};
+ghost use Rattle.section.specs.Entries.{width, firstEntry, span, has};
+ghost use Rattle.tally.specs.Tallying.{startsOf, listed, Indexed, soughtIn, Few, talliedOnce, markedOnce, sameCounts};
 use section::past;
 use words::Compared;
 
@@ -76,34 +75,31 @@ pub fn seek(book: &[u16], starts: &[u16], key: &[u16]) -> Sought
     Sought::Missing
 }
 
-// Tallies `by` more for each listed entry whose key one of the first `many` entries of `list` has. Answers false where one of those has no
-// entry; what was tallied then is of no use.
-pub fn tally(
+// Tallies `by` more for the listed entry that has the key, once a turn: its mark is the turn's number then. Answers whether one has it.
+pub fn tally_once(
     book: &[u16],
     starts: &[u16],
     counts: &mut [u16],
-    list: &[u16],
-    many: usize,
+    marks: &mut [u16],
+    key: &[u16],
+    turn: u16,
     by: u16,
 ) -> bool
     requires { ⌜ Indexed (now starts) (now book) ⌝ }
-    requires { ⌜ (span many (now list) ≤ length (now list)) × Sorted (entries many (now list)) ⌝ }
-    requires { ⌜ (length (now counts) ≡ length (now starts)) × Few (tallied by (entries many (now list)) (listed (now starts) (now book)) (now counts)) ⌝ }
-    ensures known { λ r. ⌜ r ≡ hasAll (entries many (now (list .entry))) (listed (now (starts .entry)) (now (book .entry))) ⌝ }
-    ensures counted { λ r. ⌜ (r ≡ true → now (counts .exit) ≡ tallied by (entries many (now (list .entry))) (listed (now (starts .entry)) (now (book .entry))) (now (counts .entry))) ⌝ }
+    requires { ⌜ (length (now counts) ≡ length (now starts)) × (length (now marks) ≡ length (now starts)) ⌝ }
+    requires { ⌜ Few (talliedOnce by turn (soughtIn (now key) (listed (now starts) (now book))) (now marks) (now counts)) ⌝ }
+    ensures known { λ r. ⌜ r ≡ has (now (key .entry)) (listed (now (starts .entry)) (now (book .entry))) ⌝ }
+    ensures counted { λ _. ⌜ now (counts .exit) ≡ talliedOnce by turn (soughtIn (now (key .entry)) (listed (now (starts .entry)) (now (book .entry)))) (now (marks .entry)) (now (counts .entry)) ⌝ }
+    ensures noted { λ _. ⌜ now (marks .exit) ≡ markedOnce turn (soughtIn (now (key .entry)) (listed (now (starts .entry)) (now (book .entry)))) (now (marks .entry)) ⌝ }
 {
-    let mut from: usize = 0;
-    let mut rest = many;
-    while 0 < rest {
-        let start = from + 2;
-        let end = past(list, from);
-        let Sought::Number(i) = seek(book, starts, &list[start..end]) else {
-            return false;
-        };
+    let Sought::Number(i) = seek(book, starts, key) else {
+        return false;
+    };
+    let mark = marks[i];
+    if mark != turn {
         let count = counts[i];
         counts[i] = count + by;
-        from = end;
-        rest -= 1;
+        marks[i] = turn;
     }
     true
 }

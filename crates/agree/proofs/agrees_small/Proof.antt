@@ -12,14 +12,14 @@ slice-aggregate-sections-agree c = search needs
 slice-aggregate-sections-agree-2 : tie.Need-slice-aggregate-sections-agree-2
 slice-aggregate-sections-agree-2 c = search needs
 
+slice-aggregate-sections-agree-3 : tie.Need-slice-aggregate-sections-agree-3
+slice-aggregate-sections-agree-3 c = search needs
+
 sections-agree-requires : tie.Need-sections-agree-requires
 sections-agree-requires c κs =
-    let s = c .before .before .before .before .before .pre in
-    let roomy = few-entries _ _ (s .0) small-entries (omega (arith, s .1 .0)) in
-    (s .0, (roomy, (roomy, s .1 .1)))
-
-same-length : tie.Need-same-length
-same-length c = search needs
+    let s = c .before .before .before .before .pre in
+    let roomy = few-entries _ _ (s .0) small-entries (omega (arith, s .1)) in
+    (s .0, (roomy, (roomy, roomy)))
 
 returns : tie.Need-returns
 returns c = search needs
@@ -30,6 +30,6 @@ agrees-small-spec =
     (tie.spec
     slice-aggregate-sections-agree
     slice-aggregate-sections-agree-2
+    slice-aggregate-sections-agree-3
     sections-agree-requires
-    same-length
     returns)

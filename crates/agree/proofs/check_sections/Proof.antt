@@ -1,6 +1,6 @@
--- `agree::check_sections` meets its contract, by a list of its own. Assumes nothing.
+-- `agree::check_sections` meets its contract: the answer says whether the book agrees. Assumes nothing.
 use Prim.Native.Nat.{ℕ}
-use mathlib.Core.Path.{_≡_, refl, sym, _∙_}
+use mathlib.Core.Path.{_≡_, sym, _∙_}
 use mathlib.Core.Bool.{true, false}
 use mathlib.Core.List.{List}
 use borrow.Author.Needs.{needs}
@@ -15,8 +15,6 @@ use Rattle.book.specs.Checking.{checkOf}
 use Rattle.book.specs.declared.Places.{Places}
 use Rattle.book.proofs.Sound.{held-book}
 use Rattle.book.proofs.Checking.{check-held}
-use Rattle.own.specs.Own.{list-words}
-use Rattle.effects.proofs.Outcomes.{all-zeros}
 use Rattle.agree.proofs.check_sections.Statement.{statement}
 use Rattle.agree.proofs.check_sections.Tie as tie
 
@@ -31,33 +29,29 @@ module _ (ws : List ℕ) (p : Places) (h : Holds ws p) where
   unfolding if_then_else_
   check-done e = sym (check-held ws (bookIn ws) (held-book ws p h) ∙ rw e)
 
-slice-aggregate-agrees : tie.Need-slice-aggregate-agrees
-slice-aggregate-agrees c = search needs
-
 agrees-requires : tie.Need-agrees-requires
-agrees-requires c κs = (c .before .before .pre, (all-zeros list-words, refl))
+agrees-requires c κs = search needs
 
 answered-requires : tie.Need-answered-requires
 answered-requires c κs = search needs
 
 returns : tie.Need-returns
 returns c =
-    let a = c .before .before .before in
-    c .answered .ensures ∙ check-not _ _ (a .before .before .before .pre) (sym (a .agrees .ensures .0) ∙ not-true _ (c .before .if1 .taken))
+    let a = c .before .before in
+    c .answered .ensures ∙ check-not _ _ (a .before .before .pre) (sym (a .agrees .ensures) ∙ not-true _ (c .before .if1 .taken))
 
 answered-requires-2 : tie.Need-answered-requires-2
 answered-requires-2 c κs = search needs
 
 returns-2 : tie.Need-returns-2
 returns-2 c =
-    let a = c .before .before .before in
-    c .answered2 .ensures ∙ check-done _ _ (a .before .before .before .pre) (sym (a .agrees .ensures .0) ∙ not-false _ (c .before .if1 .left))
+    let a = c .before .before in
+    c .answered2 .ensures ∙ check-done _ _ (a .before .before .pre) (sym (a .agrees .ensures) ∙ not-false _ (c .before .if1 .left))
 
 pub check-sections-spec : {M : Type 1} → statement M
 check-sections-spec =
     tie.close
     (tie.spec
-    slice-aggregate-agrees
     agrees-requires
     answered-requires
     returns

@@ -1,10 +1,10 @@
--- `agree::section_agrees` meets its contract: the places listed are of the section's entries, and the counts in use begin at 0. Assumes nothing.
+-- `agree::section_agrees` meets its contract: the places listed are of the section's entries, and the counts and marks in use begin at 0. Assumes nothing.
 use Prim.Native.Nat.{ℕ, _+_, _-_, _≤_}
 use mathlib.Core.Path.{_≡_, refl, sym, ap, ap₂, subst, _∙_}
 use mathlib.Core.Bool.{Bool, true, false}
 use mathlib.Core.List.{List, _++_}
 use native.Mathlib.Omega.{arith}
-use lib.ListN.{length, getD, take, drop, replicate, length-append, length-take, length-replicate}
+use lib.ListN.{length, getD, take, drop, replicate, length-append, length-take, length-drop, length-replicate}
 use lib.Seq.{take-at}
 use borrow.Author.Needs.{needs}
 use borrow.Author.Tests.{not-true, not-false}
@@ -48,6 +48,10 @@ module _ (n : ℕ) (old zeros : List ℕ) (fits : n ≤ length old) (none : zero
   -- With the old words behind them there are n words at least.
   zeros-room : n ≤ length (zeros ++ drop (n - 0) old)
   zeros-room = omega (arith, zeros-long, length-append zeros (drop (n - 0) old))
+
+  -- With n others over them there are as many words as at first.
+  zeros-kept : (new : List ℕ) → length new ≡ n → length (new ++ drop (n - 0) (zeros ++ drop (n - 0) old)) ≡ length old
+  zeros-kept new long = simp (length-append, length-drop) (omega (arith, zeros-long))
 
 -- The words are a book in form, one section of which starts at `at`, and whose number of entries is word `word` of the head.
 module _ (ws : List ℕ) (p : Places) (h : Holds ws p) (s : Section) (at word : ℕ) (begins : at ≡ startOf s p) (slot : word ≡ slotOf s) where
@@ -140,6 +144,10 @@ starts-fit w = omega (arith, told-are w, called w .pre .1 .0)
 counts-fit : (w : tie.After-slot) → told w ≤ length (called w .args .counts .now)
 counts-fit w = omega (arith, told-are w, called w .pre .1 .1 .0)
 
+-- So has the one lent for the marks.
+marks-fit : (w : tie.After-slot) → told w ≤ length (called w .args .marks .now)
+marks-fit w = omega (arith, told-are w, called w .pre .1 .1 .1)
+
 -- The head's word, seen from where the counts are zeroed.
 abbrev worded : tie.After-clear → tie.After-slot
 worded z = z .before .before .before
@@ -152,9 +160,23 @@ zeros z = z .clear .last .0 ++ drop (told (worded z) - 0) (called (worded z) .ar
 zeroed : (z : tie.After-clear) → take (told (worded z) - 0) (zeros z) ≡ replicate (told (worded z)) 0
 zeroed z = zeros-front (told (worded z)) (called (worded z) .args .counts .now) _ (counts-fit (worded z)) (z .clear .ensures)
 
+-- The counts zeroed, seen from where the marks are.
+abbrev first-clean : tie.After-clear2 → tie.After-clear
+first-clean y = y .before .before .before .before
+
+-- The marks as they begin.
+abbrev unmarked : tie.After-clear2 → List ℕ
+unmarked y = y .clear2 .last .0 ++ drop (told (worded (first-clean y)) - 0) (called (worded (first-clean y)) .args .marks .now)
+
+-- Those in use are 0.
+unmarks : (y : tie.After-clear2) → take (told (worded (first-clean y)) - 0) (unmarked y) ≡ replicate (told (worded (first-clean y))) 0
+unmarks y =
+    let w = worded (first-clean y) in
+    zeros-front (told w) (called w .args .marks .now) _ (marks-fit w) (y .clear2 .ensures)
+
 -- The head's word, seen from where the section's start is known.
 abbrev slotted : tie.After-start → tie.After-slot
-slotted a = a .before .before .before .before .before .before
+slotted a = a .before .before .before .before .before .before .before .before .before .before
 
 -- The section ends within the book.
 within : (a : tie.After-start) → let x = called (slotted a) .args in a .start .result + span (told (slotted a)) (drop (a .start .result) (x .book .now)) ≤ length (x .book .now)
@@ -164,9 +186,13 @@ within a = ends-within _ _ (called (slotted a) .pre .0) (called (slotted a) .arg
 abbrev begun : tie.After-index → tie.After-start
 begun i = i .before .before
 
+-- The marks zeroed, seen from there.
+abbrev cleaner : tie.After-index → tie.After-clear2
+cleaner i = i .before .before .before .before .before
+
 -- The counts zeroed, seen from there.
 abbrev clean : tie.After-index → tie.After-clear
-clean i = i .before .before .before .before .before
+clean i = first-clean (cleaner i)
 
 -- How many entries the section has, seen from there.
 abbrev many-at : tie.After-index → ℕ
@@ -192,6 +218,14 @@ long i =
     let a = begun i in
     counts-long _ _ (called (slotted a) .pre .0) (called (slotted a) .args .section) _ _ (a .start .ensures) (slotted a .slot .ensures) (starts i) _ (i .index .ensures)
     (zeros (clean i)) (zeroed (clean i))
+
+-- The marks lent are as many zeros.
+no-marks : (i : tie.After-index) → take (many-at i - 0) (unmarked (cleaner i)) ≡ replicate (length (take (many-at i - 0) (starts i))) 0
+no-marks i =
+    let a = begun i in
+    let o : ℕ = 0 in
+    unmarks (cleaner i)
+    ∙ ap (λ (n : ℕ). replicate n o) (sym (front-long _ _ (called (slotted a) .pre .0) (called (slotted a) .args .section) _ _ (a .start .ensures) (slotted a .slot .ensures) (starts i) _ (i .index .ensures)))
 
 -- What is tallied stays within the greatest count.
 few : (i : tie.After-index) → let x = called (slotted (begun i)) .args in
@@ -221,7 +255,18 @@ counted t =
     t .tally-taught .kept .1 .1 .1 .1 .0 ∙ long i
     ∙ front-long _ _ (called (slotted a) .pre .0) (called (slotted a) .args .section) _ _ (a .start .ensures) (slotted a .slot .ensures) (starts i) _ (i .index .ensures)
 
--- They are lent again from the front of their scratch.
+-- The marks that are left.
+abbrev marks : tie.After-tally-taught → List ℕ
+marks t = t .tally-taught .last .1 .1 .1 .1 .1 .0
+
+-- There are as many of them.
+marked : (t : tie.After-tally-taught) → length (marks t) ≡ many-at (listing t)
+marked t =
+    let i = listing t in
+    let o : ℕ = 0 in
+    t .tally-taught .kept .1 .1 .1 .1 .1 .0 ∙ ap length (unmarks (cleaner i)) ∙ length-replicate (many-at i) o
+
+-- The counts are lent again from the front of their scratch.
 counts-lent : (t : tie.After-tally-taught) → take (many-at (listing t) - 0) (counts t ++ behind t) ≡ counts t
 counts-lent t = take-at (counts t) (behind t) (many-at (listing t) - 0) (counted t ∙ omega arith)
 
@@ -253,6 +298,18 @@ part-clear-end c = counts-fit (c .before)
 clear-requires : tie.Need-clear-requires
 clear-requires c κs = search needs
 
+sub-clear-2 : tie.Need-sub-clear-2
+sub-clear-2 c = search needs
+
+part-clear-start-2 : tie.Need-part-clear-start-2
+part-clear-start-2 c = search needs
+
+part-clear-end-2 : tie.Need-part-clear-end-2
+part-clear-end-2 c = marks-fit (c .before .before .before .before .before)
+
+clear-requires-2 : tie.Need-clear-requires-2
+clear-requires-2 c κs = search needs
+
 start-requires : tie.Need-start-requires
 start-requires c κs = search needs
 
@@ -279,14 +336,26 @@ part-tally-taught-start-2 c = search needs
 
 part-tally-taught-end-2 : tie.Need-part-tally-taught-end-2
 part-tally-taught-end-2 c =
-    let z = c .before .before .before .before .before .before .before .before .before in
+    let z = first-clean (c .before .before .before .before .before .before .before .before .before) in
     zeros-room (told (worded z)) (called (worded z) .args .counts .now) _ (counts-fit (worded z)) (z .clear .ensures)
+
+sub-tally-taught-3 : tie.Need-sub-tally-taught-3
+sub-tally-taught-3 c = search needs
+
+part-tally-taught-start-3 : tie.Need-part-tally-taught-start-3
+part-tally-taught-start-3 c = search needs
+
+part-tally-taught-end-3 : tie.Need-part-tally-taught-end-3
+part-tally-taught-end-3 c =
+    let y = c .before .before .before .before .before .before .before .before .before .before in
+    let w = worded (first-clean y) in
+    zeros-room (told w) (called w .args .marks .now) _ (marks-fit w) (y .clear2 .ensures)
 
 tally-taught-requires : tie.Need-tally-taught-requires
 tally-taught-requires c κs =
     let i = c .before .before .before .before .before .before in
     let b = called (slotted (begun i)) in
-    (b .pre .0, (indexed i, ((long i, few i), b .pre .1 .1 .1)))
+    (b .pre .0, (indexed i, ((long i, few i), no-marks i)))
 
 same-length : tie.Need-same-length
 same-length c = search needs
@@ -301,11 +370,9 @@ returns : tie.Need-returns
 returns c =
     let t = c .before .before .before .before .before in
     let i = listing t in
-    let a = begun i in (
-      unknown-disagrees _ _ (called (slotted a) .pre .0) (called (slotted a) .args .section) _ _ (a .start .ensures) (slotted a .slot .ensures) (starts i) _ (i .index .ensures)
-          (zeros (clean i)) (zeroed (clean i)) (sym (t .tally-taught .ensures .0) ∙ not-true _ (c .if1 .taken)),
-      t .tally-taught .ensures .1 .1,
-    )
+    let a = begun i in
+    unknown-disagrees _ _ (called (slotted a) .pre .0) (called (slotted a) .args .section) _ _ (a .start .ensures) (slotted a .slot .ensures) (starts i) _ (i .index .ensures)
+    (zeros (clean i)) (zeroed (clean i)) (sym (t .tally-taught .ensures .0) ∙ not-true _ (c .if1 .taken))
 
 sub-same-counts : tie.Need-sub-same-counts
 sub-same-counts c = search needs
@@ -334,21 +401,26 @@ same-length-4 : tie.Need-same-length-4
 same-length-4 c = search needs
 
 same-length-5 : tie.Need-same-length-5
-same-length-5 c = search needs
+same-length-5 c =
+    let t = c .before .before .before .before .before .before .before .before .before .before in
+    let z = clean (listing t) in
+    zeros-kept (told (worded z)) (called (worded z) .args .counts .now) _ (counts-fit (worded z)) (z .clear .ensures) (counts t) (counted t)
 
 same-length-6 : tie.Need-same-length-6
-same-length-6 c = search needs
+same-length-6 c =
+    let t = c .before .before .before .before .before .before .before .before .before .before in
+    let y = cleaner (listing t) in
+    let w = worded (first-clean y) in
+    zeros-kept (told w) (called w .args .marks .now) _ (marks-fit w) (y .clear2 .ensures) (marks t) (marked t)
 
 returns-2 : tie.Need-returns-2
 returns-2 c =
     let t = c .before .before .before .before .before .before .before .before .before .before in
     let i = listing t in
     let a = begun i in
-    let known = not-false _ (c .before .before .before .before .before .if1 .left) in (
-      known-agrees _ _ (called (slotted a) .pre .0) (called (slotted a) .args .section) _ _ (a .start .ensures) (slotted a .slot .ensures) (starts i) _ (i .index .ensures)
-          (zeros (clean i)) (zeroed (clean i)) _ _ (sym (t .tally-taught .ensures .0) ∙ known) (counts-lent t ∙ t .tally-taught .ensures .1 .0 known) (c .same-counts .ensures),
-      t .tally-taught .ensures .1 .1,
-    )
+    let known = not-false _ (c .before .before .before .before .before .if1 .left) in
+    known-agrees _ _ (called (slotted a) .pre .0) (called (slotted a) .args .section) _ _ (a .start .ensures) (slotted a .slot .ensures) (starts i) _ (i .index .ensures)
+    (zeros (clean i)) (zeroed (clean i)) _ _ (sym (t .tally-taught .ensures .0) ∙ known) (counts-lent t ∙ t .tally-taught .ensures .1 known) (c .same-counts .ensures)
 
 pub section-agrees-spec : {M : Type 1} → statement M
 section-agrees-spec =
@@ -362,6 +434,10 @@ section-agrees-spec =
     part-clear-start
     part-clear-end
     clear-requires
+    sub-clear-2
+    part-clear-start-2
+    part-clear-end-2
+    clear-requires-2
     start-requires
     index-requires
     sub-tally-taught
@@ -370,6 +446,9 @@ section-agrees-spec =
     sub-tally-taught-2
     part-tally-taught-start-2
     part-tally-taught-end-2
+    sub-tally-taught-3
+    part-tally-taught-start-3
+    part-tally-taught-end-3
     tally-taught-requires
     same-length
     same-length-2

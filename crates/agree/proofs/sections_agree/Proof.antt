@@ -1,10 +1,7 @@
 -- `agree::sections_agree` meets its contract: a book agrees with itself if its three sections do. Assumes nothing.
-use Prim.Native.Nat.{ℕ}
-use mathlib.Core.Path.{_≡_, refl, sym, subst, _∙_}
+use mathlib.Core.Path.{_≡_, refl, sym, _∙_}
 use mathlib.Core.Bool.{true, false}
-use mathlib.Core.List.{List}
 use native.Mathlib.Omega.{arith}
-use lib.ListN.{length, replicate}
 use borrow.Author.Needs.{needs}
 use borrow.Author.Tests.{not-true, not-false}
 use Rattle.words.specs.Base.{_and_}
@@ -12,7 +9,6 @@ use Rattle.words.proofs.Tests.{fails-left, fails-right}
 use Rattle.book.specs.Book.{Book, sectionOf}
 use Rattle.book.specs.Taught.{agreeing}
 use Rattle.book.specs.declared.Section.the-variants.{Tops, Lows, Middles}
-use Rattle.own.specs.Own.{list-words}
 use Rattle.agree.specs.Tallies.{agreeingIn}
 use Rattle.agree.proofs.sections_agree.Statement.{statement}
 use Rattle.agree.proofs.sections_agree.Tie as tie
@@ -52,20 +48,8 @@ at-tops l = l .before .before .before .before .before .before .before .before .b
 abbrev at-lows : tie.After-section-agrees3 → tie.After-section-agrees2
 at-lows p = p .before .before .before .before .before .before .before .before .before .before .before
 
--- The list is zeros, and has room.
-abbrev Clean : List ℕ → Type 0
-Clean list = (list ≡ replicate (length list) 0) × (length list ≡ list-words)
-
--- It is so once R was looked at.
-clean-tops : (r : tie.After-section-agrees) → Clean (r .section-agrees .last .1 .1 .1 .1 .1 .0)
-clean-tops r = subst Clean (sym (r .section-agrees .ensures .1)) (called r .pre .1 .1 .1)
-
--- It is so once L was looked at.
-clean-lows : (l : tie.After-section-agrees2) → Clean (l .section-agrees2 .last .1 .1 .1 .1 .1 .0)
-clean-lows l = subst Clean (sym (l .section-agrees2 .ensures .1)) (clean-tops (at-tops l))
-
 section-agrees-requires : tie.Need-section-agrees-requires
-section-agrees-requires c κs = let s = c .before .before .before .before .before .before .before .pre in (s .0, (s .1 .0 Tops, (s .1 .1 .0 Tops, s .1 .1 .1)))
+section-agrees-requires c κs = let s = c .before .before .before .before .before .before .before .pre in (s .0, (s .1 .0 Tops, (s .1 .1 .0 Tops, s .1 .1 .1 Tops)))
 
 same-length : tie.Need-same-length
 same-length c = search needs
@@ -79,14 +63,14 @@ same-length-3 c = search needs
 returns : tie.Need-returns
 returns c =
     let r = c .before .before .before .before .before .before .before in
-    (tops-fail _ (sym (r .section-agrees .ensures .0) ∙ not-true _ (c .if1 .taken)), r .section-agrees .ensures .1)
+    tops-fail _ (sym (r .section-agrees .ensures) ∙ not-true _ (c .if1 .taken))
 
 section-agrees-requires-2 : tie.Need-section-agrees-requires-2
 section-agrees-requires-2 c κs =
     let r = c .before .before .before .before .before .before .before .before .before .before in
     let k = r .section-agrees .kept in
     let s = called r .pre in
-    (s .0, (omega (arith, k .1 .1 .1 .0, s .1 .0 Lows), (omega (arith, k .1 .1 .1 .1 .0, s .1 .1 .0 Lows), clean-tops r)))
+    (s .0, (omega (arith, k .1 .1 .1 .0, s .1 .0 Lows), (omega (arith, k .1 .1 .1 .1 .0, s .1 .1 .0 Lows), omega (arith, k .1 .1 .1 .1 .1 .0, s .1 .1 .1 Lows))))
 
 same-length-4 : tie.Need-same-length-4
 same-length-4 c = search needs
@@ -100,7 +84,7 @@ same-length-6 c = search needs
 returns-2 : tie.Need-returns-2
 returns-2 c =
     let l = c .before .before .before .before .before .before .before in
-    (lows-fail _ (sym (l .section-agrees2 .ensures .0) ∙ not-true _ (c .if2 .taken)), l .section-agrees2 .ensures .1 ∙ at-tops l .section-agrees .ensures .1)
+    lows-fail _ (sym (l .section-agrees2 .ensures) ∙ not-true _ (c .if2 .taken))
 
 section-agrees-requires-3 : tie.Need-section-agrees-requires-3
 section-agrees-requires-3 c κs =
@@ -108,7 +92,7 @@ section-agrees-requires-3 c κs =
     let k₁ = at-tops l .section-agrees .kept in
     let k₂ = l .section-agrees2 .kept in
     let s = called (at-tops l) .pre in
-    (s .0, (omega (arith, k₂ .1 .1 .1 .0, k₁ .1 .1 .1 .0, s .1 .0 Middles), (omega (arith, k₂ .1 .1 .1 .1 .0, k₁ .1 .1 .1 .1 .0, s .1 .1 .0 Middles), clean-lows l)))
+    (s .0, (omega (arith, k₂ .1 .1 .1 .0, k₁ .1 .1 .1 .0, s .1 .0 Middles), (omega (arith, k₂ .1 .1 .1 .1 .0, k₁ .1 .1 .1 .1 .0, s .1 .1 .0 Middles), omega (arith, k₂ .1 .1 .1 .1 .1 .0, k₁ .1 .1 .1 .1 .1 .0, s .1 .1 .1 Middles))))
 
 same-length-7 : tie.Need-same-length-7
 same-length-7 c = search needs
@@ -124,9 +108,9 @@ returns-3 c =
     let p = c .before .before .before .before .before .before in
     let l = at-lows p in
     let r = at-tops l in
-    let tops = sym (r .section-agrees .ensures .0) ∙ not-false _ (l .before .before .before .before .if1 .left) in
-    let lows = sym (l .section-agrees2 .ensures .0) ∙ not-false _ (p .before .before .before .before .if2 .left) in
-    (p .section-agrees3 .ensures .0 ∙ middles-tell _ tops lows, p .section-agrees3 .ensures .1 ∙ l .section-agrees2 .ensures .1 ∙ r .section-agrees .ensures .1)
+    let tops = sym (r .section-agrees .ensures) ∙ not-false _ (l .before .before .before .before .if1 .left) in
+    let lows = sym (l .section-agrees2 .ensures) ∙ not-false _ (p .before .before .before .before .if2 .left) in
+    p .section-agrees3 .ensures ∙ middles-tell _ tops lows
 
 pub sections-agree-spec : {M : Type 1} → statement M
 sections-agree-spec =

@@ -1,10 +1,10 @@
 -- `agree::tally_taught` meets its contract: at each entry of T what all orders count is what those left count. Assumes nothing.
-use Prim.Native.Nat.{ℕ, _+_, _*_, _-_, _<_, _≤_}
+use Prim.Native.Nat.{ℕ, zero, suc, _+_, _*_, _-_, _<_, _≤_}
 use mathlib.Core.Path.{_≡_, refl, sym, ap, subst, _∙_}
 use mathlib.Core.Bool.{Bool, true, false}
 use mathlib.Core.List.{List, [], _∷_, List·Memᴰ·head as here, List·Memᴰ·tail as there}
 use native.Mathlib.Omega.{arith}
-use lib.ListN.{length, getD, drop, replicate}
+use lib.ListN.{length, getD, drop, replicate, length-replicate}
 use borrow.Author.Needs.{needs}
 use borrow.Author.Tests.{not-true, not-false}
 use Rattle.words.specs.Base.{_and_, _∈_}
@@ -13,15 +13,15 @@ use Rattle.figures.specs.Limits.{taught-word, head-words}
 use Rattle.figures.specs.Numbers.{done}
 use Rattle.section.specs.Entries.{Entry, width, firstEntry, entries, span}
 use Rattle.section.proofs.Words.{span-step, entries-step, past-at, span-at}
-use Rattle.tally.specs.Tallying.{listed, Few, hasAll, tallied}
-use Rattle.tally.proofs.Tallies.{tallied-least}
+use Rattle.tally.specs.Tallying.{listed, hasAll, tallied, Unmarked, Few, Ready, Taken}
+use Rattle.tally.proofs.Starts.{length-listed}
+use Rattle.tally.proofs.Tallies.{tallied-least, marked-other}
 use Rattle.trees.specs.Reading.{causeOf}
 use Rattle.book.specs.Decoding.{bookIn}
 use Rattle.book.specs.Holding.{Holds}
 use Rattle.book.specs.declared.Section.{Section}
 use Rattle.book.specs.declared.Section.the-variants.{Taught}
 use Rattle.book.specs.declared.Places.{Places}
-use Rattle.own.specs.Own.{list-words}
 use Rattle.effects.proofs.Outcomes.{allowed}
 use Rattle.agree.specs.Tallies.{partsIn, allKnown, talliedAll}
 use Rattle.agree.proofs.Counting.{taught-cause}
@@ -39,23 +39,38 @@ all-grow s k (t ∷ ts) es cs i = omega (arith, tallied-least (t .count) (partsI
 -- ---- the orders left
 
 -- The entries left lie within the book and are of its T; what all orders count from the first counts on is what those left count from these.
--- The list is as it was at first.
-record Left (book starts : List ℕ) (s : Section) (counts₀ counts list₀ list : List ℕ) (at left : ℕ) : Type 0 where
+-- No entry has the mark of a turn to come.
+record Left (book starts : List ℕ) (s : Section) (counts₀ counts marks : List ℕ) (at left : ℕ) : Type 0 where
   within : at + span left (drop at book) ≤ length book
   taught : (e : Entry) → e ∈ entries left (drop at book) → e ∈ bookIn book .T
   known : allKnown s (bookIn book .k) (bookIn book .T) (listed starts book) ≡ allKnown s (bookIn book .k) (entries left (drop at book)) (listed starts book)
   counted : talliedAll s (bookIn book .k) (bookIn book .T) (listed starts book) counts₀ ≡ talliedAll s (bookIn book .k) (entries left (drop at book)) (listed starts book) counts
   long : length counts ≡ length starts
-  cleared : list ≡ list₀
+  noted : length marks ≡ length starts
+  fresh : (j : ℕ) → 1 ≤ j → j ≤ left → Unmarked j marks
+
+-- Of zeros none is the mark of a turn.
+zeros-fresh : (n j : ℕ) → 1 ≤ j → Unmarked j (replicate n 0)
+zeros-fresh zero j p i e = omega arith
+zeros-fresh (suc n) j p zero e = omega arith
+zeros-fresh (suc n) j p (suc i) e = zeros-fresh n j p i e
 
 -- At first all entries of T are left.
-left-first : (book starts : List ℕ) (p : Places) (s : Section) (counts list : List ℕ) → Holds book p → length counts ≡ length starts
-    → Left book starts s counts counts list list head-words (getD book taught-word 0)
+left-first : (book starts : List ℕ) (p : Places) (s : Section) (counts marks : List ℕ) → Holds book p → length counts ≡ length starts
+    → marks ≡ replicate (length starts) 0 → Left book starts s counts counts marks head-words (getD book taught-word 0)
 unfolding bookIn
-left-first book starts p s counts list h long =
-    record { within = h .section Taught .within; taught = λ e m. m; known = refl; counted = refl; long = long; cleared = refl }
+left-first book starts p s counts marks h long zeros =
+    record {
+      within = h .section Taught .within;
+      taught = λ e m. m;
+      known = refl;
+      counted = refl;
+      long = long;
+      noted = let o : ℕ = 0 in ap length zeros ∙ length-replicate (length starts) o;
+      fresh = λ j p q. subst (Unmarked j) (sym zeros) (zeros-fresh (length starts) j p);
+    }
 
-module _ (book starts : List ℕ) (s : Section) (counts₀ counts list₀ list : List ℕ) (at left : ℕ) (i : Left book starts s counts₀ counts list₀ list at left) where
+module _ (book starts : List ℕ) (s : Section) (counts₀ counts marks : List ℕ) (at left : ℕ) (i : Left book starts s counts₀ counts marks at left) where
   -- With none left all that the orders count has an entry.
   last-known : left ≤ 0 → true ≡ allKnown s (bookIn book .k) (bookIn book .T) (listed starts book)
   unfolding allKnown entries
@@ -67,8 +82,8 @@ module _ (book starts : List ℕ) (s : Section) (counts₀ counts list₀ list :
   last-counted none = let z : left ≡ 0 = omega arith in sym (i .counted ∙ ap (λ (n : ℕ). talliedAll s (bookIn book .k) (entries n (drop at book)) (listed starts book) counts) z)
 
 -- The entry at `at` is the first of those left, and ends at `end`; k is the book's.
-module _ (book starts : List ℕ) (s : Section) (k : ℕ) (deep : k ≡ bookIn book .k) (counts₀ counts list₀ list : List ℕ) (at left end : ℕ) (more : 0 < left)
-    (ends : end ≡ at + 2 + 2 * getD book at 0) (i : Left book starts s counts₀ counts list₀ list at left) where
+module _ (book starts : List ℕ) (s : Section) (k : ℕ) (deep : k ≡ bookIn book .k) (counts₀ counts marks : List ℕ) (at left end : ℕ) (more : 0 < left)
+    (ends : end ≡ at + 2 + 2 * getD book at 0) (i : Left book starts s counts₀ counts marks at left) where
   -- The others start at its end.
   first-apart : entries left (drop at book) ≡ firstEntry (drop at book) ∷ entries (left - 1) (drop end book)
   first-apart = entries-step (drop at book) left more ∙ ap (λ (ws : List ℕ). firstEntry (drop at book) ∷ entries (left - 1) ws) (past-at book at left end more ends)
@@ -97,34 +112,44 @@ module _ (book starts : List ℕ) (s : Section) (k : ℕ) (deep : k ≡ bookIn b
       let cs = tallied (firstEntry (drop at book) .count) (partsIn s k (firstEntry (drop at book) .key)) (listed starts book) counts in
       omega (arith, all-grow s (bookIn book .k) (entries (left - 1) (drop end book)) (listed starts book) cs j, subst Few first-counted few j)
 
-  -- If what it counts lacks an entry, not all is known.
-  first-unknown : hasAll (partsIn s k (firstEntry (drop at book) .key)) (listed starts book) ≡ false → false ≡ allKnown s (bookIn book .k) (bookIn book .T) (listed starts book)
-  first-unknown lacks = sym (first-known ∙ fails-left _ _ lacks)
+  -- The turn is ready for it.
+  first-ready : Few (talliedAll s (bookIn book .k) (bookIn book .T) (listed starts book) counts₀)
+      → Ready left (firstEntry (drop at book) .count) (partsIn s k (firstEntry (drop at book) .key)) (listed starts book) counts marks
+  first-ready few =
+      let each = sym (length-listed starts book) in
+      record { counts = i .long ∙ each; marks = i .noted ∙ each; fresh = i .fresh left (omega arith) (omega arith); few = first-few few }
 
-  -- Once it is tallied those behind it are left.
-  left-next : (counts′ list′ : List ℕ) → hasAll (partsIn s k (firstEntry (drop at book) .key)) (listed starts book) ≡ true
-      → counts′ ≡ tallied (firstEntry (drop at book) .count) (partsIn s k (firstEntry (drop at book) .key)) (listed starts book) counts
-      → length counts′ ≡ length counts → list′ ≡ list → Left book starts s counts₀ counts′ list₀ list′ end (left - 1)
-  unfolding _and_
-  left-next counts′ list′ all now same again =
-      record {
-        within = omega (arith, i .within, span-at book at left end more ends);
-        taught = λ e m. i .taught e (subst (λ (es : List Entry). e ∈ es) (sym first-apart) (there m));
-        known = first-known ∙ ap (λ (b : Bool). b and allKnown s (bookIn book .k) (entries (left - 1) (drop end book)) (listed starts book)) all;
-        counted = first-counted ∙ ap (talliedAll s (bookIn book .k) (entries (left - 1) (drop end book)) (listed starts book)) (sym now);
-        long = same ∙ i .long;
-        cleared = again ∙ i .cleared;
-      }
+  -- The turn is taken.
+  module _ (counts′ marks′ : List ℕ) (r : Bool)
+      (t : Taken left (firstEntry (drop at book) .count) (partsIn s k (firstEntry (drop at book) .key)) (listed starts book) counts marks counts′ marks′ r) where
+    -- If what it counts lacks an entry, not all is known.
+    first-unknown : r ≡ false → false ≡ allKnown s (bookIn book .k) (bookIn book .T) (listed starts book)
+    first-unknown lacks = sym (first-known ∙ fails-left _ _ (sym (t .told) ∙ lacks))
+
+    -- If not, those behind it are left.
+    left-next : r ≡ true → length counts′ ≡ length counts → length marks′ ≡ length marks → Left book starts s counts₀ counts′ marks′ end (left - 1)
+    unfolding _and_
+    left-next all same noted =
+        record {
+          within = omega (arith, i .within, span-at book at left end more ends);
+          taught = λ e m. i .taught e (subst (λ (es : List Entry). e ∈ es) (sym first-apart) (there m));
+          known = first-known ∙ ap (λ (b : Bool). b and allKnown s (bookIn book .k) (entries (left - 1) (drop end book)) (listed starts book)) (sym (t .told) ∙ all);
+          counted = first-counted ∙ ap (talliedAll s (bookIn book .k) (entries (left - 1) (drop end book)) (listed starts book)) (sym (t .counted all));
+          long = same ∙ i .long;
+          noted = noted ∙ i .noted;
+          fresh = λ j p q.
+              subst (Unmarked j) (sym (t .noted all)) (marked-other j left (partsIn s k (firstEntry (drop at book) .key)) (listed starts book) marks (λ e. omega arith) (i .fresh j p (omega arith)));
+        }
 
 -- ---- the loop
 
 -- At each turn this is left.
 abbrev Inv-loop : tie.InvT-loop
-Inv-loop book places section starts counts₀ list₀ at₀ left₀ counts list at left = Left book starts section counts₀ counts list₀ list at left
+Inv-loop book places section starts counts₀ marks₀ at₀ left₀ counts marks at left = Left book starts section counts₀ counts marks at left
 
 -- Each turn leaves one entry fewer.
 abbrev μ-loop : tie.MeasureT-loop
-μ-loop book places section starts counts₀ list₀ at₀ left₀ counts list at left = left
+μ-loop book places section starts counts₀ marks₀ at₀ left₀ counts marks at left = left
 
 -- What the function was called with, seen from the loop.
 abbrev called : tie.At-loop Inv-loop μ-loop → tie.Start Inv-loop μ-loop
@@ -134,13 +159,13 @@ called l = l .before .before .before .before .before .before
 abbrev book : tie.At-loop Inv-loop μ-loop → List ℕ
 book l = called l .args .book .now
 
--- What the turn's order counts stays within the greatest count.
-turn-few : (c : tie.In-loop Inv-loop μ-loop) → let l = c .before in let x = called l .args in let e = firstEntry (drop (l .loop .at) (book l)) in
-    Few (tallied (e .count) (partsIn (x .section) (x .places .k .k) (e .key)) (listed (x .starts .now) (book l)) (l .loop .counts))
-turn-few c =
+-- The turn is ready for its order.
+turn-ready : (c : tie.In-loop Inv-loop μ-loop) → let l = c .before in let x = called l .args in let e = firstEntry (drop (l .loop .at) (book l)) in
+    Ready (l .loop .left) (e .count) (partsIn (x .section) (x .places .k .k) (e .key)) (listed (x .starts .now) (book l)) (l .loop .counts) (l .loop .marks)
+turn-ready c =
     let l = c .before in
     let b = called l in
-    first-few _ _ _ _ (b .pre .0 .depth) _ _ _ _ _ _ _ (c .loop-test .taken) refl (l .loop .inv) (b .pre .1 .1 .0 .1)
+    first-ready _ _ _ _ (b .pre .0 .depth) _ _ _ _ _ _ (c .loop-test .taken) refl (l .loop .inv) (b .pre .1 .1 .0 .1)
 
 -- The turn's entry is that of an order.
 turn-order : (c : tie.In-loop Inv-loop μ-loop) → causeOf (firstEntry (drop (c .before .loop .at) (book (c .before))) .key) ≡ done
@@ -148,7 +173,7 @@ turn-order c =
     let l = c .before in
     let b = called l in
     taught-cause (bookIn (book l)) (b .pre .0 .form) _
-    (first-taught _ _ _ _ (b .pre .0 .depth) _ _ _ _ _ _ _ (c .loop-test .taken) refl (l .loop .inv))
+    (first-taught _ _ _ _ (b .pre .0 .depth) _ _ _ _ _ _ (c .loop-test .taken) refl (l .loop .inv))
 
 -- The turn's entry lies within the book, by its width.
 turn-within : (c : tie.In-loop Inv-loop μ-loop) → c .before .loop .at + width (drop (c .before .loop .at) (book (c .before))) ≤ length (book (c .before))
@@ -158,9 +183,9 @@ turn-within c = let l = c .before in omega (arith, l .loop .inv .within, span-st
 turn-ends : (c : tie.In-loop Inv-loop μ-loop) → c .before .loop .at + 2 + 2 * getD (book (c .before)) (c .before .loop .at) 0 ≤ length (book (c .before))
 turn-ends c = let l = c .before in omega (arith, l .loop .inv .within, span-at (book l) (l .loop .at) (l .loop .left) _ (c .loop-test .taken) refl)
 
--- The list is zeros again, with room as at first.
-turn-list : (l : tie.At-loop Inv-loop μ-loop) → (l .loop .list ≡ replicate (length (l .loop .list)) 0) × (length (l .loop .list) ≡ list-words)
-turn-list l = subst (λ (z : List ℕ). (z ≡ replicate (length z) 0) × (length z ≡ list-words)) (sym (l .loop .inv .cleared)) (called l .pre .1 .1 .1)
+-- There was a mark for each place.
+marks-long : (b : tie.Start Inv-loop μ-loop) → length (b .args .marks .now) ≡ length (b .args .starts .now)
+marks-long b = let o : ℕ = 0 in ap length (b .pre .1 .1 .1) ∙ length-replicate (length (b .args .starts .now)) o
 
 shared-slice-read-left : tie.Need-shared-slice-read-left Inv-loop μ-loop
 shared-slice-read-left c = omega (arith, c .before .before .before .before .before .pre .0 .long)
@@ -168,13 +193,13 @@ shared-slice-read-left c = omega (arith, c .before .before .before .before .befo
 loop-holds : tie.Need-loop-holds Inv-loop μ-loop
 loop-holds c =
     let b = c .before .before .before .before .before in
-    left-first (b .args .book .now) (b .args .starts .now) _ (b .args .section) (b .args .counts .now) _ (b .pre .0) (b .pre .1 .1 .0 .0)
+    left-first (b .args .book .now) (b .args .starts .now) _ (b .args .section) (b .args .counts .now) _ (b .pre .0) (b .pre .1 .1 .0 .0) (b .pre .1 .1 .1)
 
 tally-order-requires : tie.Need-tally-order-requires Inv-loop μ-loop
 tally-order-requires c κs =
     let t = c .before .before in
     let b = called (t .before) in
-    ((turn-within t, turn-order t), (allowed _ _ (b .pre .0), (b .pre .1 .0, ((t .before .loop .inv .long, turn-few t), turn-list (t .before)))))
+    ((turn-within t, turn-order t), (allowed _ _ (b .pre .0) .0, (b .pre .1 .0, turn-ready t)))
 
 same-length : tie.Need-same-length Inv-loop μ-loop
 same-length c =
@@ -185,7 +210,8 @@ same-length c =
 same-length-2 : tie.Need-same-length-2 Inv-loop μ-loop
 same-length-2 c =
     let a = c .before .before .before .before .before in
-    a .tally-order .kept .1 .1 .1 .1 .1 .1 .0 ∙ ap length (a .before .before .before .before .loop .inv .cleared)
+    let l = a .before .before .before .before in
+    a .tally-order .kept .1 .1 .1 .1 .1 .1 .0 ∙ l .loop .inv .noted ∙ sym (marks-long (called l))
 
 returns : tie.Need-returns Inv-loop μ-loop
 returns c =
@@ -193,9 +219,8 @@ returns c =
     let t = a .before .before .before in
     let l = t .before in
     let b = called l in (
-      first-unknown _ _ _ _ (b .pre .0 .depth) _ _ _ _ _ _ _ (t .loop-test .taken) refl (l .loop .inv)
-          (sym (a .tally-order .ensures .0) ∙ not-true _ (c .if1 .taken)),
-      ((λ e. no-test e), a .tally-order .ensures .1 .1 ∙ l .loop .inv .cleared),
+      first-unknown _ _ _ _ (b .pre .0 .depth) _ _ _ _ _ _ (t .loop-test .taken) refl (l .loop .inv) _ _ _ (a .tally-order .ensures) (not-true _ (c .if1 .taken)),
+      (λ e. no-test e),
     )
 
 past-requires : tie.Need-past-requires Inv-loop μ-loop
@@ -213,20 +238,19 @@ loop-again c =
     let t = a .before .before .before in
     let l = t .before in
     let b = called l in
-    let known = not-false _ (c .before .if1 .left) in
-    left-next _ _ _ _ (b .pre .0 .depth) _ _ _ _ _ _ _ (t .loop-test .taken) (c .past .ensures) (l .loop .inv)
-    _ _ (sym (a .tally-order .ensures .0) ∙ known) (a .tally-order .ensures .1 .0 known) (a .tally-order .kept .1 .1 .1 .1 .1 .0) (a .tally-order .ensures .1 .1)
+    left-next _ _ _ _ (b .pre .0 .depth) _ _ _ _ _ _ (t .loop-test .taken) (c .past .ensures) (l .loop .inv)
+    _ _ _ (a .tally-order .ensures) (not-false _ (c .before .if1 .left)) (a .tally-order .kept .1 .1 .1 .1 .1 .0) (a .tally-order .kept .1 .1 .1 .1 .1 .1 .0)
 
 same-length-3 : tie.Need-same-length-3 Inv-loop μ-loop
 same-length-3 c = c .before .loop .inv .long ∙ sym (called (c .before) .pre .1 .1 .0 .0)
 
 same-length-4 : tie.Need-same-length-4 Inv-loop μ-loop
-same-length-4 c = ap length (c .before .loop .inv .cleared)
+same-length-4 c = c .before .loop .inv .noted ∙ sym (marks-long (called (c .before)))
 
 returns-2 : tie.Need-returns-2 Inv-loop μ-loop
 returns-2 c =
     let l = c .before in
-    (last-known _ _ _ _ _ _ _ _ _ (l .loop .inv) (c .loop-test .left), ((λ e. last-counted _ _ _ _ _ _ _ _ _ (l .loop .inv) (c .loop-test .left)), l .loop .inv .cleared))
+    (last-known _ _ _ _ _ _ _ _ (l .loop .inv) (c .loop-test .left), (λ e. last-counted _ _ _ _ _ _ _ _ (l .loop .inv) (c .loop-test .left)))
 
 pub tally-taught-spec : {M : Type 1} → statement M
 tally-taught-spec =

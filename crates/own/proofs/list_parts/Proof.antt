@@ -52,7 +52,7 @@ part-enter-once-end : tie.Need-part-enter-once-end Inv-loop μ-loop
 part-enter-once-end c =
     let w = c .before .before .before in
     let l = w .before .before .before .before .before in
-    omega (arith, w .write-entry .ensures .0, cut-most _ _ _ _ _ _ _ _ _ (l .before .loop .inv) (l .loop-test .taken) (w .before .before .of-middles .result))
+    omega (arith, w .write-entry .ensures .0, cut-most _ _ _ _ _ _ (l .before .loop .inv .gone) (l .loop-test .taken) (w .before .before .of-middles .result))
 
 enter-once-requires : tie.Need-enter-once-requires Inv-loop μ-loop
 enter-once-requires c κs =

@@ -9,19 +9,11 @@ use borrow.Author.Needs.{needs}
 use Rattle.words.specs.Base.{over}
 use Rattle.figures.specs.Limits.{most-words}
 use Rattle.section.specs.Entries.{counted, entryWords}
-use Rattle.trees.specs.Walks.{walkOf, cutOf, Room, cutLength}
-use Rattle.trees.specs.declared.Laid.{Laid}
-use Rattle.trees.specs.declared.Walked.{Walked}
-use Rattle.trees.specs.declared.Walked.the-variants.{Broken, Whole}
-use Rattle.trees.proofs.Cuts.{room-cut, set-two, part-back}
-use Rattle.trees.proofs.Spots.{line-at, short-order, cut-room}
+use Rattle.trees.specs.Walks.{cutOf}
+use Rattle.trees.proofs.Cuts.{set-two, part-back}
+use Rattle.own.proofs.Written.{line-room, line-count}
 use Rattle.own.proofs.write_entry.Statement.{statement}
 use Rattle.own.proofs.write_entry.Tie as tie
-
--- A cut that has room is that short.
-room-short : (w : Walked) (n : ℕ) → Room w n → cutLength w ≤ n
-room-short Broken n r = absurd r
-room-short (Whole e d c) n r = r
 
 -- An entry of a cut that was written behind two words, once these are written too.
 entry-over : (w l last : List ℕ) → 2 + length w ≤ length l → last ≡ over w (take (length l - 2) (drop 2 l))
@@ -35,22 +27,11 @@ entry-over w l last fits is =
     let past : 2 + length w ≡ length (entryWords (counted w 1)) = omega arith in
     rw (new, set-two ((take 2 l ++ w) ++ drop (2 + length w) l) (length w / 2) 1 long, rest, past) refl
 
--- 128 words are room for the cut of the line's subtree.
-line-room : (b : tie.Start) (n : ℕ) → most-words ≤ n → Room (walkOf (b .args .order .now) (b .args .line * 2) (b .args .d)) n
-line-room b n h =
-    let os = b .args .order .now in
-    let l = line-at os (b .args .line) (b .pre .0) (b .pre .1 .1 .0) in
-    cut-room os (b .args .line * 2) _ (l .spot) (b .args .d) n (short-order os (l .order) (l .passes)) h
-
 -- The cut's length is what was written, and it is short.
 count-is : (c : tie.After-put-line) →
     let b = c .before .before .before .before in
     (c .put-line .result .count ≡ length (cutOf (b .args .order .now) (b .args .line * 2) (b .args .d))) × (c .put-line .result .count ≤ most-words)
-count-is c =
-    let b = c .before .before .before .before in
-    let r = room-cut (b .args .order .now) (b .args .line * 2) (b .args .d) most-words (line-room b most-words (omega arith)) in
-    let e : c .put-line .result .count ≡ cutLength (walkOf (b .args .order .now) (b .args .line * 2) (b .args .d)) = ap (λ (x : Laid). x .count) (c .put-line .ensures .0) in
-    (e ∙ r .1, omega (arith, e, room-short (walkOf (b .args .order .now) (b .args .line * 2) (b .args .d)) most-words (line-room b most-words (omega arith))))
+count-is c = let b = c .before .before .before .before in line-count _ _ _ (b .pre .0) (b .pre .1 .1 .0) _ (c .put-line .ensures .0)
 
 sub-put-line : tie.Need-sub-put-line
 sub-put-line c = search needs
@@ -64,7 +45,7 @@ part-put-line-end c = search needs
 put-line-requires : tie.Need-put-line-requires
 put-line-requires c κs =
     let b = c .before .before .before in
-    (b .pre .0, (b .pre .1 .0 .0, (b .pre .1 .1 .0, (b .pre .1 .0 .1, line-room b _ (simp (length-take, length-drop) (omega (arith, b .pre .1 .1 .1)))))))
+    (b .pre .0, (b .pre .1 .0 .0, (b .pre .1 .1 .0, (b .pre .1 .0 .1, line-room _ _ _ (b .pre .0) (b .pre .1 .1 .0) _ (simp (length-take, length-drop) (omega (arith, b .pre .1 .1 .1)))))))
 
 cast-out : tie.Need-cast-out
 cast-out c = omega (arith, count-is (c .before .before) .1)

@@ -1,0 +1,90 @@
+-- `own::tally_cut` meets its contract: the words that are sought are those of the cut. Assumes nothing.
+use Prim.Native.Nat.{ℕ, _*_, _-_, _≤_}
+use mathlib.Core.Path.{_≡_, sym, ap, subst, _∙_}
+use mathlib.Core.List.{List}
+use native.Mathlib.Omega.{arith}
+use lib.ListN.{length, take, drop}
+use borrow.Author.Needs.{needs}
+use Rattle.section.specs.Entries.{has}
+use Rattle.tally.specs.Tallying.{listed, soughtIn, Few, talliedOnce, markedOnce}
+use Rattle.trees.specs.Walks.{cutOf}
+use Rattle.own.proofs.Written.{line-room, line-count, line-lent}
+use Rattle.own.proofs.tally_cut.Statement.{statement}
+use Rattle.own.proofs.tally_cut.Tie as tie
+
+-- What the function was called with, seen from where the cut is written.
+abbrev called : tie.After-put-line → tie.Start
+called w = w .before .before .before .before .before .before .before .before
+
+-- The scratch with the cut.
+abbrev scratch : tie.After-put-line → List ℕ
+scratch w = w .put-line .last .1 .1 .1 .1 .0
+
+-- The words told are those of the cut.
+lent : (w : tie.After-put-line) → let x = called w .args in take (w .put-line .result .count - 0) (drop 0 (scratch w)) ≡ cutOf (x .order .now) (x .line * 2) (x .d)
+lent w = let b = called w in line-lent _ _ _ (b .pre .0) (b .pre .1 .1 .0) _ (w .put-line .ensures .0) _ _ (w .put-line .ensures .1)
+
+-- The scratch has room for them.
+count-fits : (w : tie.After-put-line) → w .put-line .result .count ≤ length (scratch w)
+count-fits w =
+    let b = called w in
+    omega (arith, line-count _ _ _ (b .pre .0) (b .pre .1 .1 .0) _ (w .put-line .ensures .0) .1, w .put-line .kept .1 .1 .1 .1 .0, b .pre .1 .1 .1 .0)
+
+put-line-requires : tie.Need-put-line-requires
+put-line-requires c κs =
+    let b = c .before .before .before .before .before .before .before in
+    (b .pre .0, (b .pre .1 .0 .0, (b .pre .1 .1 .0, (b .pre .1 .0 .1, line-room _ _ _ (b .pre .0) (b .pre .1 .1 .0) _ (b .pre .1 .1 .1 .0)))))
+
+sub-tally-once : tie.Need-sub-tally-once
+sub-tally-once c = search needs
+
+part-tally-once-start : tie.Need-part-tally-once-start
+part-tally-once-start c = search needs
+
+part-tally-once-end : tie.Need-part-tally-once-end
+part-tally-once-end c = count-fits (c .before .before .before .before .before)
+
+tally-once-requires : tie.Need-tally-once-requires
+tally-once-requires c κs =
+    let w = c .before .before .before .before .before .before in
+    let b = called w in
+    let x = b .args in
+    let few : Few (talliedOnce (x .by) (x .turn) (soughtIn (take (w .put-line .result .count - 0) (drop 0 (scratch w))) (listed (x .starts .now) (x .book .now))) (x .marks .now) (x .counts .now)) =
+    subst (λ (z : List ℕ). Few (talliedOnce (x .by) (x .turn) (soughtIn z (listed (x .starts .now) (x .book .now))) (x .marks .now) (x .counts .now))) (sym (lent w)) (b .pre .1 .1 .1 .1 .1 .1) in
+    (b .pre .1 .1 .1 .1 .0, (b .pre .1 .1 .1 .1 .1 .0, few))
+
+same-length : tie.Need-same-length
+same-length c = search needs
+
+same-length-2 : tie.Need-same-length-2
+same-length-2 c = search needs
+
+same-length-3 : tie.Need-same-length-3
+same-length-3 c = search needs
+
+returns : tie.Need-returns
+returns c =
+    let t = c .before .before .before .before .tally-once in
+    let w = c .before .before .before .before .before .before .before .before .before .before .before in
+    let x = called w .args in
+    let es = listed (x .starts .now) (x .book .now) in (
+      t .ensures .0 ∙ ap (λ (z : List ℕ). has z es) (lent w),
+      (
+        t .ensures .1 .0 ∙ ap (λ (z : List ℕ). talliedOnce (x .by) (x .turn) (soughtIn z es) (x .marks .now) (x .counts .now)) (lent w),
+        t .ensures .1 .1 ∙ ap (λ (z : List ℕ). markedOnce (x .turn) (soughtIn z es) (x .marks .now)) (lent w),
+      ),
+    )
+
+pub tally-cut-spec : {M : Type 1} → statement M
+tally-cut-spec =
+    tie.close
+    (tie.spec
+    put-line-requires
+    sub-tally-once
+    part-tally-once-start
+    part-tally-once-end
+    tally-once-requires
+    same-length
+    same-length-2
+    same-length-3
+    returns)
