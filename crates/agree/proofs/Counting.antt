@@ -10,15 +10,12 @@ use borrow.Author.Tests.{ltb-true, ltb-false}
 use Rattle.words.specs.Base.{_and_, _∈_}
 use Rattle.words.proofs.Tests.{no-test, and-left, and-right, and-both}
 use Rattle.figures.specs.Limits.{greatest-count, head-words}
-use Rattle.figures.specs.Numbers.{done}
 use Rattle.section.specs.Entries.{Entry, sectionWords, has, countOf}
 use Rattle.section.proofs.Counts.{has-entry, entry-count, counts-has, lacks-counts}
 use Rattle.section.proofs.Sorting.{same-counts}
 use Rattle.section.proofs.Sizes.{size-first}
 use Rattle.tally.specs.Tallying.{Few, sameCounts}
-use Rattle.trees.specs.Reading.{byOrder, causeOf}
 use Rattle.trees.proofs.Orders.{size, some-lines}
-use Rattle.trees.proofs.Fitting.{order-read}
 use Rattle.book.specs.Book.{Book, sectionOf, used, live, inForm}
 use Rattle.book.specs.Decoding.{bookIn}
 use Rattle.book.specs.Holding.{Holds}
@@ -31,7 +28,8 @@ use Rattle.book.proofs.Taught.{same-section, section-same}
 use Rattle.amend.proofs.Sections.{form-sorted, used-split}
 use Rattle.amend.proofs.Stages.{uses}
 use Rattle.effects.proofs.Agreeing.{form-orders, teachings-sorted}
-use Rattle.agree.specs.Tallies.{allKnown, talliedAll, agreeingIn, Roomy}
+use Rattle.recount.specs.Tallies.{allKnown, talliedAll}
+use Rattle.agree.specs.Agreeing.{agreeingIn, Roomy}
 use Rattle.agree.proofs.Tallied.{countedIn, count-most, countsBy, counts-few, tallied-is, same-by, by-same, counted-known, known-counted}
 
 -- ---- a section of a book in form
@@ -41,11 +39,6 @@ long-keys : (es : List Entry) → ((e : Entry) → e ∈ es → 2 ≤ length (e 
 unfolding sectionWords
 long-keys [] h = omega arith
 long-keys (e ∷ es) h = omega (arith, size-first e es, h e (here refl), long-keys es (λ i m. h i (there m)))
-
--- The key of an entry of a T in form is an order.
-pub taught-cause : (b : Book) → inForm b ≡ true → (e : Entry) → e ∈ b .T → causeOf (e .key) ≡ done
-unfolding causeOf byOrder
-taught-cause b form e m = let f = form-orders b form .limits e m in rw (order-read (e .key) (f .tree) (f .isOrder))
 
 module _ (b : Book) (form : inForm b ≡ true) (s : Section) where
   -- What the orders of the book's T count in the section.

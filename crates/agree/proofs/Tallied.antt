@@ -26,7 +26,7 @@ use Rattle.own.specs.Own.{ownBook, ownOf}
 use Rattle.effects.specs.Calls.{treesIn}
 use Rattle.effects.proofs.Adds.{taught-section, own-section, trees-once, count-each-apart}
 use Rattle.effects.proofs.Agreeing.{TaughtOrders, later-taught, first}
-use Rattle.agree.specs.Tallies.{partsIn, allKnown, talliedAll}
+use Rattle.recount.specs.Tallies.{partsIn, allKnown, talliedAll}
 
 -- ---- what the orders of a T count
 

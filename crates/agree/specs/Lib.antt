@@ -1,2 +1,2 @@
 -- The definitions of the crate.
-pub mod Tallies
+pub mod Agreeing

@@ -1,30 +1,22 @@
 // Whether a book agrees with itself: for each entry of R, L and P the counts of the taught orders that have it are tallied, and held to its own.
 // Assumes nothing beyond each inner function's `requires`.
 ghost use mathlib.Core.Path.{_≡_};
-ghost use mathlib.Core.Bool.{true};
-ghost use Prim.Native.Nat.{_+_, _≤_};
-ghost use lib.ListN.{length, drop, replicate};
+ghost use Prim.Native.Nat.{_≤_};
+ghost use lib.ListN.{length};
 ghost use Rattle.words.specs.Base.{_and_};
-ghost use Rattle.figures.specs.Limits.{least-k};
-ghost use Rattle.figures.specs.Numbers.{done};
-ghost use Rattle.section.specs.Entries.{width, firstEntry};
-ghost use Rattle.tally.specs.Tallying.{listed, Indexed, Few, Ready, Taken};
-ghost use Rattle.trees.specs.Reading.{causeOf};
 ghost use Rattle.book.specs.Book.{sectionOf};
 ghost use Rattle.book.specs.Decoding.{bookIn};
 ghost use Rattle.book.specs.Holding.{Holds};
 ghost use Rattle.book.specs.Taught.{agreeing};
 ghost use Rattle.book.specs.Checking.{checkOf};
-ghost use Rattle.agree.specs.Tallies.{small-book, partsIn, allKnown, talliedAll, agreeingIn, Roomy};
+ghost use Rattle.agree.specs.Agreeing.{small-book, agreeingIn, Roomy};
 use book::BookForm;
 use book::Places;
 use book::Section;
 use figures::Answer;
-use figures::Depth;
 use figures::answered;
 use figures::limits;
 use figures::numbers;
-use section::past;
 
 // No section has more entries: the shortest entry, that of a single node, takes four words.
 const MOST_ENTRIES: usize = (limits::MOST_BOOK_WORDS - limits::HEAD_WORDS) / 4;
@@ -34,74 +26,6 @@ const SMALL_ENTRIES: usize = 512;
 
 // No section of a book that uses at most so many words has more entries: the shortest takes four words.
 const SMALL_BOOK: usize = limits::HEAD_WORDS + 4 * SMALL_ENTRIES;
-
-// Tallies what the taught order at word `at` counts in a section, for the section's listed entries, by marks of this turn. Answers false where
-// a part has no entry; what was tallied then is of no use.
-fn tally_order(
-    book: &[u16],
-    at: usize,
-    k: Depth,
-    section: Section,
-    starts: &[u16],
-    counts: &mut [u16],
-    marks: &mut [u16],
-    turn: u16,
-) -> bool
-    requires { ⌜ (at + width (drop at (now book)) ≤ length (now book)) × (causeOf (firstEntry (drop at (now book)) .key) ≡ done) ⌝ }
-    requires { ⌜ least-k ≤ k .k ⌝ }
-    requires { ⌜ Indexed (now starts) (now book) ⌝ }
-    requires { ⌜ Ready turn (firstEntry (drop at (now book)) .count) (partsIn section (k .k) (firstEntry (drop at (now book)) .key)) (listed (now starts) (now book)) (now counts) (now marks) ⌝ }
-    ensures { λ r. ⌜ Taken turn (firstEntry (drop at (now (book .entry))) .count) (partsIn section (k .k) (firstEntry (drop at (now (book .entry))) .key))
-        (listed (now (starts .entry)) (now (book .entry))) (now (counts .entry)) (now (marks .entry)) (now (counts .exit)) (now (marks .exit)) r ⌝ }
-{
-    let start = at + 2;
-    let end = past(book, at);
-    let by = book[at + 1];
-    let mut levels = [0u8; limits::MOST_NODES];
-    order::cause_into(&book[start..end], &mut levels);
-    own::tally_section(
-        &book[start..end],
-        &levels,
-        k,
-        section,
-        book,
-        starts,
-        counts,
-        marks,
-        turn,
-        by,
-    )
-}
-
-// Tallies what all taught orders count in a section, for the section's listed entries, none of which is marked. An order's turn has the number of
-// orders left. Answers false where a part has no entry; what was tallied then is of no use.
-fn tally_taught(
-    book: &[u16],
-    places: Places,
-    section: Section,
-    starts: &[u16],
-    counts: &mut [u16],
-    marks: &mut [u16],
-) -> bool
-    requires { ⌜ Holds (now book) places ⌝ }
-    requires { ⌜ Indexed (now starts) (now book) ⌝ }
-    requires { ⌜ (length (now counts) ≡ length (now starts)) × Few (talliedAll section (bookIn (now book) .k) (bookIn (now book) .T) (listed (now starts) (now book)) (now counts)) ⌝ }
-    requires { ⌜ now marks ≡ replicate (length (now starts)) 0 ⌝ }
-    ensures known { λ r. ⌜ r ≡ allKnown section (bookIn (now (book .entry)) .k) (bookIn (now (book .entry)) .T) (listed (now (starts .entry)) (now (book .entry))) ⌝ }
-    ensures counted { λ r. ⌜ (r ≡ true → now (counts .exit) ≡
-        talliedAll section (bookIn (now (book .entry)) .k) (bookIn (now (book .entry)) .T) (listed (now (starts .entry)) (now (book .entry))) (now (counts .entry))) ⌝ }
-{
-    let mut at = limits::HEAD_WORDS;
-    let mut left = book[limits::TAUGHT_WORD];
-    while 0 < left {
-        if !tally_order(book, at, places.k, section, starts, counts, marks, left) {
-            return false;
-        }
-        at = past(book, at);
-        left -= 1;
-    }
-    true
-}
 
 // Whether a section of a book in form is that of its T, trees and counts. Lent as scratch: places, counts and marks for its entries, with any
 // words in them.
@@ -123,7 +47,7 @@ fn section_agrees(
     words::clear(&mut counts[0..many]);
     words::clear(&mut marks[0..many]);
     tally::index(book, book::start(section, places), many, starts);
-    if !tally_taught(
+    if !recount::tally_taught(
         book,
         places,
         section,

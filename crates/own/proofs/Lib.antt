@@ -2,5 +2,4 @@
 pub mod Listing
 pub mod Lowness
 pub mod Owning
-pub mod Turns
 pub mod Written

@@ -4,11 +4,10 @@ ghost use mathlib.Core.Path.{_≡_};
 ghost use Prim.Native.Nat.{_+_, _*_, _/_, _≤_, _<_};
 ghost use lib.ListN.{length, replicate};
 ghost use Rattle.words.specs.Base.{over};
-ghost use Rattle.figures.specs.Limits.{least-k, greatest-k, most-nodes, most-words};
+ghost use Rattle.figures.specs.Limits.{least-k, greatest-k, most-nodes};
 ghost use Rattle.figures.specs.Numbers.{done};
-ghost use Rattle.section.specs.Entries.{counted, entryWords, sectionWords, has};
+ghost use Rattle.section.specs.Entries.{counted, entryWords, sectionWords};
 ghost use Rattle.changes.specs.Editing.{padded};
-ghost use Rattle.tally.specs.Tallying.{listed, Indexed, soughtIn, Few, talliedOnce, markedOnce, Ready, Taken};
 ghost use Rattle.trees.specs.Reading.{causeOf};
 ghost use Rattle.trees.specs.Levels.{LinesLevelled};
 ghost use Rattle.trees.specs.Walks.{cutOf, partAtOf};
@@ -55,7 +54,7 @@ fn write_entry(
 }
 
 // Whether a line, counted from 0, stands for a low part: no line of its subtree is more than k-2 levels below it.
-fn is_low(order: &[u16], levels: &[u8; limits::MOST_NODES], line: usize, k: Depth) -> bool
+pub fn is_low(order: &[u16], levels: &[u8; limits::MOST_NODES], line: usize, k: Depth) -> bool
     requires { ⌜ causeOf (now order) ≡ done ⌝ }
     requires { ⌜ LinesLevelled (now order) (now levels) × (length (now levels) ≡ most-nodes) ⌝ }
     requires { ⌜ line < length (now order) / 2 ⌝ }
@@ -111,170 +110,6 @@ fn list_parts(
         line += 1;
     }
     Size { used, many }
-}
-
-// Tallies `by` for the cut at d of the subtree of a line, the lines counted from 0, among the listed entries of a section of a book, once a
-// turn, by way of a scratch for its words. Answers whether it has an entry.
-fn tally_cut(
-    order: &[u16],
-    levels: &[u8; limits::MOST_NODES],
-    line: usize,
-    d: usize,
-    part: &mut [u16],
-    book: &[u16],
-    starts: &[u16],
-    counts: &mut [u16],
-    marks: &mut [u16],
-    turn: u16,
-    by: u16,
-) -> bool
-    requires { ⌜ causeOf (now order) ≡ done ⌝ }
-    requires { ⌜ LinesLevelled (now order) (now levels) × (length (now levels) ≡ most-nodes) ⌝ }
-    requires { ⌜ line < length (now order) / 2 ⌝ }
-    requires { ⌜ most-words ≤ length (now part) ⌝ }
-    requires { ⌜ Indexed (now starts) (now book) ⌝ }
-    requires { ⌜ (length (now counts) ≡ length (now starts)) × (length (now marks) ≡ length (now starts)) ⌝ }
-    requires { ⌜ Few (talliedOnce by turn (soughtIn (cutOf (now order) (line * 2) d) (listed (now starts) (now book))) (now marks) (now counts)) ⌝ }
-    ensures known { λ r. ⌜ r ≡ has (cutOf (now (order .entry)) (line * 2) d) (listed (now (starts .entry)) (now (book .entry))) ⌝ }
-    ensures counted { λ _. ⌜ now (counts .exit) ≡ talliedOnce by turn (soughtIn (cutOf (now (order .entry)) (line * 2) d) (listed (now (starts .entry)) (now (book .entry)))) (now (marks .entry)) (now (counts .entry)) ⌝ }
-    ensures noted { λ _. ⌜ now (marks .exit) ≡ markedOnce turn (soughtIn (cutOf (now (order .entry)) (line * 2) d) (listed (now (starts .entry)) (now (book .entry)))) (now (marks .entry)) ⌝ }
-{
-    let laid = cuts::put_line(order, levels, line, d, part);
-    let end = laid.count;
-    tally::tally_once(book, starts, counts, marks, &part[0..end], turn, by)
-}
-
-// Tallies `by` for each of the order's low parts, or of its middle parts, as `tally_cut` does for one. Answers false where one has no entry;
-// what was tallied then is of no use.
-fn tally_parts(
-    order: &[u16],
-    levels: &[u8; limits::MOST_NODES],
-    k: Depth,
-    low: bool,
-    part: &mut [u16],
-    book: &[u16],
-    starts: &[u16],
-    counts: &mut [u16],
-    marks: &mut [u16],
-    turn: u16,
-    by: u16,
-) -> bool
-    requires { ⌜ least-k ≤ k .k ⌝ }
-    requires { ⌜ causeOf (now order) ≡ done ⌝ }
-    requires { ⌜ LinesLevelled (now order) (now levels) × (length (now levels) ≡ most-nodes) ⌝ }
-    requires { ⌜ most-words ≤ length (now part) ⌝ }
-    requires { ⌜ Indexed (now starts) (now book) ⌝ }
-    requires { ⌜ Ready turn by (listOf low (k .k) (now order)) (listed (now starts) (now book)) (now counts) (now marks) ⌝ }
-    ensures { λ r. ⌜ Taken turn by (listOf low (k .k) (now (order .entry))) (listed (now (starts .entry)) (now (book .entry))) (now (counts .entry)) (now (marks .entry)) (now (counts .exit)) (now (marks .exit)) r ⌝ }
-{
-    let lines = order.len() / 2;
-    let mut line: usize = 0;
-    while line < lines {
-        if is_low(order, levels, line, k) == low {
-            let d = k.of_middles();
-            if !tally_cut(
-                order,
-                levels,
-                line,
-                d,
-                part,
-                book,
-                starts,
-                counts,
-                marks,
-                turn,
-                by,
-            ) {
-                return false;
-            }
-        }
-        line += 1;
-    }
-    true
-}
-
-// Tallies `by` for each entry that one teaching of the order counts in a section, T included, among the section's listed entries in a book,
-// each once, by marks of this turn. Answers false where one has no entry; what was tallied then is of no use.
-pub fn tally_section(
-    order: &[u16],
-    levels: &[u8; limits::MOST_NODES],
-    k: Depth,
-    section: Section,
-    book: &[u16],
-    starts: &[u16],
-    counts: &mut [u16],
-    marks: &mut [u16],
-    turn: u16,
-    by: u16,
-) -> bool
-    requires { ⌜ least-k ≤ k .k ⌝ }
-    requires { ⌜ causeOf (now order) ≡ done ⌝ }
-    requires { ⌜ LinesLevelled (now order) (now levels) × (length (now levels) ≡ most-nodes) ⌝ }
-    requires { ⌜ Indexed (now starts) (now book) ⌝ }
-    requires { ⌜ Ready turn by (sectionOf section (ownOf (k .k) (now order))) (listed (now starts) (now book)) (now counts) (now marks) ⌝ }
-    ensures { λ r. ⌜ Taken turn by (sectionOf section (ownOf (k .k) (now (order .entry)))) (listed (now (starts .entry)) (now (book .entry))) (now (counts .entry)) (now (marks .entry)) (now (counts .exit)) (now (marks .exit)) r ⌝ }
-{
-    let mut part = [0u16; limits::MOST_WORDS];
-    match section {
-        Section::Taught => {
-            let d = limits::GREATEST_DEPTH;
-            tally_cut(
-                order,
-                levels,
-                0,
-                d,
-                &mut part,
-                book,
-                starts,
-                counts,
-                marks,
-                turn,
-                by,
-            )
-        }
-        Section::Tops => {
-            let d = k.of_tops();
-            tally_cut(
-                order,
-                levels,
-                0,
-                d,
-                &mut part,
-                book,
-                starts,
-                counts,
-                marks,
-                turn,
-                by,
-            )
-        }
-        Section::Lows => tally_parts(
-            order,
-            levels,
-            k,
-            true,
-            &mut part,
-            book,
-            starts,
-            counts,
-            marks,
-            turn,
-            by,
-        ),
-        Section::Middles => tally_parts(
-            order,
-            levels,
-            k,
-            false,
-            &mut part,
-            book,
-            starts,
-            counts,
-            marks,
-            turn,
-            by,
-        ),
-    }
 }
 
 // Lists the order's own book in `own`, whose words are zero. Answers where its sections start.

@@ -8,7 +8,7 @@ use Rattle.book.specs.Holding.{Holds}
 use Rattle.book.specs.declared.Places.{Places}
 use Rattle.book.proofs.Meaning.{used-fits}
 use Rattle.amend.proofs.Stages.{uses}
-use Rattle.agree.specs.Tallies.{most-entries, Roomy}
+use Rattle.agree.specs.Agreeing.{most-entries, Roomy}
 use Rattle.agree.proofs.Counting.{few-entries}
 use Rattle.agree.proofs.agrees_large.Statement.{statement}
 use Rattle.agree.proofs.agrees_large.Tie as tie

@@ -1,7 +1,7 @@
 -- `agree::agrees_small` meets its contract: no section of a small book has more entries than its scratch has words. Assumes nothing.
 use native.Mathlib.Omega.{arith}
 use borrow.Author.Needs.{needs}
-use Rattle.agree.specs.Tallies.{small-entries}
+use Rattle.agree.specs.Agreeing.{small-entries}
 use Rattle.agree.proofs.Counting.{few-entries}
 use Rattle.agree.proofs.agrees_small.Statement.{statement}
 use Rattle.agree.proofs.agrees_small.Tie as tie

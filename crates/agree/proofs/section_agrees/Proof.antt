@@ -21,7 +21,8 @@ use Rattle.book.specs.declared.Section.{Section}
 use Rattle.book.specs.declared.Places.{Places}
 use Rattle.amend.proofs.Sections.{slot-small}
 use Rattle.amend.proofs.Weights.{slot-within, ends-within}
-use Rattle.agree.specs.Tallies.{allKnown, talliedAll, agreeingIn}
+use Rattle.recount.specs.Tallies.{allKnown, talliedAll}
+use Rattle.agree.specs.Agreeing.{agreeingIn}
 use Rattle.agree.proofs.Counting.{tallied-few, agreeing-tallied, keys-filled}
 use Rattle.agree.proofs.section_agrees.Statement.{statement}
 use Rattle.agree.proofs.section_agrees.Tie as tie
@@ -420,7 +421,7 @@ returns-2 c =
     let a = begun i in
     let known = not-false _ (c .before .before .before .before .before .if1 .left) in
     known-agrees _ _ (called (slotted a) .pre .0) (called (slotted a) .args .section) _ _ (a .start .ensures) (slotted a .slot .ensures) (starts i) _ (i .index .ensures)
-    (zeros (clean i)) (zeroed (clean i)) _ _ (sym (t .tally-taught .ensures .0) ∙ known) (counts-lent t ∙ t .tally-taught .ensures .1 known) (c .same-counts .ensures)
+    (zeros (clean i)) (zeroed (clean i)) _ _ (sym (t .tally-taught .ensures .0) ∙ known) (counts-lent t ∙ t .tally-taught .ensures .1 .0 known) (c .same-counts .ensures)
 
 pub section-agrees-spec : {M : Type 1} → statement M
 section-agrees-spec =

@@ -9,7 +9,7 @@ use Rattle.words.proofs.Tests.{fails-left, fails-right}
 use Rattle.book.specs.Book.{Book, sectionOf}
 use Rattle.book.specs.Taught.{agreeing}
 use Rattle.book.specs.declared.Section.the-variants.{Tops, Lows, Middles}
-use Rattle.agree.specs.Tallies.{agreeingIn}
+use Rattle.agree.specs.Agreeing.{agreeingIn}
 use Rattle.agree.proofs.sections_agree.Statement.{statement}
 use Rattle.agree.proofs.sections_agree.Tie as tie
 

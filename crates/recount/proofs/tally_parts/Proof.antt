@@ -1,4 +1,4 @@
--- `own::tally_parts` meets its contract: a line of the kind tallies its part, and past the last line all parts are tallied. Assumes nothing.
+-- `recount::tally_parts` meets its contract: a line of the kind tallies its part, and past the last line all parts are tallied. Assumes nothing.
 use Prim.Native.Nat.{ℕ, _-_}
 use mathlib.Core.Path.{_≡_, refl, sym, ap, _∙_}
 use mathlib.Core.Bool.{true, false}
@@ -11,9 +11,9 @@ use borrow.Author.Tests.{not-true, not-false}
 use Rattle.words.proofs.Tests.{no-test}
 use Rattle.tally.specs.Tallying.{listed}
 use Rattle.tally.proofs.Starts.{length-listed}
-use Rattle.own.proofs.Turns.{Turning, turning-named, turn-start, turn-counts, turn-marks, turn-end, turn-passed, refused-taken, turn-unknown, turn-few, turn-tallied}
-use Rattle.own.proofs.tally_parts.Statement.{statement}
-use Rattle.own.proofs.tally_parts.Tie as tie
+use Rattle.recount.proofs.Turns.{Turning, turning-named, turn-start, turn-counts, turn-marks, turn-end, turn-passed, refused-taken, turn-unknown, turn-few, turn-tallied}
+use Rattle.recount.proofs.tally_parts.Statement.{statement}
+use Rattle.recount.proofs.tally_parts.Tie as tie
 
 -- The parts of the lines gone over are tallied; the scratch is as long as at first.
 abbrev Inv-loop : tie.InvT-loop

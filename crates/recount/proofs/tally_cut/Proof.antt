@@ -1,4 +1,4 @@
--- `own::tally_cut` meets its contract: the words that are sought are those of the cut. Assumes nothing.
+-- `recount::tally_cut` meets its contract: the words that are sought are those of the cut. Assumes nothing.
 use Prim.Native.Nat.{ℕ, _*_, _-_, _≤_}
 use mathlib.Core.Path.{_≡_, sym, ap, subst, _∙_}
 use mathlib.Core.List.{List}
@@ -8,9 +8,9 @@ use borrow.Author.Needs.{needs}
 use Rattle.section.specs.Entries.{has}
 use Rattle.tally.specs.Tallying.{listed, soughtIn, Few, talliedOnce, markedOnce}
 use Rattle.trees.specs.Walks.{cutOf}
 use Rattle.own.proofs.Written.{line-room, line-count, line-lent}
-use Rattle.own.proofs.tally_cut.Statement.{statement}
-use Rattle.own.proofs.tally_cut.Tie as tie
+use Rattle.recount.proofs.tally_cut.Statement.{statement}
+use Rattle.recount.proofs.tally_cut.Tie as tie
 
 -- What the function was called with, seen from where the cut is written.
 abbrev called : tie.After-put-line → tie.Start

@@ -1,4 +1,4 @@
--- `agree::tally_taught` meets its contract: at each entry of T what all orders count is what those left count. Assumes nothing.
+-- `recount::tally_taught` meets its contract: at each entry of T what all orders count is what those left count. Assumes nothing.
 use Prim.Native.Nat.{ℕ, zero, suc, _+_, _*_, _-_, _<_, _≤_}
 use mathlib.Core.Path.{_≡_, refl, sym, ap, subst, _∙_}
 use mathlib.Core.Bool.{Bool, true, false}
@@ -12,8 +12,8 @@ use Rattle.words.proofs.Tests.{no-test, fails-left}
 use Rattle.figures.specs.Limits.{taught-word, head-words}
 use Rattle.figures.specs.Numbers.{done}
 use Rattle.section.specs.Entries.{Entry, width, firstEntry, entries, span}
-use Rattle.section.proofs.Words.{span-step, entries-step, past-at, span-at}
-use Rattle.tally.specs.Tallying.{listed, hasAll, tallied, Unmarked, Few, Ready, Taken}
+use Rattle.section.proofs.Words.{length-entries, span-step, entries-step, past-at, span-at}
+use Rattle.tally.specs.Tallying.{listed, hasAll, tallied, marked, Unmarked, Few, Ready, Taken}
 use Rattle.tally.proofs.Starts.{length-listed}
 use Rattle.tally.proofs.Tallies.{tallied-least, marked-other}
 use Rattle.trees.specs.Reading.{causeOf}
@@ -23,10 +23,10 @@ use Rattle.book.specs.declared.Section.{Section}
 use Rattle.book.specs.declared.Section.the-variants.{Taught}
 use Rattle.book.specs.declared.Places.{Places}
 use Rattle.effects.proofs.Outcomes.{allowed}
-use Rattle.agree.specs.Tallies.{partsIn, allKnown, talliedAll}
-use Rattle.agree.proofs.Counting.{taught-cause}
-use Rattle.agree.proofs.tally_taught.Statement.{statement}
-use Rattle.agree.proofs.tally_taught.Tie as tie
+use Rattle.recount.specs.Tallies.{partsIn, allKnown, talliedAll, markedAll}
+use Rattle.recount.proofs.Taught.{taught-cause}
+use Rattle.recount.proofs.tally_taught.Statement.{statement}
+use Rattle.recount.proofs.tally_taught.Tie as tie
 
 -- ---- counts only grow
 
@@ -40,13 +40,14 @@ all-grow s k (t ∷ ts) es cs i = omega (arith, tallied-least (t .count) (partsI
 
 -- The entries left lie within the book and are of its T; what all orders count from the first counts on is what those left count from these.
 -- No entry has the mark of a turn to come.
-record Left (book starts : List ℕ) (s : Section) (counts₀ counts marks : List ℕ) (at left : ℕ) : Type 0 where
+record Left (book starts : List ℕ) (s : Section) (counts₀ counts marks₀ marks : List ℕ) (at left : ℕ) : Type 0 where
   within : at + span left (drop at book) ≤ length book
   taught : (e : Entry) → e ∈ entries left (drop at book) → e ∈ bookIn book .T
   known : allKnown s (bookIn book .k) (bookIn book .T) (listed starts book) ≡ allKnown s (bookIn book .k) (entries left (drop at book)) (listed starts book)
   counted : talliedAll s (bookIn book .k) (bookIn book .T) (listed starts book) counts₀ ≡ talliedAll s (bookIn book .k) (entries left (drop at book)) (listed starts book) counts
+  noted : markedAll s (bookIn book .k) (bookIn book .T) (listed starts book) marks₀ ≡ markedAll s (bookIn book .k) (entries left (drop at book)) (listed starts book) marks
   long : length counts ≡ length starts
-  noted : length marks ≡ length starts
+  wide : length marks ≡ length starts
   fresh : (j : ℕ) → 1 ≤ j → j ≤ left → Unmarked j marks
 
 -- Of zeros none is the mark of a turn.
@@ -57,7 +58,7 @@ zeros-fresh (suc n) j p (suc i) e = zeros-fresh n j p i e
 
 -- At first all entries of T are left.
 left-first : (book starts : List ℕ) (p : Places) (s : Section) (counts marks : List ℕ) → Holds book p → length counts ≡ length starts
-    → marks ≡ replicate (length starts) 0 → Left book starts s counts counts marks head-words (getD book taught-word 0)
+    → marks ≡ replicate (length starts) 0 → Left book starts s counts counts marks marks head-words (getD book taught-word 0)
 unfolding bookIn
 left-first book starts p s counts marks h long zeros =
     record {
@@ -65,12 +66,13 @@ left-first book starts p s counts marks h long zeros =
       taught = λ e m. m;
       known = refl;
       counted = refl;
+      noted = refl;
       long = long;
-      noted = let o : ℕ = 0 in ap length zeros ∙ length-replicate (length starts) o;
+      wide = let o : ℕ = 0 in ap length zeros ∙ length-replicate (length starts) o;
       fresh = λ j p q. subst (Unmarked j) (sym zeros) (zeros-fresh (length starts) j p);
     }
 
-module _ (book starts : List ℕ) (s : Section) (counts₀ counts marks : List ℕ) (at left : ℕ) (i : Left book starts s counts₀ counts marks at left) where
+module _ (book starts : List ℕ) (s : Section) (counts₀ counts marks₀ marks : List ℕ) (at left : ℕ) (i : Left book starts s counts₀ counts marks₀ marks at left) where
   -- With none left all that the orders count has an entry.
   last-known : left ≤ 0 → true ≡ allKnown s (bookIn book .k) (bookIn book .T) (listed starts book)
   unfolding allKnown entries
@@ -81,9 +83,14 @@ module _ (book starts : List ℕ) (s : Section) (counts₀ counts marks : List �
   unfolding talliedAll entries
   last-counted none = let z : left ≡ 0 = omega arith in sym (i .counted ∙ ap (λ (n : ℕ). talliedAll s (bookIn book .k) (entries n (drop at book)) (listed starts book) counts) z)
 
+  -- With none left all is marked.
+  last-noted : left ≤ 0 → marks ≡ markedAll s (bookIn book .k) (bookIn book .T) (listed starts book) marks₀
+  unfolding markedAll entries
+  last-noted none = let z : left ≡ 0 = omega arith in sym (i .noted ∙ ap (λ (n : ℕ). markedAll s (bookIn book .k) (entries n (drop at book)) (listed starts book) marks) z)
+
 -- The entry at `at` is the first of those left, and ends at `end`; k is the book's.
-module _ (book starts : List ℕ) (s : Section) (k : ℕ) (deep : k ≡ bookIn book .k) (counts₀ counts marks : List ℕ) (at left end : ℕ) (more : 0 < left)
-    (ends : end ≡ at + 2 + 2 * getD book at 0) (i : Left book starts s counts₀ counts marks at left) where
+module _ (book starts : List ℕ) (s : Section) (k : ℕ) (deep : k ≡ bookIn book .k) (counts₀ counts marks₀ marks : List ℕ) (at left end : ℕ) (more : 0 < left)
+    (ends : end ≡ at + 2 + 2 * getD book at 0) (i : Left book starts s counts₀ counts marks₀ marks at left) where
   -- The others start at its end.
   first-apart : entries left (drop at book) ≡ firstEntry (drop at book) ∷ entries (left - 1) (drop end book)
   first-apart = entries-step (drop at book) left more ∙ ap (λ (ws : List ℕ). firstEntry (drop at book) ∷ entries (left - 1) ws) (past-at book at left end more ends)
@@ -105,6 +112,21 @@ module _ (book starts : List ℕ) (s : Section) (k : ℕ) (deep : k ≡ bookIn b
   unfolding talliedAll
   first-counted = rw deep (i .counted ∙ ap (λ (es : List Entry). talliedAll s (bookIn book .k) es (listed starts book) counts) first-apart)
 
+  -- It is the turn of as many orders as are left.
+  first-turn : length (firstEntry (drop at book) ∷ entries (left - 1) (drop end book)) ≡ left
+  first-turn = omega (arith, length-entries (left - 1) (drop end book))
+
+  -- All is marked by marking what it counts, and then what the others count.
+  first-noted : markedAll s (bookIn book .k) (bookIn book .T) (listed starts book) marks₀
+      ≡ markedAll s (bookIn book .k) (entries (left - 1) (drop end book)) (listed starts book) (marked left (partsIn s k (firstEntry (drop at book) .key)) (listed starts book) marks)
+  unfolding markedAll
+  first-noted =
+      let es = listed starts book in
+      let os = partsIn s (bookIn book .k) (firstEntry (drop at book) .key) in
+      rw deep
+      (i .noted ∙ ap (λ (ts : List Entry). markedAll s (bookIn book .k) ts es marks) first-apart
+      ∙ ap (λ (n : ℕ). markedAll s (bookIn book .k) (entries (left - 1) (drop end book)) es (marked n os es marks)) first-turn)
+
   -- If no count passes 65,535 in the end, none does by it.
   first-few : Few (talliedAll s (bookIn book .k) (bookIn book .T) (listed starts book) counts₀)
       → Few (tallied (firstEntry (drop at book) .count) (partsIn s k (firstEntry (drop at book) .key)) (listed starts book) counts)
@@ -117,7 +139,7 @@ module _ (book starts : List ℕ) (s : Section) (k : ℕ) (deep : k ≡ bookIn b
       → Ready left (firstEntry (drop at book) .count) (partsIn s k (firstEntry (drop at book) .key)) (listed starts book) counts marks
   first-ready few =
       let each = sym (length-listed starts book) in
-      record { counts = i .long ∙ each; marks = i .noted ∙ each; fresh = i .fresh left (omega arith) (omega arith); few = first-few few }
+      record { counts = i .long ∙ each; marks = i .wide ∙ each; fresh = i .fresh left (omega arith) (omega arith); few = first-few few }
 
   -- The turn is taken.
   module _ (counts′ marks′ : List ℕ) (r : Bool)
@@ -127,16 +149,17 @@ module _ (book starts : List ℕ) (s : Section) (k : ℕ) (deep : k ≡ bookIn b
     first-unknown lacks = sym (first-known ∙ fails-left _ _ (sym (t .told) ∙ lacks))
 
     -- If not, those behind it are left.
-    left-next : r ≡ true → length counts′ ≡ length counts → length marks′ ≡ length marks → Left book starts s counts₀ counts′ marks′ end (left - 1)
+    left-next : r ≡ true → length counts′ ≡ length counts → length marks′ ≡ length marks → Left book starts s counts₀ counts′ marks₀ marks′ end (left - 1)
     unfolding _and_
-    left-next all same noted =
+    left-next all same wide =
         record {
           within = omega (arith, i .within, span-at book at left end more ends);
           taught = λ e m. i .taught e (subst (λ (es : List Entry). e ∈ es) (sym first-apart) (there m));
           known = first-known ∙ ap (λ (b : Bool). b and allKnown s (bookIn book .k) (entries (left - 1) (drop end book)) (listed starts book)) (sym (t .told) ∙ all);
           counted = first-counted ∙ ap (talliedAll s (bookIn book .k) (entries (left - 1) (drop end book)) (listed starts book)) (sym (t .counted all));
+          noted = first-noted ∙ ap (markedAll s (bookIn book .k) (entries (left - 1) (drop end book)) (listed starts book)) (sym (t .noted all));
           long = same ∙ i .long;
-          noted = noted ∙ i .noted;
+          wide = wide ∙ i .wide;
           fresh = λ j p q.
               subst (Unmarked j) (sym (t .noted all)) (marked-other j left (partsIn s k (firstEntry (drop at book) .key)) (listed starts book) marks (λ e. omega arith) (i .fresh j p (omega arith)));
         }
@@ -145,7 +168,7 @@ module _ (book starts : List ℕ) (s : Section) (k : ℕ) (deep : k ≡ bookIn b
 
 -- At each turn this is left.
 abbrev Inv-loop : tie.InvT-loop
-Inv-loop book places section starts counts₀ marks₀ at₀ left₀ counts marks at left = Left book starts section counts₀ counts marks at left
+Inv-loop book places section starts counts₀ marks₀ at₀ left₀ counts marks at left = Left book starts section counts₀ counts marks₀ marks at left
 
 -- Each turn leaves one entry fewer.
 abbrev μ-loop : tie.MeasureT-loop
@@ -165,7 +188,7 @@ turn-ready : (c : tie.In-loop Inv-loop μ-loop) → let l = c .before in let x =
 turn-ready c =
     let l = c .before in
     let b = called l in
-    first-ready _ _ _ _ (b .pre .0 .depth) _ _ _ _ _ _ (c .loop-test .taken) refl (l .loop .inv) (b .pre .1 .1 .0 .1)
+    first-ready _ _ _ _ (b .pre .0 .depth) _ _ _ _ _ _ _ (c .loop-test .taken) refl (l .loop .inv) (b .pre .1 .1 .0 .1)
 
 -- The turn's entry is that of an order.
 turn-order : (c : tie.In-loop Inv-loop μ-loop) → causeOf (firstEntry (drop (c .before .loop .at) (book (c .before))) .key) ≡ done
@@ -173,7 +196,7 @@ turn-order c =
     let l = c .before in
     let b = called l in
     taught-cause (bookIn (book l)) (b .pre .0 .form) _
-    (first-taught _ _ _ _ (b .pre .0 .depth) _ _ _ _ _ _ (c .loop-test .taken) refl (l .loop .inv))
+    (first-taught _ _ _ _ (b .pre .0 .depth) _ _ _ _ _ _ _ (c .loop-test .taken) refl (l .loop .inv))
 
 -- The turn's entry lies within the book, by its width.
 turn-within : (c : tie.In-loop Inv-loop μ-loop) → c .before .loop .at + width (drop (c .before .loop .at) (book (c .before))) ≤ length (book (c .before))
@@ -211,7 +234,7 @@ same-length-2 : tie.Need-same-length-2 Inv-loop μ-loop
 same-length-2 c =
     let a = c .before .before .before .before .before in
     let l = a .before .before .before .before in
-    a .tally-order .kept .1 .1 .1 .1 .1 .1 .0 ∙ l .loop .inv .noted ∙ sym (marks-long (called l))
+    a .tally-order .kept .1 .1 .1 .1 .1 .1 .0 ∙ l .loop .inv .wide ∙ sym (marks-long (called l))
 
 returns : tie.Need-returns Inv-loop μ-loop
 returns c =
@@ -219,8 +242,8 @@ returns c =
     let t = a .before .before .before in
     let l = t .before in
     let b = called l in (
-      first-unknown _ _ _ _ (b .pre .0 .depth) _ _ _ _ _ _ (t .loop-test .taken) refl (l .loop .inv) _ _ _ (a .tally-order .ensures) (not-true _ (c .if1 .taken)),
-      (λ e. no-test e),
+      first-unknown _ _ _ _ (b .pre .0 .depth) _ _ _ _ _ _ _ (t .loop-test .taken) refl (l .loop .inv) _ _ _ (a .tally-order .ensures) (not-true _ (c .if1 .taken)),
+      ((λ e. no-test e), (λ e. no-test e)),
     )
 
 past-requires : tie.Need-past-requires Inv-loop μ-loop
@@ -238,19 +261,20 @@ loop-again c =
     let t = a .before .before .before in
     let l = t .before in
     let b = called l in
-    left-next _ _ _ _ (b .pre .0 .depth) _ _ _ _ _ _ (t .loop-test .taken) (c .past .ensures) (l .loop .inv)
+    left-next _ _ _ _ (b .pre .0 .depth) _ _ _ _ _ _ _ (t .loop-test .taken) (c .past .ensures) (l .loop .inv)
     _ _ _ (a .tally-order .ensures) (not-false _ (c .before .if1 .left)) (a .tally-order .kept .1 .1 .1 .1 .1 .0) (a .tally-order .kept .1 .1 .1 .1 .1 .1 .0)
 
 same-length-3 : tie.Need-same-length-3 Inv-loop μ-loop
 same-length-3 c = c .before .loop .inv .long ∙ sym (called (c .before) .pre .1 .1 .0 .0)
 
 same-length-4 : tie.Need-same-length-4 Inv-loop μ-loop
-same-length-4 c = c .before .loop .inv .noted ∙ sym (marks-long (called (c .before)))
+same-length-4 c = c .before .loop .inv .wide ∙ sym (marks-long (called (c .before)))
 
 returns-2 : tie.Need-returns-2 Inv-loop μ-loop
 returns-2 c =
-    let l = c .before in
-    (last-known _ _ _ _ _ _ _ _ (l .loop .inv) (c .loop-test .left), (λ e. last-counted _ _ _ _ _ _ _ _ (l .loop .inv) (c .loop-test .left)))
+    let inv = c .before .loop .inv in
+    let none = c .loop-test .left in
+    (last-known _ _ _ _ _ _ _ _ _ inv none, ((λ e. last-counted _ _ _ _ _ _ _ _ _ inv none), (λ e. last-noted _ _ _ _ _ _ _ _ _ inv none)))
 
 pub tally-taught-spec : {M : Type 1} → statement M
 tally-taught-spec =

@@ -1,4 +1,4 @@
--- `agree::tally_order` meets its contract: the words up to the entry's end are the order, and the word before them is its count. Assumes nothing.
+-- `recount::tally_order` meets its contract: the words up to the entry's end are the order, and the word before them is its count. Assumes nothing.
 use Prim.Native.Nat.{ℕ, _+_, _*_, _-_, _≤_}
 use mathlib.Core.Path.{_≡_, sym, ap, subst, _∙_}
 use mathlib.Core.Bool.{Bool}
@@ -14,9 +14,9 @@ use Rattle.section.specs.Entries.{width, firstEntry}
 use Rattle.tally.specs.Tallying.{listed, Ready, Taken}
 use Rattle.trees.specs.Reading.{causeOf}
 use Rattle.trees.specs.Levels.{LinesLevelled}
-use Rattle.agree.specs.Tallies.{partsIn}
-use Rattle.agree.proofs.tally_order.Statement.{statement}
-use Rattle.agree.proofs.tally_order.Tie as tie
+use Rattle.recount.specs.Tallies.{partsIn}
+use Rattle.recount.proofs.tally_order.Statement.{statement}
+use Rattle.recount.proofs.tally_order.Tie as tie
 
 -- ---- the entry at a place
 

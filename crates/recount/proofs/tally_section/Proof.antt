@@ -1,4 +1,4 @@
--- `own::tally_section` meets its contract: what one teaching counts in a section is a cut of the order, or its parts of a kind. Assumes nothing.
+-- `recount::tally_section` meets its contract: what one teaching counts in a section is a cut of the order, or its parts of a kind. Assumes nothing.
 use Prim.Native.Nat.{ℕ, _-_, _<_, _/_}
 use mathlib.Core.Path.{_≡_, refl, sym, ap, ap₂, subst, _∙_}
 use mathlib.Core.Bool.{Bool, true, false}
@@ -14,11 +14,11 @@ use Rattle.trees.specs.Walks.{cutOf}
 use Rattle.book.specs.Book.{Book, sectionOf}
 use Rattle.book.specs.declared.Section.{Section}
 use Rattle.book.specs.declared.Section.the-variants.{Taught, Tops, Lows, Middles}
 use Rattle.own.specs.Own.{ownOf, listOf}
 use Rattle.own.proofs.Owning.{first-line, own-is}
-use Rattle.own.proofs.Turns.{key-few, key-taken}
-use Rattle.own.proofs.tally_section.Statement.{statement}
-use Rattle.own.proofs.tally_section.Tie as tie
+use Rattle.recount.proofs.Turns.{key-few, key-taken}
+use Rattle.recount.proofs.tally_section.Statement.{statement}
+use Rattle.recount.proofs.tally_section.Tie as tie
 
 -- ---- what is counted
 

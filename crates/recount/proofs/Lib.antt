@@ -1,0 +1,3 @@
+-- What the proofs of several functions, and those of other crates, use.
+pub mod Taught
+pub mod Turns

@@ -1,0 +1,256 @@
+// What the taught orders of a book count in one of its sections, counted anew: each order takes its turn, and each of its parts is tallied for the
+// section's entry that it has, once a turn by a mark. Assumes nothing beyond each function's `requires`.
+ghost use mathlib.Core.Path.{_≡_};
+ghost use mathlib.Core.Bool.{true};
+ghost use Prim.Native.Nat.{_+_, _*_, _/_, _≤_, _<_};
+ghost use lib.ListN.{length, drop, replicate};
+ghost use Rattle.figures.specs.Limits.{least-k, most-nodes, most-words};
+ghost use Rattle.figures.specs.Numbers.{done};
+ghost use Rattle.section.specs.Entries.{width, firstEntry, has};
+ghost use Rattle.tally.specs.Tallying.{listed, Indexed, soughtIn, Few, talliedOnce, markedOnce, Ready, Taken};
+ghost use Rattle.trees.specs.Reading.{causeOf};
+ghost use Rattle.trees.specs.Levels.{LinesLevelled};
+ghost use Rattle.trees.specs.Walks.{cutOf};
+ghost use Rattle.book.specs.Decoding.{bookIn};
+ghost use Rattle.book.specs.Holding.{Holds};
+ghost use Rattle.own.specs.Own.{listOf};
+ghost use Rattle.recount.specs.Tallies.{partsIn, allKnown, talliedAll, markedAll};
+use book::Places;
+use book::Section;
+use figures::Depth;
+use figures::limits;
+use section::past;
+
+// Tallies `by` for the cut at d of the subtree of a line, the lines counted from 0, among the listed entries of a section of a book, once a
+// turn, by way of a scratch for its words. Answers whether it has an entry.
+fn tally_cut(
+    order: &[u16],
+    levels: &[u8; limits::MOST_NODES],
+    line: usize,
+    d: usize,
+    part: &mut [u16],
+    book: &[u16],
+    starts: &[u16],
+    counts: &mut [u16],
+    marks: &mut [u16],
+    turn: u16,
+    by: u16,
+) -> bool
+    requires { ⌜ causeOf (now order) ≡ done ⌝ }
+    requires { ⌜ LinesLevelled (now order) (now levels) × (length (now levels) ≡ most-nodes) ⌝ }
+    requires { ⌜ line < length (now order) / 2 ⌝ }
+    requires { ⌜ most-words ≤ length (now part) ⌝ }
+    requires { ⌜ Indexed (now starts) (now book) ⌝ }
+    requires { ⌜ (length (now counts) ≡ length (now starts)) × (length (now marks) ≡ length (now starts)) ⌝ }
+    requires { ⌜ Few (talliedOnce by turn (soughtIn (cutOf (now order) (line * 2) d) (listed (now starts) (now book))) (now marks) (now counts)) ⌝ }
+    ensures known { λ r. ⌜ r ≡ has (cutOf (now (order .entry)) (line * 2) d) (listed (now (starts .entry)) (now (book .entry))) ⌝ }
+    ensures counted { λ _. ⌜ now (counts .exit) ≡ talliedOnce by turn (soughtIn (cutOf (now (order .entry)) (line * 2) d) (listed (now (starts .entry)) (now (book .entry)))) (now (marks .entry)) (now (counts .entry)) ⌝ }
+    ensures noted { λ _. ⌜ now (marks .exit) ≡ markedOnce turn (soughtIn (cutOf (now (order .entry)) (line * 2) d) (listed (now (starts .entry)) (now (book .entry)))) (now (marks .entry)) ⌝ }
+{
+    let laid = cuts::put_line(order, levels, line, d, part);
+    let end = laid.count;
+    tally::tally_once(book, starts, counts, marks, &part[0..end], turn, by)
+}
+
+// Tallies `by` for each of the order's low parts, or of its middle parts, as `tally_cut` does for one. Answers false where one has no entry;
+// what was tallied then is of no use.
+fn tally_parts(
+    order: &[u16],
+    levels: &[u8; limits::MOST_NODES],
+    k: Depth,
+    low: bool,
+    part: &mut [u16],
+    book: &[u16],
+    starts: &[u16],
+    counts: &mut [u16],
+    marks: &mut [u16],
+    turn: u16,
+    by: u16,
+) -> bool
+    requires { ⌜ least-k ≤ k .k ⌝ }
+    requires { ⌜ causeOf (now order) ≡ done ⌝ }
+    requires { ⌜ LinesLevelled (now order) (now levels) × (length (now levels) ≡ most-nodes) ⌝ }
+    requires { ⌜ most-words ≤ length (now part) ⌝ }
+    requires { ⌜ Indexed (now starts) (now book) ⌝ }
+    requires { ⌜ Ready turn by (listOf low (k .k) (now order)) (listed (now starts) (now book)) (now counts) (now marks) ⌝ }
+    ensures { λ r. ⌜ Taken turn by (listOf low (k .k) (now (order .entry))) (listed (now (starts .entry)) (now (book .entry))) (now (counts .entry)) (now (marks .entry)) (now (counts .exit)) (now (marks .exit)) r ⌝ }
+{
+    let lines = order.len() / 2;
+    let mut line: usize = 0;
+    while line < lines {
+        if own::is_low(order, levels, line, k) == low {
+            let d = k.of_middles();
+            if !tally_cut(
+                order,
+                levels,
+                line,
+                d,
+                part,
+                book,
+                starts,
+                counts,
+                marks,
+                turn,
+                by,
+            ) {
+                return false;
+            }
+        }
+        line += 1;
+    }
+    true
+}
+
+// Tallies `by` for each entry that one teaching of the order counts in a section, T included, among the section's listed entries in a book,
+// each once, by marks of this turn. Answers false where one has no entry; what was tallied then is of no use.
+fn tally_section(
+    order: &[u16],
+    levels: &[u8; limits::MOST_NODES],
+    k: Depth,
+    section: Section,
+    book: &[u16],
+    starts: &[u16],
+    counts: &mut [u16],
+    marks: &mut [u16],
+    turn: u16,
+    by: u16,
+) -> bool
+    requires { ⌜ least-k ≤ k .k ⌝ }
+    requires { ⌜ causeOf (now order) ≡ done ⌝ }
+    requires { ⌜ LinesLevelled (now order) (now levels) × (length (now levels) ≡ most-nodes) ⌝ }
+    requires { ⌜ Indexed (now starts) (now book) ⌝ }
+    requires { ⌜ Ready turn by (partsIn section (k .k) (now order)) (listed (now starts) (now book)) (now counts) (now marks) ⌝ }
+    ensures { λ r. ⌜ Taken turn by (partsIn section (k .k) (now (order .entry))) (listed (now (starts .entry)) (now (book .entry))) (now (counts .entry)) (now (marks .entry)) (now (counts .exit)) (now (marks .exit)) r ⌝ }
+{
+    let mut part = [0u16; limits::MOST_WORDS];
+    match section {
+        Section::Taught => {
+            let d = limits::GREATEST_DEPTH;
+            tally_cut(
+                order,
+                levels,
+                0,
+                d,
+                &mut part,
+                book,
+                starts,
+                counts,
+                marks,
+                turn,
+                by,
+            )
+        }
+        Section::Tops => {
+            let d = k.of_tops();
+            tally_cut(
+                order,
+                levels,
+                0,
+                d,
+                &mut part,
+                book,
+                starts,
+                counts,
+                marks,
+                turn,
+                by,
+            )
+        }
+        Section::Lows => tally_parts(
+            order,
+            levels,
+            k,
+            true,
+            &mut part,
+            book,
+            starts,
+            counts,
+            marks,
+            turn,
+            by,
+        ),
+        Section::Middles => tally_parts(
+            order,
+            levels,
+            k,
+            false,
+            &mut part,
+            book,
+            starts,
+            counts,
+            marks,
+            turn,
+            by,
+        ),
+    }
+}
+
+// Tallies what the taught order at word `at` counts in a section, for the section's listed entries, by marks of this turn. Answers false where
+// a part has no entry; what was tallied then is of no use.
+fn tally_order(
+    book: &[u16],
+    at: usize,
+    k: Depth,
+    section: Section,
+    starts: &[u16],
+    counts: &mut [u16],
+    marks: &mut [u16],
+    turn: u16,
+) -> bool
+    requires { ⌜ (at + width (drop at (now book)) ≤ length (now book)) × (causeOf (firstEntry (drop at (now book)) .key) ≡ done) ⌝ }
+    requires { ⌜ least-k ≤ k .k ⌝ }
+    requires { ⌜ Indexed (now starts) (now book) ⌝ }
+    requires { ⌜ Ready turn (firstEntry (drop at (now book)) .count) (partsIn section (k .k) (firstEntry (drop at (now book)) .key)) (listed (now starts) (now book)) (now counts) (now marks) ⌝ }
+    ensures { λ r. ⌜ Taken turn (firstEntry (drop at (now (book .entry))) .count) (partsIn section (k .k) (firstEntry (drop at (now (book .entry))) .key))
+        (listed (now (starts .entry)) (now (book .entry))) (now (counts .entry)) (now (marks .entry)) (now (counts .exit)) (now (marks .exit)) r ⌝ }
+{
+    let start = at + 2;
+    let end = past(book, at);
+    let by = book[at + 1];
+    let mut levels = [0u8; limits::MOST_NODES];
+    order::cause_into(&book[start..end], &mut levels);
+    tally_section(
+        &book[start..end],
+        &levels,
+        k,
+        section,
+        book,
+        starts,
+        counts,
+        marks,
+        turn,
+        by,
+    )
+}
+
+// Tallies what all taught orders count in a section, for the section's listed entries, none of which is marked. An order's turn has the number of
+// orders left. Answers false where a part has no entry; what was tallied then is of no use.
+pub fn tally_taught(
+    book: &[u16],
+    places: Places,
+    section: Section,
+    starts: &[u16],
+    counts: &mut [u16],
+    marks: &mut [u16],
+) -> bool
+    requires { ⌜ Holds (now book) places ⌝ }
+    requires { ⌜ Indexed (now starts) (now book) ⌝ }
+    requires { ⌜ (length (now counts) ≡ length (now starts)) × Few (talliedAll section (bookIn (now book) .k) (bookIn (now book) .T) (listed (now starts) (now book)) (now counts)) ⌝ }
+    requires { ⌜ now marks ≡ replicate (length (now starts)) 0 ⌝ }
+    ensures known { λ r. ⌜ r ≡ allKnown section (bookIn (now (book .entry)) .k) (bookIn (now (book .entry)) .T) (listed (now (starts .entry)) (now (book .entry))) ⌝ }
+    ensures counted { λ r. ⌜ (r ≡ true → now (counts .exit) ≡
+        talliedAll section (bookIn (now (book .entry)) .k) (bookIn (now (book .entry)) .T) (listed (now (starts .entry)) (now (book .entry))) (now (counts .entry))) ⌝ }
+    ensures noted { λ r. ⌜ (r ≡ true → now (marks .exit) ≡
+        markedAll section (bookIn (now (book .entry)) .k) (bookIn (now (book .entry)) .T) (listed (now (starts .entry)) (now (book .entry))) (now (marks .entry))) ⌝ }
+{
+    let mut at = limits::HEAD_WORDS;
+    let mut left = book[limits::TAUGHT_WORD];
+    while 0 < left {
+        if !tally_order(book, at, places.k, section, starts, counts, marks, left) {
+            return false;
+        }
+        at = past(book, at);
+        left -= 1;
+    }
+    true
+}
