@@ -1,4 +1,4 @@
--- Entries by the places where they start, and counts that are tallied for them. Assumes nothing: these are definitions.
+-- Entries by the places where they start, and the counts and marks that a turn leaves for them. Assumes nothing: these are definitions.
 use Prim.Native.Nat.{ℕ, zero, suc, _+_, _≤_, _<_}
 use mathlib.Core.Path.{_≡_}
 use mathlib.Core.Bool.{Bool, true, false}
@@ -39,7 +39,7 @@ unfoldable pub soughtIn : List ℕ → List Entry → Sought
 soughtIn key [] = Missing
 soughtIn key (e ∷ es) = if sameWords (e .key) key then Number 0 else next (soughtIn key es)
 
--- ---- counts
+-- ---- counts and marks
 
 -- Each of the first keys has an entry among the second.
 unfoldable pub hasAll : List Entry → List Entry → Bool
