@@ -2,4 +2,3 @@
 pub mod Listing
 pub mod Lowness
 pub mod Owning
-pub mod Written

@@ -31,7 +31,7 @@ use Rattle.trees.proofs.Spots.{two-words-a-line, top-spot, top-room}
 use Rattle.book.specs.Book.{Book, body, used, live, encode, lay}
 use Rattle.book.specs.Decoding.{placesOf}
 use Rattle.book.specs.declared.Places.{Places}
-use Rattle.book.specs.Taught.{addEach, taught, bookOf}
+use Rattle.book.specs.Taught.{taught, bookOf}
 use Rattle.book.proofs.Meaning.{used-is}
 use Rattle.own.specs.Own.{list-words, own-words, ownOf, eachWords, partWords, listOf}
 use Rattle.own.proofs.Listing.{enterEach, all-entered, partsIn, parts-none, parts-all, parts-more, parts-same, size-once}

@@ -18,9 +18,8 @@ use Rattle.book.specs.Taught.{emptyBook, addEach, bookOf}
 abbrev pub entry-words : ℕ
 entry-words = 2 + most-words
 
--- All low and middle parts of an order take no more words, nor does what one teaching counts in any one section. Each line stands for one
--- part, whose entry has a head of two words. The part is the cut at k-1 of the line's subtree, so a node has its two words in the part of its
--- own line and in those of at most k-1 lines above it.
+-- All low and middle parts of an order take no more words. Each line stands for one part, whose entry has a head of two words. The part is the
+-- cut at k-1 of the line's subtree, so a node has its two words in the part of its own line and in those of at most k-1 lines above it.
 abbrev pub list-words : ℕ
 list-words = most-nodes * (2 + 2 * greatest-k)
 

@@ -21,7 +21,13 @@ use figures::Depth;
 use figures::limits;
 use section::past;
 
-// Tallies `by` for the cut at d of the subtree of a line, the lines counted from 0, among the listed entries of a section of a book, once a
+// The turn of a taught order: its number, and how often the order counts.
+pub struct Turn {
+    pub number: u16,
+    pub by: u16,
+}
+
+// Tallies the cut at d of the subtree of a line, the lines counted from 0, for its entry among the listed ones of a section of a book, once a
 // turn, by way of a scratch for its words. Answers whether it has an entry.
 fn tally_cut(
     order: &[u16],
@@ -33,8 +39,7 @@ fn tally_cut(
     starts: &[u16],
     counts: &mut [u16],
     marks: &mut [u16],
-    turn: u16,
-    by: u16,
+    turn: Turn,
 ) -> bool
     requires { ⌜ causeOf (now order) ≡ done ⌝ }
     requires { ⌜ LinesLevelled (now order) (now levels) × (length (now levels) ≡ most-nodes) ⌝ }
@@ -42,17 +47,25 @@ fn tally_cut(
     requires { ⌜ most-words ≤ length (now part) ⌝ }
     requires { ⌜ Indexed (now starts) (now book) ⌝ }
     requires { ⌜ (length (now counts) ≡ length (now starts)) × (length (now marks) ≡ length (now starts)) ⌝ }
-    requires { ⌜ Few (talliedOnce by turn (soughtIn (cutOf (now order) (line * 2) d) (listed (now starts) (now book))) (now marks) (now counts)) ⌝ }
+    requires { ⌜ Few (talliedOnce (turn .by) (turn .number) (soughtIn (cutOf (now order) (line * 2) d) (listed (now starts) (now book))) (now marks) (now counts)) ⌝ }
     ensures known { λ r. ⌜ r ≡ has (cutOf (now (order .entry)) (line * 2) d) (listed (now (starts .entry)) (now (book .entry))) ⌝ }
-    ensures counted { λ _. ⌜ now (counts .exit) ≡ talliedOnce by turn (soughtIn (cutOf (now (order .entry)) (line * 2) d) (listed (now (starts .entry)) (now (book .entry)))) (now (marks .entry)) (now (counts .entry)) ⌝ }
-    ensures noted { λ _. ⌜ now (marks .exit) ≡ markedOnce turn (soughtIn (cutOf (now (order .entry)) (line * 2) d) (listed (now (starts .entry)) (now (book .entry)))) (now (marks .entry)) ⌝ }
+    ensures counted { λ _. ⌜ now (counts .exit) ≡ talliedOnce (turn .by) (turn .number) (soughtIn (cutOf (now (order .entry)) (line * 2) d) (listed (now (starts .entry)) (now (book .entry)))) (now (marks .entry)) (now (counts .entry)) ⌝ }
+    ensures noted { λ _. ⌜ now (marks .exit) ≡ markedOnce (turn .number) (soughtIn (cutOf (now (order .entry)) (line * 2) d) (listed (now (starts .entry)) (now (book .entry)))) (now (marks .entry)) ⌝ }
 {
     let laid = cuts::put_line(order, levels, line, d, part);
     let end = laid.count;
-    tally::tally_once(book, starts, counts, marks, &part[0..end], turn, by)
+    tally::tally_once(
+        book,
+        starts,
+        counts,
+        marks,
+        &part[0..end],
+        turn.number,
+        turn.by,
+    )
 }
 
-// Tallies `by` for each of the order's low parts, or of its middle parts, as `tally_cut` does for one. Answers false where one has no entry;
+// Tallies each of the order's low parts, or of its middle parts, as `tally_cut` does one. Answers false where one has no entry;
 // what was tallied then is of no use.
 fn tally_parts(
     order: &[u16],
@@ -64,16 +77,15 @@ fn tally_parts(
     starts: &[u16],
     counts: &mut [u16],
     marks: &mut [u16],
-    turn: u16,
-    by: u16,
+    turn: Turn,
 ) -> bool
     requires { ⌜ least-k ≤ k .k ⌝ }
     requires { ⌜ causeOf (now order) ≡ done ⌝ }
     requires { ⌜ LinesLevelled (now order) (now levels) × (length (now levels) ≡ most-nodes) ⌝ }
     requires { ⌜ most-words ≤ length (now part) ⌝ }
     requires { ⌜ Indexed (now starts) (now book) ⌝ }
-    requires { ⌜ Ready turn by (listOf low (k .k) (now order)) (listed (now starts) (now book)) (now counts) (now marks) ⌝ }
-    ensures { λ r. ⌜ Taken turn by (listOf low (k .k) (now (order .entry))) (listed (now (starts .entry)) (now (book .entry))) (now (counts .entry)) (now (marks .entry)) (now (counts .exit)) (now (marks .exit)) r ⌝ }
+    requires { ⌜ Ready (turn .number) (turn .by) (listOf low (k .k) (now order)) (listed (now starts) (now book)) (now counts) (now marks) ⌝ }
+    ensures { λ r. ⌜ Taken (turn .number) (turn .by) (listOf low (k .k) (now (order .entry))) (listed (now (starts .entry)) (now (book .entry))) (now (counts .entry)) (now (marks .entry)) (now (counts .exit)) (now (marks .exit)) r ⌝ }
 {
     let lines = order.len() / 2;
     let mut line: usize = 0;
@@ -91,7 +103,6 @@ fn tally_parts(
                 counts,
                 marks,
                 turn,
-                by,
             ) {
                 return false;
             }
@@ -101,86 +112,60 @@ fn tally_parts(
     true
 }
 
-// Tallies `by` for each entry that one teaching of the order counts in a section, T included, among the section's listed entries in a book,
-// each once, by marks of this turn. Answers false where one has no entry; what was tallied then is of no use.
+// Tallies all that one teaching of the order counts in a section, T included, for the section's listed entries in a book, each once by marks of
+// this turn. Answers false where one has no entry; what was tallied then is of no use.
 fn tally_section(
     order: &[u16],
     levels: &[u8; limits::MOST_NODES],
     k: Depth,
     section: Section,
+    part: &mut [u16],
     book: &[u16],
     starts: &[u16],
     counts: &mut [u16],
     marks: &mut [u16],
-    turn: u16,
-    by: u16,
+    turn: Turn,
 ) -> bool
     requires { ⌜ least-k ≤ k .k ⌝ }
     requires { ⌜ causeOf (now order) ≡ done ⌝ }
     requires { ⌜ LinesLevelled (now order) (now levels) × (length (now levels) ≡ most-nodes) ⌝ }
+    requires { ⌜ most-words ≤ length (now part) ⌝ }
     requires { ⌜ Indexed (now starts) (now book) ⌝ }
-    requires { ⌜ Ready turn by (partsIn section (k .k) (now order)) (listed (now starts) (now book)) (now counts) (now marks) ⌝ }
-    ensures { λ r. ⌜ Taken turn by (partsIn section (k .k) (now (order .entry))) (listed (now (starts .entry)) (now (book .entry))) (now (counts .entry)) (now (marks .entry)) (now (counts .exit)) (now (marks .exit)) r ⌝ }
+    requires { ⌜ Ready (turn .number) (turn .by) (partsIn section (k .k) (now order)) (listed (now starts) (now book)) (now counts) (now marks) ⌝ }
+    ensures { λ r. ⌜ Taken (turn .number) (turn .by) (partsIn section (k .k) (now (order .entry))) (listed (now (starts .entry)) (now (book .entry))) (now (counts .entry)) (now (marks .entry)) (now (counts .exit)) (now (marks .exit)) r ⌝ }
 {
-    let mut part = [0u16; limits::MOST_WORDS];
     match section {
         Section::Taught => {
             let d = limits::GREATEST_DEPTH;
-            tally_cut(
-                order,
-                levels,
-                0,
-                d,
-                &mut part,
-                book,
-                starts,
-                counts,
-                marks,
-                turn,
-                by,
-            )
+            tally_cut(order, levels, 0, d, part, book, starts, counts, marks, turn)
         }
         Section::Tops => {
             let d = k.of_tops();
-            tally_cut(
-                order,
-                levels,
-                0,
-                d,
-                &mut part,
-                book,
-                starts,
-                counts,
-                marks,
-                turn,
-                by,
-            )
+            tally_cut(order, levels, 0, d, part, book, starts, counts, marks, turn)
         }
         Section::Lows => tally_parts(
             order,
             levels,
             k,
             true,
-            &mut part,
+            part,
             book,
             starts,
             counts,
             marks,
             turn,
-            by,
         ),
         Section::Middles => tally_parts(
             order,
             levels,
             k,
             false,
-            &mut part,
+            part,
             book,
             starts,
             counts,
             marks,
             turn,
-            by,
         ),
     }
 }
@@ -209,17 +194,19 @@ fn tally_order(
     let by = book[at + 1];
     let mut levels = [0u8; limits::MOST_NODES];
     order::cause_into(&book[start..end], &mut levels);
+    let own = Turn { number: turn, by };
+    let mut part = [0u16; limits::MOST_WORDS];
     tally_section(
         &book[start..end],
         &levels,
         k,
         section,
+        &mut part,
         book,
         starts,
         counts,
         marks,
-        turn,
-        by,
+        own,
     )
 }
 

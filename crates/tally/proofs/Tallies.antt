@@ -1,22 +1,21 @@
 -- Which entry a search by halving finds, and the turns of tallying counts and of comparing them. Assumes nothing.
-use Prim.Native.Nat.{ℕ, zero, suc, _+_, _-_, _≤_, _<_}
+use Prim.Native.Nat.{ℕ, zero, suc, _+_, _≤_, _<_}
 use mathlib.Core.Path.{_≡_, refl, sym, ap, _∙_}
 use mathlib.Core.Bool.{Bool, true, false}
 use mathlib.Core.List.{List, [], _∷_, List·Memᴰ·head as here, List·Memᴰ·tail as there, List·Memᴰ·not-nil}
-use native.Mathlib.Nat.{add-zero, not-suc-le-zero}
+use native.Mathlib.Nat.{not-suc-le-zero}
 use native.Mathlib.Numerals.{add-one}
 use native.Mathlib.Decide.{decLt}
 use native.Mathlib.Omega.{arith}
 use lib.Dec.{eqb}
 use lib.ListN.{length, getD, set, drop, drop-of-length-le}
-use lib.Seq.{drop-cons, getD-drop, getD-set-same}
+use lib.Seq.{drop-cons, getD-drop}
 use borrow.Author.Tests.{eq-eqb, ne-eqb}
 use Rattle.words.specs.Base.{_and_, if_then_else_, sameWords, _∈_}
 use Rattle.words.specs.Compare.{compareOf, _≺_}
 use Rattle.words.specs.declared.Compared.the-variants.{Equal, Higher}
 use Rattle.words.proofs.Ordered.{≺-trans, compare-equal, compare-flip}
 use Rattle.words.proofs.Tests.{no-test, and-left, and-right, and-both, same-words, words-same, fails-left}
-use Rattle.figures.specs.Limits.{greatest-count}
 use Rattle.section.specs.Entries.{Entry, counted, has, Below, Sorted}
 use Rattle.section.proofs.Counts.{lower-differs, below-trans, has-entry, entry-has}
 use Rattle.tally.specs.Tallying.{listed, soughtIn, hasAll, onEach, tallied, marked, Unmarked, onOne, sameCounts}

@@ -16,6 +16,7 @@ pub mod Lines
 pub mod Cuts
 pub mod Answers
 pub mod Spots
+pub mod LineCuts
 pub mod Deep
 pub mod Rows
 pub mod Levelling

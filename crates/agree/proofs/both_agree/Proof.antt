@@ -1,7 +1,6 @@
 -- `agree::both_agree` meets its contract: the second book decides where the first agrees. Assumes nothing.
 use mathlib.Core.Path.{_≡_, sym, _∙_}
 use mathlib.Core.Bool.{Bool, true}
-use borrow.Author.Needs.{needs}
 use borrow.Author.Tests.{not-true, not-false}
 use Rattle.words.specs.Base.{_and_}
 use Rattle.words.proofs.Tests.{fails-left}

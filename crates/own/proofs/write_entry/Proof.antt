@@ -11,7 +11,7 @@ use Rattle.figures.specs.Limits.{most-words}
 use Rattle.section.specs.Entries.{counted, entryWords}
 use Rattle.trees.specs.Walks.{cutOf}
 use Rattle.trees.proofs.Cuts.{set-two, part-back}
-use Rattle.own.proofs.Written.{line-room, line-count}
+use Rattle.trees.proofs.LineCuts.{line-room, line-count}
 use Rattle.own.proofs.write_entry.Statement.{statement}
 use Rattle.own.proofs.write_entry.Tie as tie
 

@@ -8,7 +8,7 @@ use borrow.Author.Needs.{needs}
 use Rattle.section.specs.Entries.{has}
 use Rattle.tally.specs.Tallying.{listed, soughtIn, Few, talliedOnce, markedOnce}
 use Rattle.trees.specs.Walks.{cutOf}
-use Rattle.own.proofs.Written.{line-room, line-count, line-lent}
+use Rattle.trees.proofs.LineCuts.{line-room, line-count, line-lent}
 use Rattle.recount.proofs.tally_cut.Statement.{statement}
 use Rattle.recount.proofs.tally_cut.Tie as tie
 
@@ -49,8 +49,8 @@ tally-once-requires c κs =
     let w = c .before .before .before .before .before .before in
     let b = called w in
     let x = b .args in
-    let few : Few (talliedOnce (x .by) (x .turn) (soughtIn (take (w .put-line .result .count - 0) (drop 0 (scratch w))) (listed (x .starts .now) (x .book .now))) (x .marks .now) (x .counts .now)) =
-    subst (λ (z : List ℕ). Few (talliedOnce (x .by) (x .turn) (soughtIn z (listed (x .starts .now) (x .book .now))) (x .marks .now) (x .counts .now))) (sym (lent w)) (b .pre .1 .1 .1 .1 .1 .1) in
+    let few : Few (talliedOnce (x .turn .by) (x .turn .number) (soughtIn (take (w .put-line .result .count - 0) (drop 0 (scratch w))) (listed (x .starts .now) (x .book .now))) (x .marks .now) (x .counts .now)) =
+    subst (λ (z : List ℕ). Few (talliedOnce (x .turn .by) (x .turn .number) (soughtIn z (listed (x .starts .now) (x .book .now))) (x .marks .now) (x .counts .now))) (sym (lent w)) (b .pre .1 .1 .1 .1 .1 .1) in
     (b .pre .1 .1 .1 .1 .0, (b .pre .1 .1 .1 .1 .1 .0, few))
 
 same-length : tie.Need-same-length
@@ -70,8 +70,8 @@ returns c =
     let es = listed (x .starts .now) (x .book .now) in (
       t .ensures .0 ∙ ap (λ (z : List ℕ). has z es) (lent w),
       (
-        t .ensures .1 .0 ∙ ap (λ (z : List ℕ). talliedOnce (x .by) (x .turn) (soughtIn z es) (x .marks .now) (x .counts .now)) (lent w),
-        t .ensures .1 .1 ∙ ap (λ (z : List ℕ). markedOnce (x .turn) (soughtIn z es) (x .marks .now)) (lent w),
+        t .ensures .1 .0 ∙ ap (λ (z : List ℕ). talliedOnce (x .turn .by) (x .turn .number) (soughtIn z es) (x .marks .now) (x .counts .now)) (lent w),
+        t .ensures .1 .1 ∙ ap (λ (z : List ℕ). markedOnce (x .turn .number) (soughtIn z es) (x .marks .now)) (lent w),
       ),
     )
 

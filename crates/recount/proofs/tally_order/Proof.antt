@@ -124,12 +124,15 @@ part-tally-section-start c = search needs
 part-tally-section-end : tie.Need-part-tally-section-end
 part-tally-section-end c = let p = c .before .before .before .before in omega (arith, p .past .ensures, room (p .before .before .before .before .before))
 
+slice-aggregate-tally-section : tie.Need-slice-aggregate-tally-section
+slice-aggregate-tally-section c = search needs
+
 tally-section-requires : tie.Need-tally-section-requires
 tally-section-requires c κs =
-    let a = c .before .before .before .before in
+    let a = c .before .before .before .before .before in
     let p = a .before .before .before .before in
     let b = p .before .before .before .before .before in
-    (b .pre .1 .0, (ordered p, (levelled a, (b .pre .1 .1 .0, entry-lent (ReadyFor b) p (b .pre .1 .1 .1)))))
+    (b .pre .1 .0, (ordered p, (levelled a, (omega arith, (b .pre .1 .1 .0, entry-lent (ReadyFor b) p (b .pre .1 .1 .1))))))
 
 same-length : tie.Need-same-length
 same-length c = search needs
@@ -139,8 +142,8 @@ same-length-2 c = search needs
 
 returns : tie.Need-returns
 returns c =
-    let t = c .before .before .before .before in
-    let p = t .before .before .before .before .before .before .before .before .before in
+    let t = c .before .before .before .before .before in
+    let p = t .before .before .before .before .before .before .before .before .before .before in
     let b = p .before .before .before .before .before in
     lent-entry (TakenFor b _ _ _) p (t .tally-section .ensures)
 
@@ -162,6 +165,7 @@ tally-order-spec =
     sub-tally-section
     part-tally-section-start
     part-tally-section-end
+    slice-aggregate-tally-section
     tally-section-requires
     same-length
     same-length-2

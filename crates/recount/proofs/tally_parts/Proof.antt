@@ -1,14 +1,11 @@
 -- `recount::tally_parts` meets its contract: a line of the kind tallies its part, and past the last line all parts are tallied. Assumes nothing.
-use Prim.Native.Nat.{ℕ, _-_}
+use Prim.Native.Nat.{_-_}
 use mathlib.Core.Path.{_≡_, refl, sym, ap, _∙_}
-use mathlib.Core.Bool.{true, false}
-use mathlib.Core.List.{List}
 use mathlib.Core.Logic.{⊎-elim}
 use native.Mathlib.Omega.{arith}
 use lib.ListN.{length}
 use borrow.Author.Needs.{needs}
 use borrow.Author.Tests.{not-true, not-false}
-use Rattle.words.proofs.Tests.{no-test}
 use Rattle.tally.specs.Tallying.{listed}
 use Rattle.tally.proofs.Starts.{length-listed}
 use Rattle.recount.proofs.Turns.{Turning, turning-named, turn-start, turn-counts, turn-marks, turn-end, turn-passed, refused-taken, turn-unknown, turn-few, turn-tallied}
@@ -17,12 +14,12 @@ use Rattle.recount.proofs.tally_parts.Tie as tie
 
 -- The parts of the lines gone over are tallied; the scratch is as long as at first.
 abbrev Inv-loop : tie.InvT-loop
-Inv-loop order levels k low part₀ book starts counts₀ marks₀ turn by lines line₀ part counts marks line =
-    Turning low (k .k) order (listed starts book) turn by counts₀ marks₀ counts marks line × (length part ≡ length part₀)
+Inv-loop order levels k low part₀ book starts counts₀ marks₀ turn lines line₀ part counts marks line =
+    Turning low (k .k) order (listed starts book) (turn .number) (turn .by) counts₀ marks₀ counts marks line × (length part ≡ length part₀)
 
 -- The lines left.
 abbrev μ-loop : tie.MeasureT-loop
-μ-loop order levels k low part₀ book starts counts₀ marks₀ turn by lines line₀ part counts marks line = lines - line
+μ-loop order levels k low part₀ book starts counts₀ marks₀ turn lines line₀ part counts marks line = lines - line
 
 -- What the function was called with, seen from the loop.
 abbrev called : tie.In-loop Inv-loop μ-loop → tie.Start Inv-loop μ-loop

@@ -1,6 +1,6 @@
 -- The cut of a line's subtree that is written to the front of a slice: the room that it needs, and its words there. Assumes nothing.
 use Prim.Native.Nat.{ℕ, _*_, _-_, _/_, _≤_, _<_}
-use mathlib.Core.Path.{_≡_, ap, sym, _∙_}
+use mathlib.Core.Path.{_≡_, ap, _∙_}
 use mathlib.Core.List.{List}
 use native.Mathlib.Omega.{arith}
 use lib.ListN.{length, take, drop}
