@@ -124,7 +124,7 @@ lower-each-all ts es r s =
 -- ---- changes by the order's own book
 
 -- The book of one teaching has sorted sections.
-pub own-sorted : (k : ℕ) (t : Tree) (s : Section) → Sorted (sectionOf s (ownBook k t))
+own-sorted : (k : ℕ) (t : Tree) (s : Section) → Sorted (sectionOf s (ownBook k t))
 own-sorted k t s = rw (own-section 1 k t s) (each-sorted 1 (treesIn s k t) (omega arith))
 
 module _ (t : Tree) (b : Book) (sorted : (s : Section) → Sorted (sectionOf s b)) where

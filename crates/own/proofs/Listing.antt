@@ -11,7 +11,7 @@ use lib.ListN.{length, take, drop, replicate, length-append, length-drop, length
 use lib.Seq.{drop-append-seam, take-at, take-length}
 use Rattle.words.specs.Base.{if_then_else_, over, keep, sameWords}
 use Rattle.words.proofs.Tests.{no-test}
-use Rattle.figures.specs.Limits.{least-k, most-words}
+use Rattle.figures.specs.Limits.{least-k}
 use Rattle.figures.specs.Numbers.{done}
 use Rattle.section.specs.Entries.{Entry, counted, entryWords, sectionWords, Even, width, firstEntry, entries, span, has, Sorted, add}
 use Rattle.changes.specs.Editing.{addOnce, Laid, padded, relaid, Edited}
@@ -24,16 +24,16 @@ use Rattle.changes.proofs.Once.{once-has, once-lacks, sorted-add-once, has-once
 use Rattle.trees.specs.Trees.{Tree, words, depth, cut, subtrees}
 use Rattle.trees.specs.Parts.{isLow, isMiddle, middle, lows, middles, sameTree, eachOnce, lowParts, middleParts}
 use Rattle.trees.specs.Reading.{byOrder, causeOf}
-use Rattle.trees.specs.Walks.{walkOf, cutOf, Room, partAtOf}
+use Rattle.trees.specs.Walks.{cutOf, partAtOf}
 use Rattle.trees.specs.Answers.{treeAt}
-use Rattle.trees.specs.declared.Walked.{Walked}
 use Rattle.trees.specs.declared.PartAt.{PartAt}
 use Rattle.trees.specs.declared.PartAt.the-variants.{NoPart, LowTo, MiddleTo}
 use Rattle.trees.proofs.Unique.{tree-same}
 use Rattle.trees.proofs.Orders.{size}
 use Rattle.trees.proofs.Causes.{Passed, has-tree}
-use Rattle.trees.proofs.Lines.{Spot, line-spot, tree-next, walk-spot, cut-spot}
-use Rattle.trees.proofs.Spots.{two-words-a-line, short-order, PartIs, part-told, cut-room}
+use Rattle.trees.proofs.Lines.{Spot, line-spot, tree-next, cut-spot}
+use Rattle.trees.proofs.Spots.{two-words-a-line, short-order, PartIs, part-told}
+use Rattle.trees.proofs.LineCuts.{line-short}
 use Rattle.trees.proofs.Cutting.{cut-shallow}
 use Rattle.book.specs.Taught.{addEach}
 use Rattle.book.proofs.Taught.{sorted-each}
@@ -111,7 +111,7 @@ entered-once (t ∷ ts) es s = go (has (words t) es) refl (entered-once ts es s)
         (added ∙ sym (each-add 1 (words t) (keep (lacks (add 1 (words t) es)) (eachOnce ts)) es (omega arith) s))
 
 -- Entered into nothing, each tree is added once.
-pub entered-all : (ts : List Tree) → enterEach ts [] ≡ addEach 1 (eachOnce ts) []
+entered-all : (ts : List Tree) → enterEach ts [] ≡ addEach 1 (eachOnce ts) []
 unfolding Sorted has
 entered-all ts = entered-once ts [] tt ∙ ap (λ (us : List Tree). addEach 1 us []) (keep-all (lacks []) (λ u. refl) (eachOnce ts))
 
@@ -135,7 +135,7 @@ parts-all true k t = refl
 parts-all false k t = refl
 
 -- Each once they are the order's, each once.
-pub parts-once : (low : Bool) (k : ℕ) (t : Tree) → eachOnce (partsIn low k (subtrees t)) ≡ partsOnce low k t
+parts-once : (low : Bool) (k : ℕ) (t : Tree) → eachOnce (partsIn low k (subtrees t)) ≡ partsOnce low k t
 unfolding partsIn lows middles lowParts middleParts
 parts-once true k t = refl
 parts-once false k t = refl
@@ -324,21 +324,9 @@ module _ (low : Bool) (k : ℕ) (os : List ℕ) (t : Tree) (line : ℕ) (listed 
       let short = short-order os t (g .passes) in
       sym (is ∙ low-told k (line * 2) (spot .tree) (partAtOf os (line * 2) k) (part-told os (line * 2) _ spot k (partAtOf os (line * 2) k) (partAtOf os (line * 2) k) short refl refl))
 
-  -- 128 words are room for its cut.
-  cut-ready : (d : ℕ) → Room (walkOf os (line * 2) d) most-words
-  cut-ready d = cut-room os (line * 2) _ spot d most-words (short-order os t (g .passes)) (omega arith)
-
-  -- Its cut has at most 128 words.
-  cut-short : (d : ℕ) → length (words (cut (spot .tree) d)) ≤ most-words
-  cut-short d = subst (λ (w : Walked). Room w most-words) (walk-spot os (line * 2) _ spot d) (cut-ready d)
-
-  -- It has two words a node.
+  -- Its cut has two words a node.
   cut-even : (d : ℕ) → 2 * (length (cutOf os (line * 2) d) / 2) ≡ length (cutOf os (line * 2) d)
   cut-even d = rw (cut-spot os (line * 2) _ spot d) (omega (arith, size (cut (spot .tree) d)))
-
-  -- So many words are written of it at most.
-  pub cut-most : (d : ℕ) → length (cutOf os (line * 2) d) ≤ most-words
-  cut-most d = rw (cut-spot os (line * 2) _ spot d) (cut-short d)
 
   module _ (b : Bool) (least : least-k ≤ k) (is : b ≡ lowAt (partAtOf os (line * 2) k)) where
     -- A line of the other kind stands for none of the parts left.
@@ -500,5 +488,5 @@ module _ (low : Bool) (k : ℕ) (os out₀ out entry : List ℕ) (line used many
             uses = after .1;
             counts = after .2;
             room = omega (arith, after .1, more-words, part-room, st .uses, st .long, long);
-            spare = ap length wrote ∙ simp (length-append, length-drop) (omega (arith, cut-most low k os (st .tree) line (st .listed) (st .gone) more d, st .spare));
+            spare = ap length wrote ∙ simp (length-append, length-drop) (omega (arith, line-short os (st .tree) (st .gone .passes) line d more, st .spare));
           }

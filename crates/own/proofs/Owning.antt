@@ -1,6 +1,6 @@
 -- An order's own book: what it is, how many words it takes, and the slice that it is listed in, stage by stage. Assumes nothing.
 use Prim.Native.Nat.{ℕ, suc, _+_, _*_, _-_, _/_, _≤_, _<_}
-use mathlib.Core.Path.{_≡_, refl, sym, ap, subst, _∙_}
+use mathlib.Core.Path.{_≡_, refl, sym, ap, _∙_}
 use mathlib.Core.Bool.{Bool, true, false}
 use mathlib.Core.List.{List, [], _∷_, _++_, append-assoc, append-nil}
 use native.Mathlib.Nat.{mul-le-mul}
@@ -19,15 +19,15 @@ use Rattle.changes.proofs.Relaying.{drop-zeros}
 use Rattle.changes.proofs.Once.{sorted-add-once}
 use Rattle.trees.specs.Trees.{Tree, words, cut, subtrees}
 use Rattle.trees.specs.Reading.{found, byOrder, causeOf}
-use Rattle.trees.specs.Walks.{walkOf, cutOf, Room}
+use Rattle.trees.specs.Walks.{cutOf}
 use Rattle.trees.specs.Parts.{isLow, top}
-use Rattle.trees.specs.declared.Walked.{Walked}
 use Rattle.trees.proofs.Orders.{size, some-lines}
 use Rattle.trees.proofs.Causes.{Passed, has-tree}
 use Rattle.trees.proofs.Cutting.{cut-shallow}
 use Rattle.trees.proofs.Shares.{cutNodes, shares}
-use Rattle.trees.proofs.Lines.{walk-spot, cut-spot}
-use Rattle.trees.proofs.Spots.{two-words-a-line, top-spot, top-room}
+use Rattle.trees.proofs.Lines.{cut-spot}
+use Rattle.trees.proofs.LineCuts.{line-short}
+use Rattle.trees.proofs.Spots.{two-words-a-line, top-spot}
 use Rattle.book.specs.Book.{Book, body, used, live, encode, lay}
 use Rattle.book.specs.Decoding.{placesOf}
 use Rattle.book.specs.declared.Places.{Places}
@@ -39,18 +39,13 @@ use Rattle.own.proofs.Listing.{enterEach, all-entered, partsIn, parts-n
 -- ---- how many words it takes
 
 -- A section of one entry has its words.
-pub one-words : (e : Entry) → sectionWords (e ∷ []) ≡ entryWords e
+one-words : (e : Entry) → sectionWords (e ∷ []) ≡ entryWords e
 unfolding sectionWords
 one-words e = append-nil (entryWords e)
 
 -- So it has two words more than its tree.
-pub one-long : (key : List ℕ) → length (sectionWords (counted key 1 ∷ [])) ≡ 2 + length key
+one-long : (key : List ℕ) → length (sectionWords (counted key 1 ∷ [])) ≡ 2 + length key
 one-long key = rw (one-words (counted key 1)) (omega arith)
-
--- Words written over a slice of zeros stand at its front, and zeros behind them.
-pub over-zeros : (w out : List ℕ) → length w ≤ length out → out ≡ replicate (length out) 0 → over w out ≡ padded (length out) w
-unfolding padded
-over-zeros w out fits zeros = ap (over w) zeros ∙ ap (λ (l : List ℕ). w ++ l) (drop-zeros (length out) (length w) fits)
 
 -- Every subtree stands for a part of one kind, its cut at k-1: a head of two words, and two words for each node of the cut.
 parts-both : (k : ℕ) (ss : List Tree) → least-k ≤ k → eachWords (partsIn true k ss) + eachWords (partsIn false k ss) ≡ 2 * length ss + 2 * cutNodes (k - 1) ss
@@ -87,16 +82,9 @@ module _ (os : List ℕ) (is : causeOf os ≡ done) where
   pub first-line : 0 < length os / 2
   first-line = let x = has-tree os is in omega (arith, two-words-a-line os (x .tree) (x .passes), some-lines (x .tree))
 
-  -- 128 words are room for any cut of it.
-  whole-ready : (d : ℕ) → Room (walkOf os 0 d) most-words
-  whole-ready d = let x = has-tree os is in top-room os (x .tree) (x .passes) d most-words (omega arith)
-
   -- A cut of it has at most 128 words.
   pub whole-short : (d : ℕ) → length (cutOf os 0 d) ≤ most-words
-  whole-short d =
-      let x = has-tree os is in
-      let s = top-spot os (x .tree) (x .passes) in
-      rw (cut-spot os 0 (found (x .tree)) s d) (subst (λ (w : Walked). Room w most-words) (walk-spot os 0 (found (x .tree)) s d) (whole-ready d))
+  whole-short d = let x = has-tree os is in line-short os (x .tree) (x .passes) 0 d first-line
 
   module _ (k : ℕ) (least : least-k ≤ k) where
     -- The list of a kind takes an entry's words for each part of the kind at most.

@@ -1,12 +1,10 @@
 -- The order's top, written to a scratch and looked up in R. Assumes nothing.
-use Prim.Native.Nat.{ℕ, _-_, _≤_}
-use mathlib.Core.Path.{_≡_, ap, sym, _∙_}
+use Prim.Native.Nat.{ℕ, _-_, _/_, _<_, _≤_}
+use mathlib.Core.Path.{_≡_, sym, _∙_}
 use mathlib.Core.Bool.{true, false}
 use mathlib.Core.List.{List}
-use native.Mathlib.Nat.{sub-zero}
 use native.Mathlib.Omega.{arith}
 use lib.ListN.{length, getD, take, drop}
-use lib.Seq.{take-append-seam}
 use Rattle.words.specs.Base.{over}
 use Rattle.figures.specs.Limits.{most-words}
 use Rattle.section.specs.Entries.{entries, look, has}
@@ -16,34 +14,34 @@ use Rattle.section.proofs.Searches.{look-has, look-lacks}
 use Rattle.trees.specs.Trees.{Tree, words}
 use Rattle.trees.specs.Reading.{byOrder, found}
 use Rattle.trees.specs.Parts.{top}
-use Rattle.trees.specs.Walks.{Room, walkOf, cutOf, cutLength, laidOf}
+use Rattle.trees.specs.Walks.{walkOf, cutOf, laidOf}
 use Rattle.trees.specs.declared.Laid.{Laid}
 use Rattle.trees.proofs.Causes.{Passed}
-use Rattle.trees.proofs.Lines.{walk-spot, cut-spot}
+use Rattle.trees.proofs.Orders.{some-lines}
+use Rattle.trees.proofs.Lines.{cut-spot}
+use Rattle.trees.proofs.LineCuts.{line-count, line-lent}
 use Rattle.book.specs.Book.{sectionOf}
 use Rattle.book.specs.Decoding.{bookIn}
 use Rattle.book.specs.Holding.{Holds}
 use Rattle.book.specs.declared.Places.{Places}
 use Rattle.book.specs.declared.Section.the-variants.{Tops}
 use Rattle.verdicts.specs.Seeking.{topKnown}
-use Rattle.trees.proofs.Spots.{top-spot, top-room}
+use Rattle.trees.proofs.Spots.{two-words-a-line, top-spot}
 
 -- The order's tree, and a depth to cut it at.
 module _ (os : List ℕ) (t : Tree) (p : Passed os t) (d : ℕ) where
+  -- The order has a first line.
+  first : 0 < length os / 2
+  first = omega (arith, two-words-a-line os t p, some-lines t)
+
   -- The cut that is written has at most 128 words.
   pub top-count : (r : Laid) → r ≡ laidOf (walkOf os 0 d) → r .count ≤ most-words
-  top-count r e = rw (ap (λ (l : Laid). l .count) e) (go (top-room os t p d most-words (omega arith)))
-    where
-      go : Room (walkOf os 0 d) most-words → cutLength (walkOf os 0 d) ≤ most-words
-      go h = rw (walk-spot os 0 (found t) (top-spot os t p) d) (rw (walk-spot os 0 (found t) (top-spot os t p) d) at h)
+  top-count r e = line-count os t p 0 d first r e .1
 
   -- Cut at k-2, the words that were written are those of the top.
   pub top-key : (k : ℕ) (r : Laid) (old cut : List ℕ) → d ≡ k - 2 → r ≡ laidOf (walkOf os 0 d) → cut ≡ over (cutOf os 0 d) old → take (r .count - 0) (drop 0 cut) ≡ words (top k t)
   unfolding top
-  top-key k r old cut e f g =
-      let new : cutOf os 0 d ≡ words (top k t) = cut-spot os 0 (found t) (top-spot os t p) d ∙ rw e in
-      let n : r .count ≡ length (cutOf os 0 d) = ap (λ (l : Laid). l .count) f ∙ rw (walk-spot os 0 (found t) (top-spot os t p) d, cut-spot os 0 (found t) (top-spot os t p) d) in
-      rw (sub-zero, n, g) (take-append-seam (cutOf os 0 d) _ ∙ new)
+  top-key k r old cut e f g = line-lent os t p 0 d first r f old cut g ∙ cut-spot os 0 (found t) (top-spot os t p) d ∙ rw e
 
 -- A search for the top among the entries of R.
 module _ (ws os : List ℕ) (p : Places) (t : Tree) (H : Holds ws p) (q : Passed os t) where

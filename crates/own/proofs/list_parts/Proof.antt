@@ -10,8 +10,9 @@ use borrow.Author.Needs.{needs}
 use Rattle.section.specs.Entries.{Entry, sectionWords}
 use Rattle.changes.specs.Editing.{padded}
 use Rattle.changes.specs.declared.Size.{Size}
+use Rattle.trees.proofs.LineCuts.{line-short}
 use Rattle.own.specs.Own.{sizeOf}
-use Rattle.own.proofs.Listing.{Listing, list-start, list-end, listing-named, cut-most, line-passed, enter-ready, line-entered}
+use Rattle.own.proofs.Listing.{Listing, list-start, list-end, listing-named, line-passed, enter-ready, line-entered}
 use Rattle.own.proofs.list_parts.Statement.{statement}
 use Rattle.own.proofs.list_parts.Tie as tie
 
@@ -52,7 +53,7 @@ part-enter-once-end : tie.Need-part-enter-once-end Inv-loop μ-loop
 part-enter-once-end c =
     let w = c .before .before .before in
     let l = w .before .before .before .before .before in
-    omega (arith, w .write-entry .ensures .0, cut-most _ _ _ _ _ _ (l .before .loop .inv .gone) (l .loop-test .taken) (w .before .before .of-middles .result))
+    omega (arith, w .write-entry .ensures .0, line-short _ _ (l .before .loop .inv .gone .passes) _ (w .before .before .of-middles .result) (l .loop-test .taken))
 
 enter-once-requires : tie.Need-enter-once-requires Inv-loop μ-loop
 enter-once-requires c κs =

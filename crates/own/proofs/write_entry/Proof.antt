@@ -10,6 +10,7 @@ use Rattle.words.specs.Base.{over}
 use Rattle.figures.specs.Limits.{most-words}
 use Rattle.section.specs.Entries.{counted, entryWords}
 use Rattle.trees.specs.Walks.{cutOf}
+use Rattle.trees.proofs.Causes.{has-tree}
 use Rattle.trees.proofs.Cuts.{set-two, part-back}
 use Rattle.trees.proofs.LineCuts.{line-room, line-count}
 use Rattle.own.proofs.write_entry.Statement.{statement}
@@ -31,7 +32,7 @@ entry-over w l last fits is =
 count-is : (c : tie.After-put-line) →
     let b = c .before .before .before .before in
     (c .put-line .result .count ≡ length (cutOf (b .args .order .now) (b .args .line * 2) (b .args .d))) × (c .put-line .result .count ≤ most-words)
-count-is c = let b = c .before .before .before .before in line-count _ _ _ (b .pre .0) (b .pre .1 .1 .0) _ (c .put-line .ensures .0)
+count-is c = let b = c .before .before .before .before in line-count _ _ (has-tree _ (b .pre .0) .passes) _ _ (b .pre .1 .1 .0) _ (c .put-line .ensures .0)
 
 sub-put-line : tie.Need-sub-put-line
 sub-put-line c = search needs
@@ -45,7 +46,7 @@ part-put-line-end c = search needs
 put-line-requires : tie.Need-put-line-requires
 put-line-requires c κs =
     let b = c .before .before .before in
-    (b .pre .0, (b .pre .1 .0 .0, (b .pre .1 .1 .0, (b .pre .1 .0 .1, line-room _ _ _ (b .pre .0) (b .pre .1 .1 .0) _ (simp (length-take, length-drop) (omega (arith, b .pre .1 .1 .1)))))))
+    (b .pre .0, (b .pre .1 .0 .0, (b .pre .1 .1 .0, (b .pre .1 .0 .1, line-room _ _ (has-tree _ (b .pre .0) .passes) _ _ (b .pre .1 .1 .0) _ (simp (length-take, length-drop) (omega (arith, b .pre .1 .1 .1)))))))
 
 cast-out : tie.Need-cast-out
 cast-out c = omega (arith, count-is (c .before .before) .1)
