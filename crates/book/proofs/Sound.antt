@@ -14,6 +14,7 @@ use Rattle.words.specs.Base.{if_then_else_, within, _∈_}
 use Rattle.words.specs.Compare.{_≺_}
 use Rattle.words.proofs.Tests.{and-left, and-right, and-both}
 use Rattle.figures.specs.Limits.{head-words, most-book-words, least-k, greatest-k, least-count, greatest-count}
+use Rattle.figures.specs.Numbers.{book-size, not-in-form}
 use Rattle.trees.specs.Trees.{Tree, words, subtrees}
 use Rattle.trees.proofs.Orders.{size}
 use Rattle.trees.proofs.Fitting.{fits-tree, tree-fits, fits-some}
@@ -185,6 +186,13 @@ module _ (ws : List ℕ) where
       go : (t : Bool) → formed ws ≡ t → formed ws ≡ false
       go true e = absurd (n (bookIn ws) (formed-book l s e))
       go false e = e
+
+  -- A refusal is 4 or 5.
+  pub refused-4-5 : (n : ℕ) → WhyForm ws (Refused n) → (book-size ≤ n) × (n ≤ not-in-form)
+  refused-4-5 n (shorter r l) = let z : n ≡ book-size = cc in (omega arith, omega arith)
+  refused-4-5 n (longer r l) = let z : n ≡ book-size = cc in (omega arith, omega arith)
+  refused-4-5 n (formless r l m x) = let z : n ≡ not-in-form = cc in (omega arith, omega arith)
+  refused-4-5 n (book b r i) = absurd (let z : _≡_ {A = ℕ} 0 1 = cc in omega arith)
 
   -- What it gives has its reason.
   pub why-is : WhyForm ws (bookFormOf ws)

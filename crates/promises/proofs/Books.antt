@@ -204,7 +204,7 @@ withdrawn-uses t b =
 
 module _ (ws os : List ℕ) (b : Book) (t : Tree) (is : IsBook ws b) (o : IsOrder os t) where
   -- The words are met as that book and that order.
-  its-met : BookAndOrder ws os b t
+  pub its-met : BookAndOrder ws os b t
   its-met = record { size = is-sized ws (is .long) (is .short); isBook = book-decode ws b is; isOrder = order-read os t o }
 
   -- Its k is at least 2.

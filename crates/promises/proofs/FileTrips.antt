@@ -14,7 +14,7 @@ use Rattle.book.specs.Book.{Book, lay}
 use Rattle.book.specs.Sound.{IsBook}
 use Rattle.book.specs.Opening.{Outcome, outcome, leave}
 use Rattle.book.proofs.Meaning.{lay-long, used-fits}
-use Rattle.book.proofs.Sound.{head-says}
+use Rattle.book.proofs.Sound.{head-says, refused-4-5}
 use Rattle.effects.proofs.Calling.{number-is, words-are}
 use Rattle.files.specs.Files.{front-bytes, fileOf, writeFileOf, readFileOf}
 use Rattle.files.proofs.Writing.{file-long}
@@ -22,7 +22,7 @@ use Rattle.promises.specs.Agreement.{Agrees}
 use Rattle.promises.specs.Whys.{IsFile, WhyFiled, file-no-book, file-disagrees, file-short, filed}
 use Rattle.promises.specs.Whys.{BookSized, WhyRestored, restore-shorter, restore-longer, few-bytes, wrong-mark, wrong-version, no-used-words, restore-disagrees, restore-no-room, restores}
 use Rattle.promises.proofs.Refusals.{writing-number}
-use Rattle.promises.proofs.FileWhys.{form-refuses, agrees-filed, filed-why, file-read, restored-why, restored-only}
+use Rattle.promises.proofs.FileWhys.{agrees-filed, filed-why, file-read, restored-why, restored-only}
 
 -- ---- a book that agrees with itself
 
@@ -51,7 +51,7 @@ filed-back ws out d slice same = go (filed-why ws out)
 
     -- By the row of writing.
     go : WhyFiled ws out (writeFileOf ws out) → readFileOf (sent (writeFileOf ws out)) slice ≡ outcome (answered done) ws
-    go (file-no-book n e w) = absurd (form-refuses ws n w (sym (writing-number e) ∙ d))
+    go (file-no-book n e w) = absurd (omega (arith, writing-number e, refused-4-5 ws n w .0))
     go (file-disagrees b e i x) = absurd (omega (arith, d, writing-number e))
     go (file-short b e i g h) = absurd (omega (arith, d, writing-number e))
     go (filed b e i g h) =
@@ -65,7 +65,7 @@ filed-bytes ws out d = go (filed-why ws out)
   where
     -- By the row of writing.
     go : WhyFiled ws out (writeFileOf ws out) → writeFileOf ws out .answer .count ≡ front-bytes + 2 * getD ws used-word 0
-    go (file-no-book n e w) = absurd (form-refuses ws n w (sym (writing-number e) ∙ d))
+    go (file-no-book n e w) = absurd (omega (arith, writing-number e, refused-4-5 ws n w .0))
     go (file-disagrees b e i x) = absurd (omega (arith, d, writing-number e))
     go (file-short b e i g h) = absurd (omega (arith, d, writing-number e))
     go (filed b e i g h) = omega (arith, ap (λ (w : Writing). w .answer .count) e, file-long b, head-says ws b i .1)

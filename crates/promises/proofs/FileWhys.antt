@@ -14,10 +14,10 @@ use Rattle.words.specs.Base.{_and_, if_then_else_, sameWords}
 use Rattle.words.proofs.Tests.{no-test, and-right, and-both, fails-right, same-words, words-same}
 use Rattle.figures.specs.Limits.{head-words, most-book-words}
 use Rattle.figures.specs.Answers.{answered}
-use Rattle.figures.specs.Numbers.{done, book-size, no-room, not-in-form, not-agreeing, no-mark, other-version, no-stored-book}
+use Rattle.figures.specs.Numbers.{book-size, no-room, not-in-form, not-agreeing, no-mark, other-version, no-stored-book}
 use Rattle.trees.specs.Answers.{Writing, refuse, write}
 use Rattle.book.specs.Book.{Book, used, encode}
-use Rattle.book.specs.Decoding.{bookFormOf, formNumber, sized}
+use Rattle.book.specs.Decoding.{bookFormOf, sized}
 use Rattle.book.specs.Sound.{IsBook, WhyForm, shorter, longer, formless, book}
 use Rattle.book.specs.Taught.{agreeing}
 use Rattle.book.specs.Opening.{Outcome, leave, writeBook}
@@ -37,13 +37,6 @@ use Rattle.promises.proofs.Agreement.{sound-agreeing}
 use Rattle.promises.proofs.Refusals.{write-refuses, write-writes}
 
 -- ---- writing a file
-
--- Words that have a reason to be no book in form are not answered by 0.
-pub form-refuses : (ws : List ℕ) (n : ℕ) → WhyForm ws (Refused n) → n ≡ done → ⊥
-form-refuses ws n (shorter r l) e = omega (arith, ap formNumber r)
-form-refuses ws n (longer r l) e = omega (arith, ap formNumber r)
-form-refuses ws n (formless r l m x) e = omega (arith, ap formNumber r)
-form-refuses ws n (book b r i) e = absurd (let z : _≡_ {A = ℕ} 0 1 = cc in omega arith)
 
 module _ (ws out : List ℕ) where
   -- Words that are no book in form are refused by 4 or 5.

@@ -4,6 +4,7 @@ pub mod Counted
 pub mod Remaining
 pub mod Agreement
 pub mod Passing
+pub mod Learning
 pub mod Refusals
 pub mod Whys
 pub mod PartWhys
@@ -28,6 +29,8 @@ pub mod Cases
 pub mod Demand1
 pub mod Demand2
 pub mod Demand3
+pub mod Growing
+pub mod NoMore
 pub mod AtTheDesk
 pub mod DeskFigures
 pub mod DeskLine

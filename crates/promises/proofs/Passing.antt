@@ -1,5 +1,5 @@
--- By a book of exactly the orders that remain, judging answers 0 for an order exactly if it is made only of parts of these; so each of them passes.
--- Assumes nothing.
+-- By a book judging answers 0 for an order exactly if it passes, and by a book of exactly the orders that remain exactly if it is made only of parts of
+-- these; so each of them passes. Assumes nothing.
 use Prim.Native.Nat.{ℕ, _-_, _≤_}
 use mathlib.Core.Path.{_≡_, refl, sym, ap, subst}
 use mathlib.Core.List.{List, List·Memᴰ·head as here, List·Memᴰ·tail as there}
@@ -13,6 +13,7 @@ use Rattle.trees.specs.Trees.{Tree, words}
 use Rattle.trees.specs.Fits.{IsOrder}
 use Rattle.trees.specs.Paper.{IsR, IsL, IsP}
 use Rattle.book.specs.Book.{Book, sectionOf}
+use Rattle.book.specs.Sound.{IsBook}
 use Rattle.book.specs.declared.Section.{Section}
 use Rattle.book.specs.declared.Section.the-variants.{Tops, Lows, Middles}
 use Rattle.book.proofs.Sound.{sound-form, book-only}
@@ -23,6 +24,23 @@ use Rattle.amend.proofs.Sections.{form-sorted}
 use Rattle.effects.specs.Conditions.{_exactly-when_}
 use Rattle.promises.specs.Remaining.{HowMany, none-left, one-more, not-this, HasPart, ExactlyThese, SomeHas, MadeOf}
 use Rattle.promises.proofs.Orders.{one-tree}
+
+-- ---- by one book
+
+-- Words that are a book and an order: judging answers 0 exactly if the order passes by the book.
+pub judged-exactly : (ws os : List ℕ) (b : Book) (t : Tree) → IsBook ws b → IsOrder os t → (judgeOf ws os .number ≡ done) exactly-when Passes b t
+judged-exactly ws os b t i o = (from, to)
+  where
+    -- What is answered by 0 passes by a book and as a tree, and the words have no other.
+    from : judgeOf ws os .number ≡ done → Passes b t
+    from e =
+        let p : PassesBy ws os = answered-passes ws os e in
+        subst (λ (c : Book). Passes c t) (book-only ws (p .lent .book) b (p .lent .isBook) i)
+        (subst (Passes (p .lent .book)) (one-tree (p .lent .isOrder) o) (p .passes))
+
+    -- What passes is answered by 0.
+    to : Passes b t → judgeOf ws os .number ≡ done
+    to p = ap (λ (a : Answer). a .number) (passes-answered ws os (record { lent = record { book = b; tree = t; isBook = i; isOrder = o }; passes = p }))
 
 -- ---- how many, and whether some
 
@@ -42,11 +60,11 @@ some-many (there i) q (not-this x m) = some-many i q m
 
 module _ (es : List Entry) (u : Tree) (sorted : Sorted es) where
   -- A tree in a sorted section counts there.
-  in-counts : In es u → 1 ≤ countOf (words u) es
+  pub in-counts : In es u → 1 ≤ countOf (words u) es
   in-counts i = has-counts (words u) es sorted (entry-has (words u) (i .there) (i .spelt))
 
   -- A tree that counts there is in it.
-  counted-in : 1 ≤ countOf (words u) es → In es u
+  pub counted-in : 1 ≤ countOf (words u) es → In es u
   counted-in h =
       let x = has-entry (words u) es (counts-has (words u) es sorted h) in
       record { entry = x .0; there = x .1; spelt = x .2 }
@@ -105,23 +123,9 @@ module _ (k : ℕ) (orders : List (List ℕ)) (ws : List ℕ) (x : ExactlyThese 
 -- Where the words are exactly the book of the orders that remain, judging an order answers 0 exactly if it is "made only of parts the book has
 -- seen".
 pub passes-made : (k : ℕ) (orders : List (List ℕ)) (ws os : List ℕ) (t : Tree) → ExactlyThese k orders ws → IsOrder os t → (judgeOf ws os .number ≡ done) exactly-when MadeOf k orders t
-passes-made k orders ws os t x o = (from, to)
-  where
-    -- What passes by a book and an order passes by this book and this order.
-    passes-this : PassesBy ws os → Passes (x .book) t
-    passes-this p =
-        subst (λ (b : Book). Passes b t) (book-only ws (p .lent .book) (x .book) (p .lent .isBook) (x .isBook))
-        (subst (Passes (p .lent .book)) (one-tree (p .lent .isOrder) o) (p .passes))
-
-    -- What is answered by 0 is made of parts of the orders,
-    from : judgeOf ws os .number ≡ done → MadeOf k orders t
-    from e = passing-made k orders ws x t (passes-this (answered-passes ws os e))
-
-    -- and what is made of them is answered by 0.
-    to : MadeOf k orders t → judgeOf ws os .number ≡ done
-    to g =
-        let p : PassesBy ws os = record { lent = record { book = x .book; tree = t; isBook = x .isBook; isOrder = o }; passes = made-passes k orders ws x t g } in
-        ap (λ (a : Answer). a .number) (passes-answered ws os p)
+passes-made k orders ws os t x o =
+    let j = judged-exactly ws os (x .book) t (x .isBook) o in
+    (λ e. passing-made k orders ws x t (j .0 e), λ g. j .1 (made-passes k orders ws x t g))
 
 -- An order is made of its own parts, so each of the orders passes by their book.
 pub among-passes : (k : ℕ) (orders : List (List ℕ)) (ws os : List ℕ) (t : Tree) → ExactlyThese k orders ws → os ∈ orders → IsOrder os t → judgeOf ws os .number ≡ done

@@ -1,22 +1,32 @@
 -- Rows that are computed beside the twelve cases: books in form and books that miss it by one damage, books that agree with themselves and books
--- that do not, refusals by 6, 7, 8 and 9, and books that are joined. Assumes nothing.
+-- that do not, refusals by 6, 7, 8 and 9, books that are joined, and what a book lets in. Assumes nothing.
 use Prim.Native.Nat.{ℕ, _+_}
 use mathlib.Core.Path.{_≡_, refl}
 use mathlib.Core.Bool.{true, false}
 use mathlib.Core.List.{List, [], _∷_}
+use native.Mathlib.Omega.{arith}
 use lib.ListN.{set}
-use Rattle.section.specs.Entries.{Entry, counted}
+use Rattle.section.specs.Entries.{Entry, counted, add}
 use Rattle.trees.specs.Trees.{Tree, node, bare, cons, words}
+use Rattle.trees.specs.Fits.{IsOrder}
+use Rattle.trees.proofs.Fitting.{read-order}
 use Rattle.book.specs.Book.{Book, lay, inForm}
 use Rattle.book.specs.Decoding.{formed}
+use Rattle.book.specs.Sound.{IsBook}
 use Rattle.book.specs.Taught.{Teaching, bookOf, agreeing}
+use Rattle.book.proofs.Sound.{form-sound}
+use Rattle.verdicts.specs.Judging.{judgeOf}
 use Rattle.effects.specs.Calls.{hasParts}
 use Rattle.figures.specs.Answers.{answered}
 use Rattle.book.specs.Checking.{checkOf}
 use Rattle.book.specs.Opening.{outcome, leave}
 use Rattle.sums.specs.Joining.{joinOf}
+use Rattle.promises.specs.Agreement.{Agrees}
+use Rattle.promises.specs.NoMore.{FormOf, IncludeTaught, setsOf}
 use Rattle.promises.specs.Heard.{A, B, C, single, opens, teaches, withdraws, slice, heard}
 use Rattle.promises.proofs.Computed.{computes}
+use Rattle.promises.proofs.Agreement.{sound-agreeing}
+use Rattle.promises.proofs.NoMore.{own-sets}
 
 -- An order taught so many times.
 abbrev pub times : ℕ → Tree → Teaching
@@ -191,3 +201,62 @@ joined-counts : (joinOf (lay 19 (bookOf 2 (times 40000 single ∷ []))) (lay 19 
     × (joinOf (lay 19 (bookOf 2 (times 40000 single ∷ []))) (lay 19 (bookOf 2 (times 25536 single ∷ []))) .answer .number ≡ 7)
 unfolding computes
 joined-counts = (refl, refl)
+
+-- ---- what a book lets in
+
+-- The book of A and B, k = 2 and k = 6.
+abbrev bookAB2 : Book
+bookAB2 = bookOf 2 (times 1 A ∷ times 1 B ∷ [])
+
+abbrev bookAB6 : Book
+bookAB6 = bookOf 6 (times 1 A ∷ times 1 B ∷ [])
+
+-- By A and B at k = 2 passes C, which nobody built, and at k = 3 it does not; at k = 6, where k-2 is at least the depth of both, A and B pass and C does not.
+deeper : (judgeOf (lay 87 bookAB2) (words C) ≡ answered 0)
+    × (judgeOf (lay 109 bookAB) (words C) ≡ record { number = 22; line = 1 })
+    × (judgeOf (lay 127 bookAB6) (words C) ≡ record { number = 21; line = 1 })
+    × (judgeOf (lay 127 bookAB6) (words A) ≡ answered 0)
+    × (judgeOf (lay 127 bookAB6) (words B) ≡ answered 0)
+unfolding computes
+deeper = (refl, refl, refl, refl, refl)
+
+-- The book of A, k = 2.
+abbrev bookA2 : Book
+bookA2 = bookOf 2 (times 1 A ∷ [])
+
+-- The same with 1000 in L, which is a low part of no taught order.
+abbrev strangeL : Book
+strangeL = withL bookA2 (add 1 (words single) (bookA2 .L))
+
+-- The words of the first, in a slice as long as it needs, are that book,
+its-book : IsBook (lay 51 bookA2) bookA2
+unfolding computes
+its-book = record { long = omega arith; short = omega arith; sound = form-sound bookA2 refl; laid = refl }
+
+-- and it agrees with itself.
+its-agreement : Agrees bookA2
+unfolding computes
+its-agreement = sound-agreeing bookA2 (its-book .sound) .0 refl
+
+-- The single node 1000 is an order within limits, and does not pass by the first.
+single-order : IsOrder (words single) single
+unfolding computes
+single-order = read-order (words single) single refl
+
+single-fails : judgeOf (lay 51 bookA2) (words single) .number ≡ 21
+unfolding computes
+single-fails = refl
+
+-- `no-more` is false of a book that does not agree with itself: the second is in form, and is checked with 9; the parts of A are three sets whose forms include all
+-- that is taught to it; and it passes 1000, which is none of their forms.
+lets-in-more : IsBook (lay 55 strangeL) strangeL × (checkOf (lay 55 strangeL) ≡ answered 9) × IncludeTaught strangeL (setsOf bookA2)
+    × (judgeOf (lay 55 strangeL) (words single) ≡ answered 0)
+    × (FormOf (strangeL .k) (setsOf bookA2) single → ⊥)
+unfolding computes
+lets-in-more = (
+  record { long = omega arith; short = omega arith; sound = form-sound strangeL refl; laid = refl },
+  refl,
+  own-sets (lay 51 bookA2) bookA2 its-book its-agreement .0,
+  refl,
+  λ f. omega (arith, single-fails, own-sets (lay 51 bookA2) bookA2 its-book its-agreement .1 (words single) single single-order .1 f),
+)

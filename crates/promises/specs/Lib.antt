@@ -8,3 +8,4 @@ pub mod AtTheDesk
 pub mod DeskInput
 pub mod Forms
 pub mod Books
+pub mod NoMore

@@ -46,6 +46,15 @@ cause-only s n (no-tree e v l h) = no-tree-cause s v l (tree-missing s h) ∙ sy
 cause-only s n (deep e l t g w h) = cause-deep s (tree-sized s t w l) (depth t) (tree-found s t g w) h ∙ sym e
 cause-only s n (none e l t g w h) = cause-none s (tree-sized s t w l) (depth t) (tree-found s t g w) h ∙ sym e
 
+-- A cause is 0, 1 or 2.
+pub cause-small : (s : List ℕ) (n : ℕ) → Cause s n → n ≤ too-large
+cause-small s n (empty e h) = omega arith
+cause-small s n (odd e h) = omega arith
+cause-small s n (long e v h) = omega arith
+cause-small s n (no-tree e v l h) = omega arith
+cause-small s n (deep e l t g w h) = omega arith
+cause-small s n (none e l t g w h) = omega arith
+
 -- A good tree's words have one of the last two causes.
 by-depth : (s : List ℕ) (t : Tree) → length s ≤ most-words → Good t → s ≡ words t → Cause s (causeOf s)
 by-depth s t l g w = go (leb (depth t) greatest-depth) refl

@@ -44,6 +44,20 @@ mutual
   cutF-shallow bare d h = refl
   cutF-shallow (cons t f) d h = ap₂ cons (cut-shallow t d (omega arith)) (cutF-shallow f d (omega arith))
 
+-- The cut at d of a cut that goes as deep is the cut at d.
+mutual
+  unfolding cut
+
+  pub cut-cut : (t : Tree) (a d : ℕ) → d ≤ a → cut (cut t a) d ≡ cut t d
+  cut-cut (node c f) zero zero h = refl
+  cut-cut (node c f) zero (suc d) h = absurd (omega arith)
+  cut-cut (node c f) (suc a) zero h = refl
+  cut-cut (node c f) (suc a) (suc d) h = ap (node c) (cutF-cutF f a d (omega arith))
+
+  cutF-cutF : (f : Forest) (a d : ℕ) → d ≤ a → cutF (cutF f a) d ≡ cutF f d
+  cutF-cutF bare a d h = refl
+  cutF-cutF (cons t f) a d h = ap₂ cons (cut-cut t a d h) (cutF-cutF f a d h)
+
 -- A cut row has as many trees.
 pub count-cut : (f : Forest) (d : ℕ) → count (cutF f d) ≡ count f
 unfolding count cutF

@@ -258,6 +258,10 @@ r-only {t} {u} {v} n l a b =
         let i : InDomain u x = record { subtree = s; is = p } in
         a .labels h x i ∙ sym (b .labels h x (r-domain n h a b x i))
 
+-- So what is r of index n is the cut at n-1.
+pub r-cut : {t u : Tree} (n : ℕ) → 1 ≤ n → IsR n t u → u ≡ cut t (n - 1)
+r-cut {t} n l r = r-only n l r (cut-is-r t n l)
+
 -- The top is r of index k-1.
 pub top-is-r : (k : ℕ) (t : Tree) → 2 ≤ k → IsR (k - 1) t (top k t)
 unfolding top

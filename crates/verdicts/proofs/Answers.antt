@@ -4,19 +4,18 @@ use Prim.Native.Nat.{ℕ, _≤_}
 use mathlib.Core.Path.{_≡_, refl, ap, sym, subst, _∙_}
 use mathlib.Core.List.{List}
 use native.Mathlib.Omega.{arith}
-use Rattle.figures.specs.Numbers.{done, too-large, book-size, not-in-form, top-unknown, low-unknown, middle-unknown}
+use Rattle.figures.specs.Numbers.{done, book-size, not-in-form, top-unknown, low-unknown, middle-unknown}
 use Rattle.figures.specs.Answers.{answered}
 use Rattle.figures.specs.declared.Answer.{Answer}
 use Rattle.trees.specs.Trees.{Tree}
 use Rattle.trees.specs.Reading.{causeOf}
-use Rattle.trees.specs.Causes.{Cause, empty, odd, long, no-tree, deep, none}
 use Rattle.trees.proofs.Fitting.{passed-order, order-read}
-use Rattle.trees.proofs.Causes.{cause-is, Seen, stopped, passed, seen}
+use Rattle.trees.proofs.Causes.{cause-small, cause-is, Seen, stopped, passed, seen}
 use Rattle.book.specs.Book.{Book}
 use Rattle.book.specs.Decoding.{bookFormOf}
 use Rattle.book.specs.Sound.{IsBook, WhyForm, shorter, longer, formless, book}
 use Rattle.book.specs.declared.BookForm.the-variants.{Refused}
-use Rattle.book.proofs.Sound.{why-is, why-only}
+use Rattle.book.proofs.Sound.{refused-4-5, why-is, why-only}
 use Rattle.verdicts.specs.Judging.{verdict, judgeOf}
 use Rattle.verdicts.specs.Verdicts.{Passes, Doubted, Lent, PassesBy, TopUnknown, LowUnknown, MiddleUnknown, Verdict, passing, no-top, no-low, no-middle, Judged, no-book, no-order, judged}
 use Rattle.verdicts.proofs.Judgements.{by-cause, by-verdict, judge-unheld}
@@ -47,13 +46,6 @@ module _ (ws os : List ℕ) where
 
   -- ---- passing
 
-  -- A refusal by the book is not 0.
-  refusal-not-0 : (n : ℕ) → WhyForm ws (Refused n) → n ≡ done → ⊥
-  refusal-not-0 n (shorter r l) e = let z : n ≡ book-size = cc in omega arith
-  refusal-not-0 n (longer r l) e = let z : n ≡ book-size = cc in omega arith
-  refusal-not-0 n (formless r l m x) e = let z : n ≡ not-in-form = cc in omega arith
-  refusal-not-0 n (book b r i) e = let z : _≡_ {A = ℕ} 0 1 = cc in omega arith
-
   -- Of the verdicts only passing is 0.
   verdict-0 : (b : Book) (t : Tree) (a : Answer) → Verdict b t a → a .number ≡ done → Passes b t
   verdict-0 b t a (passing e p) f = p
@@ -70,7 +62,7 @@ module _ (ws os : List ℕ) where
   answered-passes e = go (judged-is)
     where
       go : Judged ws os (judgeOf ws os) → PassesBy ws os
-      go (no-book n f w) = absurd (refusal-not-0 n w (sym (ap (λ (x : Answer). x .number) f) ∙ e))
+      go (no-book n f w) = absurd (omega (arith, ap (λ (x : Answer). x .number) f, refused-4-5 ws n w .0))
       go (no-order b n f i c x) = absurd (x (sym (ap (λ (x : Answer). x .number) f) ∙ e))
       go (judged b t i o v) = record { lent = record { book = b; tree = t; isBook = i; isOrder = o }; passes = verdict-0 b t _ v e }
 
@@ -79,22 +71,6 @@ module _ (ws os : List ℕ) where
   passes-answered p = judged-only (answered done) (row (p .lent) (passing refl (p .passes)))
 
   -- ---- the verdicts 20, 21 and 22
-
-  -- A refusal by the book is 4 or 5.
-  refusal-small : (n : ℕ) → WhyForm ws (Refused n) → n ≤ not-in-form
-  refusal-small n (shorter r l) = let z : n ≡ book-size = cc in omega arith
-  refusal-small n (longer r l) = let z : n ≡ book-size = cc in omega arith
-  refusal-small n (formless r l m x) = let z : n ≡ not-in-form = cc in omega arith
-  refusal-small n (book b r i) = absurd (let z : _≡_ {A = ℕ} 0 1 = cc in omega arith)
-
-  -- A cause of an order is 0, 1 or 2.
-  cause-small : (n : ℕ) → Cause os n → n ≤ too-large
-  cause-small n (empty e h) = omega arith
-  cause-small n (odd e h) = omega arith
-  cause-small n (long e v h) = omega arith
-  cause-small n (no-tree e v l h) = omega arith
-  cause-small n (deep e l t g w h) = omega arith
-  cause-small n (none e l t g w h) = omega arith
 
   -- The number that an answer has.
   numbered : {a c : Answer} → a ≡ c → a .number ≡ c .number
@@ -105,8 +81,8 @@ module _ (ws os : List ℕ) where
   verdict-row h = go judged-is
     where
       go : Judged ws os (judgeOf ws os) → (l : Lent ws os) × Verdict (l .book) (l .tree) (judgeOf ws os)
-      go (no-book n f w) = absurd (omega (arith, numbered f, refusal-small n w))
-      go (no-order b n f i c x) = absurd (omega (arith, numbered f, cause-small n c))
+      go (no-book n f w) = absurd (omega (arith, numbered f, refused-4-5 ws n w .1))
+      go (no-order b n f i c x) = absurd (omega (arith, numbered f, cause-small os n c))
       go (judged b t i o v) = (record { book = b; tree = t; isBook = i; isOrder = o }, v)
 
   -- What is answered by 20 has an unknown top and no unknown line,
