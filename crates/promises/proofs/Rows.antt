@@ -204,10 +204,11 @@ joined-counts = (refl, refl)
 
 -- ---- what a book lets in
 
--- The book of A and B, k = 2 and k = 6.
+-- The book of A and B, k = 2.
 abbrev bookAB2 : Book
 bookAB2 = bookOf 2 (times 1 A ∷ times 1 B ∷ [])
 
+-- The book of A and B, k = 6.
 abbrev bookAB6 : Book
 bookAB6 = bookOf 6 (times 1 A ∷ times 1 B ∷ [])
 
@@ -238,11 +239,12 @@ its-agreement : Agrees bookA2
 unfolding computes
 its-agreement = sound-agreeing bookA2 (its-book .sound) .0 refl
 
--- The single node 1000 is an order within limits, and does not pass by the first.
+-- The single node 1000 is an order within limits.
 single-order : IsOrder (words single) single
 unfolding computes
 single-order = read-order (words single) single refl
 
+-- It does not pass by the first.
 single-fails : judgeOf (lay 51 bookA2) (words single) .number ≡ 21
 unfolding computes
 single-fails = refl

@@ -35,7 +35,7 @@ TaughtIn b = In (b .T)
 abbrev pub IncludeTaught : Book → ThreeSets → Type 0
 IncludeTaught b s = (u : Tree) → TaughtIn b u → FormOf (b .k) s u
 
--- The trees of a section, one for each entry.
+-- The trees of a section, one for each entry; words of no tree give none.
 unfoldable pub treesOf : List Entry → List Tree
 treesOf [] = []
 treesOf (e ∷ es) = byFound (treeOf (e .key)) (treesOf es) (λ t. t ∷ treesOf es)
