@@ -96,12 +96,12 @@ joining-more = joined-still-passes
 -- ---- two books
 
 -- Of two books that agree with themselves, where every order taught to the second is taught to the first:
-module _ (ws vs : List ℕ) (b c : Book) (first : IsBook ws b) (agrees : Agrees b) (second : IsBook vs c) (agree : Agrees c) (all : (u : Tree) → TaughtIn c u → TaughtIn b u) where
+module _ (ws vs : List ℕ) (b c : Book) (first : IsBook ws b) (first-agrees : Agrees b) (second : IsBook vs c) (second-agrees : Agrees c) (all : (u : Tree) → TaughtIn c u → TaughtIn b u) where
   -- If the second looks as deep as the first, or deeper, whatever passes by the second passes by the first. How often each order was taught plays no part.
   pub fewer-or-deeper : b .k ≤ c .k → (os : List ℕ) (t : Tree) → IsOrder os t → judgeOf vs os .number ≡ done → judgeOf ws os .number ≡ done
   fewer-or-deeper deep os t o e =
-      learns-exactly ws b first agrees os t o .1
-      (fewer-deeper (c .k) (b .k) (TaughtIn c) (TaughtIn b) (first .sound .least) deep all t (learns-exactly vs c second agree os t o .0 e))
+      learns-exactly ws b first first-agrees os t o .1
+      (fewer-deeper (c .k) (b .k) (TaughtIn c) (TaughtIn b) (first .sound .least) deep all t (learns-exactly vs c second second-agrees os t o .0 e))
 
   -- "teaching more never makes a passing order fail": what passes by the second passes by the first, which was taught more, if both are of one k.
   pub more-taught-more-passes : c .k ≡ b .k → (os : List ℕ) (t : Tree) → IsOrder os t → judgeOf vs os .number ≡ done → judgeOf ws os .number ≡ done
