@@ -1,7 +1,7 @@
 -- Rows that are computed beside the twelve cases: books in form and books that miss it by one damage, books that agree with themselves and books
 -- that do not, refusals by 6, 7, 8 and 9, books that are joined, and what a book lets in. Assumes nothing.
 use Prim.Native.Nat.{ℕ, _+_}
-use mathlib.Core.Path.{_≡_, refl}
+use mathlib.Core.Path.{_≡_, refl, ap}
 use mathlib.Core.Bool.{true, false}
 use mathlib.Core.List.{List, [], _∷_}
 use native.Mathlib.Omega.{arith}
@@ -18,11 +18,12 @@ use Rattle.book.proofs.Sound.{form-sound}
 use Rattle.verdicts.specs.Judging.{judgeOf}
 use Rattle.effects.specs.Calls.{hasParts}
 use Rattle.figures.specs.Answers.{answered}
+use Rattle.figures.specs.declared.Answer.{Answer}
 use Rattle.book.specs.Checking.{checkOf}
 use Rattle.book.specs.Opening.{outcome, leave}
 use Rattle.sums.specs.Joining.{joinOf}
 use Rattle.promises.specs.Agreement.{Agrees}
-use Rattle.promises.specs.NoMore.{FormOf, IncludeTaught, setsOf}
+use Rattle.promises.specs.NoMore.{FormOf, TaughtIn, IncludeTaught, setsOf}
 use Rattle.promises.specs.Heard.{A, B, C, single, opens, teaches, withdraws, slice, heard}
 use Rattle.promises.proofs.Computed.{computes}
 use Rattle.promises.proofs.Agreement.{sound-agreeing}
@@ -261,4 +262,29 @@ lets-in-more = (
   own-sets (lay 51 bookA2) bookA2 its-book its-agreement .0,
   refl,
   λ f. omega (arith, single-fails, own-sets (lay 51 bookA2) bookA2 its-book its-agreement .1 (words single) single single-order .1 f),
+)
+
+-- The words of the book of A and B at k = 3 are that book,
+book-of-both : IsBook (lay 109 bookAB) bookAB
+unfolding computes
+book-of-both = record { long = omega arith; short = omega arith; sound = form-sound bookAB refl; laid = refl }
+
+-- and it agrees with itself.
+both-agree : Agrees bookAB
+unfolding computes
+both-agree = sound-agreeing bookAB (book-of-both .sound) .0 refl
+
+-- C is an order within limits.
+third-order : IsOrder (words C) C
+unfolding computes
+third-order = read-order (words C) C refl
+
+-- `no-more` is false of sets at a greater k than the book's: the parts of A and B at k = 3 are three sets whose forms at 3 include all that is taught to the book of A and
+-- B at k = 2; and it passes C, which is none of their forms.
+sets-too-deep : ((u : Tree) → TaughtIn bookAB2 u → FormOf 3 (setsOf bookAB) u) × (judgeOf (lay 87 bookAB2) (words C) ≡ answered 0) × (FormOf 3 (setsOf bookAB) C → ⊥)
+unfolding computes
+sets-too-deep = (
+  own-sets (lay 109 bookAB) bookAB book-of-both both-agree .0,
+  refl,
+  λ f. omega (arith, ap (λ (a : Answer). a .number) (deeper .1), own-sets (lay 109 bookAB) bookAB book-of-both both-agree .1 (words C) C third-order .1 f),
 )
