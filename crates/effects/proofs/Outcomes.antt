@@ -53,7 +53,7 @@ all-zeros n = let o : ℕ = 0 in ap (λ (m : ℕ). replicate m o) (sym (length-r
 
 module _ (n : ℕ) (b : Book) (form : inForm b ≡ true) (fits : used b ≤ n) (short : n ≤ most-book-words) where
   -- The words are the book's.
-  laid-book : IsBook (lay n b) b
+  pub laid-book : IsBook (lay n b) b
   laid-book =
       let e : length (lay n b) ≡ n = lay-long n b fits in
       record { long = omega (arith, used-is b); short = omega arith; sound = form-sound b form; laid = ap (λ (m : ℕ). lay m b) e }

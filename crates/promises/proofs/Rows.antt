@@ -1,28 +1,27 @@
 -- Rows that are computed beside the twelve cases: books in form and books that miss it by one damage, books that agree with themselves and books
 -- that do not, refusals by 6, 7, 8 and 9, books that are joined, and what a book lets in. Assumes nothing.
-use Prim.Native.Nat.{ℕ, _+_}
-use mathlib.Core.Path.{_≡_, refl, ap}
+use Prim.Native.Nat.{ℕ, _+_, _≤_}
+use mathlib.Core.Path.{_≡_, refl}
 use mathlib.Core.Bool.{true, false}
 use mathlib.Core.List.{List, [], _∷_}
 use native.Mathlib.Omega.{arith}
 use lib.ListN.{set}
 use Rattle.section.specs.Entries.{Entry, counted, add}
 use Rattle.trees.specs.Trees.{Tree, node, bare, cons, words}
-use Rattle.trees.specs.Fits.{IsOrder}
+use Rattle.trees.specs.Reading.{order, orderOf}
 use Rattle.trees.proofs.Fitting.{read-order}
-use Rattle.book.specs.Book.{Book, lay, inForm}
+use Rattle.book.specs.Book.{Book, used, lay, inForm}
 use Rattle.book.specs.Decoding.{formed}
 use Rattle.book.specs.Sound.{IsBook}
 use Rattle.book.specs.Taught.{Teaching, bookOf, agreeing}
-use Rattle.book.proofs.Sound.{form-sound}
 use Rattle.verdicts.specs.Judging.{judgeOf}
 use Rattle.effects.specs.Calls.{hasParts}
+use Rattle.effects.proofs.Outcomes.{laid-book}
+use Rattle.figures.specs.Limits.{most-book-words}
 use Rattle.figures.specs.Answers.{answered}
-use Rattle.figures.specs.declared.Answer.{Answer}
 use Rattle.book.specs.Checking.{checkOf}
 use Rattle.book.specs.Opening.{outcome, leave}
 use Rattle.sums.specs.Joining.{joinOf}
-use Rattle.promises.specs.Agreement.{Agrees}
 use Rattle.promises.specs.NoMore.{FormOf, TaughtIn, IncludeTaught, setsOf}
 use Rattle.promises.specs.Heard.{A, B, C, single, opens, teaches, withdraws, slice, heard}
 use Rattle.promises.proofs.Computed.{computes}
@@ -222,6 +221,16 @@ deeper : (judgeOf (lay 87 bookAB2) (words C) ≡ answered 0)
 unfolding computes
 deeper = (refl, refl, refl, refl, refl)
 
+-- Of a book in form that agrees with itself, laid in a slice that it fits: its own sets include all that is taught to it, and an order that is not answered by 0 is none of
+-- their forms.
+own-forms : (n : ℕ) (b : Book) → inForm b ≡ true → agreeing b ≡ true → used b ≤ n → n ≤ most-book-words
+    → (t : Tree) → orderOf (words t) ≡ order t → (m : ℕ) → 1 ≤ m → judgeOf (lay n b) (words t) .number ≡ m
+    → IncludeTaught b (setsOf b) × (FormOf (b .k) (setsOf b) t → ⊥)
+own-forms n b form agreed fits short t limits m some e =
+    let is : IsBook (lay n b) b = laid-book n b form fits short in
+    let o = own-sets (lay n b) b is (sound-agreeing b (is .sound) .0 agreed) in
+    (o .0, λ f. omega (arith, e, o .1 (words t) t (read-order (words t) t limits) .1 f))
+
 -- The book of A, k = 2.
 abbrev bookA2 : Book
 bookA2 = bookOf 2 (times 1 A ∷ [])
@@ -230,61 +239,20 @@ bookA2 = bookOf 2 (times 1 A ∷ [])
 abbrev strangeL : Book
 strangeL = withL bookA2 (add 1 (words single) (bookA2 .L))
 
--- The words of the first, in a slice as long as it needs, are that book,
-its-book : IsBook (lay 51 bookA2) bookA2
-unfolding computes
-its-book = record { long = omega arith; short = omega arith; sound = form-sound bookA2 refl; laid = refl }
-
--- and it agrees with itself.
-its-agreement : Agrees bookA2
-unfolding computes
-its-agreement = sound-agreeing bookA2 (its-book .sound) .0 refl
-
--- The single node 1000 is an order within limits.
-single-order : IsOrder (words single) single
-unfolding computes
-single-order = read-order (words single) single refl
-
--- It does not pass by the first.
-single-fails : judgeOf (lay 51 bookA2) (words single) .number ≡ 21
-unfolding computes
-single-fails = refl
-
--- `no-more` is false of a book that does not agree with itself: the second is in form, and is checked with 9; the parts of A are three sets whose forms include all
+-- `no-more` is false of a book that does not agree with itself: that one is in form, and is checked with 9; the parts of A are three sets whose forms include all
 -- that is taught to it; and it passes 1000, which is none of their forms.
 lets-in-more : IsBook (lay 55 strangeL) strangeL × (checkOf (lay 55 strangeL) ≡ answered 9) × IncludeTaught strangeL (setsOf bookA2)
     × (judgeOf (lay 55 strangeL) (words single) ≡ answered 0)
     × (FormOf (strangeL .k) (setsOf bookA2) single → ⊥)
 unfolding computes
-lets-in-more = (
-  record { long = omega arith; short = omega arith; sound = form-sound strangeL refl; laid = refl },
-  refl,
-  own-sets (lay 51 bookA2) bookA2 its-book its-agreement .0,
-  refl,
-  λ f. omega (arith, single-fails, own-sets (lay 51 bookA2) bookA2 its-book its-agreement .1 (words single) single single-order .1 f),
-)
-
--- The words of the book of A and B at k = 3 are that book,
-book-of-both : IsBook (lay 109 bookAB) bookAB
-unfolding computes
-book-of-both = record { long = omega arith; short = omega arith; sound = form-sound bookAB refl; laid = refl }
-
--- and it agrees with itself.
-both-agree : Agrees bookAB
-unfolding computes
-both-agree = sound-agreeing bookAB (book-of-both .sound) .0 refl
-
--- C is an order within limits.
-third-order : IsOrder (words C) C
-unfolding computes
-third-order = read-order (words C) C refl
+lets-in-more =
+    let o = own-forms 51 bookA2 refl refl (omega arith) (omega arith) single refl 21 (omega arith) refl in
+    (laid-book 55 strangeL refl (omega arith) (omega arith), refl, o .0, refl, o .1)
 
 -- `no-more` is false of sets at a greater k than the book's: the parts of A and B at k = 3 are three sets whose forms at 3 include all that is taught to the book of A and
 -- B at k = 2; and it passes C, which is none of their forms.
 sets-too-deep : ((u : Tree) → TaughtIn bookAB2 u → FormOf 3 (setsOf bookAB) u) × (judgeOf (lay 87 bookAB2) (words C) ≡ answered 0) × (FormOf 3 (setsOf bookAB) C → ⊥)
 unfolding computes
-sets-too-deep = (
-  own-sets (lay 109 bookAB) bookAB book-of-both both-agree .0,
-  refl,
-  λ f. omega (arith, ap (λ (a : Answer). a .number) (deeper .1), own-sets (lay 109 bookAB) bookAB book-of-both both-agree .1 (words C) C third-order .1 f),
-)
+sets-too-deep =
+    let o = own-forms 109 bookAB refl refl (omega arith) (omega arith) C refl 22 (omega arith) refl in
+    (o .0, refl, o .1)
