@@ -89,7 +89,7 @@ struct call {
 
 /* An answer of any function; for subtree, `written` is the part's words, and `number` is 1 where it has none. */
 struct outcome {
-    uint32_t number, line, written, start;
+    uint32_t number, line, written, start, below, there, place_below, place_above;
 };
 
 static const struct style styles[] = {
@@ -974,13 +974,14 @@ static struct outcome perform(const struct implementation *which, unsigned side)
     void *a = place(&call.lent[0], side), *b = place(&call.lent[1], side);
     size_t m = call.lent[0].items, n = call.lent[1].items;
     ofb_answer answer = {0, 0, 0};
+    ofb_judged judged = {0, 0, 0, 0, 0, 0};
     ofb_part part = {0, 0};
     switch (call.function) {
     case OPEN: answer = which->open(a, m, call.k); break;
     case TEACH: answer = which->teach(a, m, b, n); break;
     case WITHDRAW: answer = which->withdraw(a, m, b, n); break;
     case JOIN: answer = which->join(a, m, b, n); break;
-    case JUDGE: answer = which->judge(a, m, b, n); break;
+    case JUDGE: judged = which->judge(a, m, b, n); break;
     case CHECK: answer = which->check(a, m); break;
     case WRITE_FILE: answer = which->write_file(a, m, b, n); break;
     case READ_FILE: answer = which->read_file(a, m, b, n); break;
@@ -989,8 +990,11 @@ static struct outcome perform(const struct implementation *which, unsigned side)
     default: part = which->subtree(a, m, call.line); break;
     }
     if (call.function == SUBTREE)
-        return (struct outcome){part.words == 0, 0, part.words, part.start};
-    return (struct outcome){answer.number, answer.line, answer.written, 0};
+        return (struct outcome){.number = part.words == 0, .written = part.words, .start = part.start};
+    if (call.function == JUDGE)
+        return (struct outcome){.number = judged.number, .line = judged.line, .below = judged.below, .there = judged.there,
+            .place_below = judged.place_below, .place_above = judged.place_above};
+    return (struct outcome){.number = answer.number, .line = answer.line, .written = answer.written};
 }
 
 /* Counts a difference, and tells it with all that is needed to see it again. */
@@ -1007,15 +1011,16 @@ static void tell(const char *what, const struct outcome *outcome)
         printf(", line %zu", call.line);
     printf("\n");
     for (unsigned side = 0; side < 2; side++)
-        printf("    %-8s number %u, line %u, written %u, start %u\n", side ? plain.name : library.name, outcome[side].number,
-            outcome[side].line, outcome[side].written, outcome[side].start);
+        printf("    %-8s number %u, line %u, written %u, start %u, below %u, there %u, places %u and %u\n", side ? plain.name : library.name,
+            outcome[side].number, outcome[side].line, outcome[side].written, outcome[side].start, outcome[side].below, outcome[side].there,
+            outcome[side].place_below, outcome[side].place_above);
     fflush(stdout);
 }
 
 /* Ends the program where a call was ended by a signal. */
 static void on_signal(int number)
 {
-    const struct outcome none[2] = {{0, 0, 0, 0}, {0, 0, 0, 0}};
+    const struct outcome none[2] = {{0}, {0}};
     unsigned long before = differences;
     differences = 0;
     tell("ended by a signal, with no answers", none);
@@ -1054,6 +1059,8 @@ static const char *look_at_answer(const struct outcome *outcome, unsigned side)
         return side ? "C answers a number that the function does not have" : "the library answers a number that the function does not have";
     if (outcome->number && outcome->written)
         return side ? "C refuses and says that it wrote" : "the library refuses and says that it wrote";
+    if (outcome->there || (outcome->number < VERDICTS && (outcome->below || outcome->place_below || outcome->place_above)))
+        return side ? "C tells neighbours where it may not" : "the library tells neighbours where it may not";
     return NULL;
 }
 

@@ -28,7 +28,7 @@ struct implementation {
     ofb_answer (*teach)(uint16_t *book, size_t words, const uint16_t *order, size_t order_words);
     ofb_answer (*withdraw)(uint16_t *book, size_t words, const uint16_t *order, size_t order_words);
     ofb_answer (*join)(uint16_t *book, size_t words, const uint16_t *other, size_t other_words);
-    ofb_answer (*judge)(const uint16_t *book, size_t words, const uint16_t *order, size_t order_words);
+    ofb_judged (*judge)(const uint16_t *book, size_t words, const uint16_t *order, size_t order_words);
     ofb_answer (*check)(const uint16_t *book, size_t words);
     ofb_answer (*write_file)(const uint16_t *book, size_t words, uint8_t *out, size_t bytes);
     ofb_answer (*read_file)(const uint8_t *file, size_t bytes, uint16_t *book, size_t words);

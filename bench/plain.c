@@ -620,34 +620,69 @@ static bool any_marked(const bool *marks, unsigned from, unsigned to)
     return false;
 }
 
+/* A judgement that tells a number alone. */
+static ofb_judged judged(unsigned number)
+{
+    ofb_judged j = { (uint16_t)number, 0, 0, 0, 0, 0 };
+    return j;
+}
+
+/* The place of the first word in which two trees differ that are not the same, counted from 1. */
+static uint16_t first_difference(const uint16_t *a, const uint16_t *b)
+{
+    unsigned i = 0;
+    while (a[i] == b[i])
+        i++;
+    return (uint16_t)(i + 1);
+}
+
+/* A judgement on an unknown part at a line: where the part would stand in its section, and how it differs from the entries that it would stand between. */
+static ofb_judged doubted(const uint16_t *book, const shape *s, unsigned number, unsigned line, const part *p)
+{
+    ofb_judged j = { (uint16_t)number, (uint16_t)line, 0, 0, 0, 0 };
+    unsigned at = s->start[p->section], stop = s->start[p->section + 1], before = 0;
+    while (at < stop && compare(book + at + 2, book[at], p->words, p->nodes) < 0) {
+        before = at;
+        at += 2 + 2u * book[at];
+        j.below++;
+    }
+    if (before != 0)
+        j.place_below = first_difference(book + before + 2, p->words);
+    if (at < stop)
+        j.place_above = first_difference(book + at + 2, p->words);
+    return j;
+}
+
 /*
  * Judges an order by the book: the lines whose part is unknown are marked, and the least marked one is told that has no marked line strictly below it. Where
  * none is marked the top decides.
  */
-ofb_answer plain_judge(const uint16_t *book, size_t words, const uint16_t *order, size_t order_words)
+ofb_judged plain_judge(const uint16_t *book, size_t words, const uint16_t *order, size_t order_words)
 {
     shape s;
     tree t;
     uint16_t room[MOST_ORDER];
     bool unknown[MOST_NODES], known;
     if (!size_allowed(words))
-        return answer(OFB_BOOK_SIZE, 0, 0);
+        return judged(OFB_BOOK_SIZE);
     if (!in_form(book, words, &s))
-        return answer(OFB_NOT_IN_FORM, 0, 0);
+        return judged(OFB_NOT_IN_FORM);
     unsigned number = read_order(order, order_words, &t);
     if (number != OFB_DONE)
-        return answer(number, 0, 0);
+        return judged(number);
     for (unsigned node = 0; node < t.nodes; node++) {
         part p = part_of(&t, node, s.k, room);
         seek(book, s.start[p.section], s.start[p.section + 1], p.words, p.nodes, &known);
         unknown[node] = !known;
     }
     for (unsigned node = 0; node < t.nodes; node++)
-        if (unknown[node] && !any_marked(unknown, node + 1, t.end[node]))
-            return answer(t.height[node] <= s.k - 2 ? OFB_LOW_UNKNOWN : OFB_MIDDLE_UNKNOWN, node + 1, 0);
-    unsigned nodes = cut(&t, 0, s.k - 2, room);
-    seek(book, s.start[R], s.start[R + 1], room, nodes, &known);
-    return known ? answer(OFB_DONE, 0, 0) : answer(OFB_TOP_UNKNOWN, 1, 0);
+        if (unknown[node] && !any_marked(unknown, node + 1, t.end[node])) {
+            part p = part_of(&t, node, s.k, room);
+            return doubted(book, &s, p.section == L ? OFB_LOW_UNKNOWN : OFB_MIDDLE_UNKNOWN, node + 1, &p);
+        }
+    part top = { room, (uint16_t)cut(&t, 0, s.k - 2, room), 0, R, false };
+    seek(book, s.start[R], s.start[R + 1], top.words, top.nodes, &known);
+    return known ? judged(OFB_DONE) : doubted(book, &s, OFB_TOP_UNKNOWN, 1, &top);
 }
 
 /* Whether the book agrees with itself. */

@@ -11,7 +11,7 @@ ofb_answer plain_open(uint16_t *book, size_t words, uint16_t k);
 ofb_answer plain_teach(uint16_t *book, size_t words, const uint16_t *order, size_t order_words);
 ofb_answer plain_withdraw(uint16_t *book, size_t words, const uint16_t *order, size_t order_words);
 ofb_answer plain_join(uint16_t *book, size_t words, const uint16_t *other, size_t other_words);
-ofb_answer plain_judge(const uint16_t *book, size_t words, const uint16_t *order, size_t order_words);
+ofb_judged plain_judge(const uint16_t *book, size_t words, const uint16_t *order, size_t order_words);
 ofb_answer plain_check(const uint16_t *book, size_t words);
 ofb_answer plain_write_file(const uint16_t *book, size_t words, uint8_t *out, size_t bytes);
 ofb_answer plain_read_file(const uint8_t *file, size_t bytes, uint16_t *book, size_t words);

@@ -6,7 +6,9 @@
  *
  * An order is a tree of options in preorder, two words for each: its code, 1 to 9999, and how many children it has, 0 to 8. It has at most 64 options, and
  * is at most 12 deep. A book is a slice of 7 to 16,384 words; ofb_open makes an empty one. Word 0 of a book is how deep it looks, k, word 1 how many of
- * its words it uses, word 2 how many teachings it holds.
+ * its words it uses, word 2 how many teachings it holds. Words 3 to 6 are how many entries each of its sections has: the orders, their tops, their low parts
+ * and their middle parts, which are told of below. The entries follow from word 7 on, section after section, each as its number of options, its count, and the
+ * two words for each of its options.
  *
  * The top of an order is the order cut at depth k-2. Each of its lines stands for a part: its subtree, where that is at most k-2 deep, which is a low part;
  * and otherwise its subtree cut at depth k-1, which is a middle part. A book that was opened, taught and withdrawn from has just those of its orders.
@@ -52,6 +54,19 @@ enum {
 /* An answer: its number; the line it speaks of, counted from 1, or 0; and how many words or bytes were written to an output that is not a book. */
 typedef struct { uint16_t number; uint16_t line; uint32_t written; } ofb_answer;
 
+/*
+ * A judgement: its number, and the line it speaks of, as in an answer. The other four tell, with 20, 21 and 22, what the book would have expected there: where
+ * that which is unknown would stand among those that the book knows. With 20 this is the order's top among the tops, with 21 the line's part among the low
+ * parts, with 22 the line's part among the middle parts; these stand in the book in ascending order, compared word by word from the first. With any other
+ * number the four are 0.
+ *   below         how many of them are lower; the book holds those first, and the others behind them
+ *   there         1 if it is one of them, and 0 if not; with 20, 21 and 22 it is not
+ *   place_below   of the last one that is lower, the place of the first word in which it and the unknown one differ; 0 if none is lower
+ *   place_above   the same of the first one that is higher; 0 if none is
+ * Places are counted from 1 over the two words for each option: word 2n-1 is the code of option n, and word 2n how many children that has.
+ */
+typedef struct { uint16_t number; uint16_t line; uint16_t below; uint16_t there; uint16_t place_below; uint16_t place_above; } ofb_judged;
+
 /* A part of an order: the word at which it starts, counted from 0, and how many words it has. */
 typedef struct { uint32_t start; uint32_t words; } ofb_part;
 
@@ -75,9 +90,10 @@ ofb_answer ofb_join(uint16_t *book, size_t words, const uint16_t *other, size_t 
  * Judges an order: 0 if its top, its low parts and its middle parts are all in the book. Where the part of some line is not, the line is the first one whose
  * part is not while those of all lines below it are, the line to correct, with 21 for a low part and 22 for a middle part; below a line stand those that
  * follow it with higher levels, up to the next line of its level or above. 20 with line 1 only where the part of every line is in the book and the top is
- * not. Refused before that by 4, 5, 1, 2, looked for in this order.
+ * not. With these three it also tells what the book would have expected there. Refused before that by 4, 5, 1, 2, looked for in this order. It writes nothing, and
+ * its answer has no `written`.
  */
-ofb_answer ofb_judge(const uint16_t *book, size_t words, const uint16_t *order, size_t order_words);
+ofb_judged ofb_judge(const uint16_t *book, size_t words, const uint16_t *order, size_t order_words);
 
 /* Whether the book agrees with itself: its parts and counts are those of the orders that it holds. 0, or 4, 5, 9, looked for in this order. */
 ofb_answer ofb_check(const uint16_t *book, size_t words);

@@ -26,7 +26,10 @@ fn ask(letter: Letter, book: &mut [u16], order: &[u16]) -> Answer
     match letter {
         Letter::Teach => teach::teach(book, order),
         Letter::Withdraw => teach::withdraw(book, order),
-        Letter::Judge => judge::judge(book, order),
+        Letter::Judge => {
+            let judged = judge::judge(book, order);
+            judged.answer
+        }
     }
 }
 

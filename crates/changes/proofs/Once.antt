@@ -14,7 +14,8 @@ use Rattle.section.specs.Entries.{Entry, counted, entryWords, sectionWords, wid
 use Rattle.changes.specs.Editing.{addOnce, Laid, Edited}
 use Rattle.section.specs.declared.Found.the-variants.{At, Absent}
 use Rattle.section.proofs.Counts.{has-add}
-use Rattle.section.proofs.Searches.{look-has, look-lacks, look-gap}
+use Rattle.section.proofs.Searches.{look-gap}
+use Rattle.section.proofs.Near.{there-told}
 use Rattle.section.proofs.Sorting.{sorted-add}
 use Rattle.changes.proofs.Adding.{add-below}
 use Rattle.changes.proofs.Relaying.{Reached, behind, first-words, reached-few, reached-none, reached-over, reached-enter, reached-edited}
@@ -73,30 +74,30 @@ module _ (ws : List ℕ) (n used : ℕ) (laid : Laid ws n used) where
       → Reached front back (behind n used ws) ws at (length back) used n
   reached-between front back at is place = rw place (reached-over [] front back (behind n used ws) ws 0 n used n (rw is at (reached-none ws n used laid)))
 
-  module _ (key : List ℕ) (at : ℕ) (gap : look key 0 (entries n ws) ≡ Absent at) where
+  module _ (key : List ℕ) (at m l h : ℕ) (gap : look key 0 0 0 (entries n ws) ≡ Absent at m l h) where
     -- The place of a key not found.
-    reached-gap : let g = look-gap key 0 at (entries n ws) gap in Reached (g .front) (g .back) (behind n used ws) ws at (length (g .back)) used n
-    reached-gap = let g = look-gap key 0 at (entries n ws) gap in reached-between (g .front) (g .back) at (g .is) (g .place)
+    reached-gap : let g = look-gap key 0 0 0 at m l h (entries n ws) gap in Reached (g .front) (g .back) (behind n used ws) ws at (length (g .back)) used n
+    reached-gap = let g = look-gap key 0 0 0 at m l h (entries n ws) gap in reached-between (g .front) (g .back) at (g .is) (g .place)
 
     -- It lies within the words that are used.
     pub gap-within : at ≤ used
     gap-within = omega (arith, reached-gap .uses)
 
-  module _ (e : Entry) where
+  module _ (e : Entry) (s : Sorted (entries n ws)) where
     -- Where the key is found nothing changes.
-    pub once-found : (at : ℕ) → look (e .key) 0 (entries n ws) ≡ At at → Edited ws n used (addOnce e (entries n ws)) ws (record { used = used; many = n })
-    once-found at found =
-        reached-edited ws n used laid [] (entries n ws) _ ws 0 n used n (reached-none ws n used laid) (once-has e (entries n ws) (look-has (e .key) 0 at (entries n ws) found)) refl
+    pub once-found : (at m : ℕ) → look (e .key) 0 0 0 (entries n ws) ≡ At at m → Edited ws n used (addOnce e (entries n ws)) ws (record { used = used; many = n })
+    once-found at m found =
+        reached-edited ws n used laid [] (entries n ws) _ ws 0 n used n (reached-none ws n used laid) (once-has e (entries n ws) (there-told (e .key) 0 (entries n ws) s (At at m) found)) refl
 
     -- Where it is not found its words are entered at the place.
-    pub once-entered : (at : ℕ) (entry book : List ℕ) → look (e .key) 0 (entries n ws) ≡ Absent at → Sorted (entries n ws) → entry ≡ entryWords e → used + length entry ≤ length ws
+    pub once-entered : (at m l h : ℕ) (entry book : List ℕ) → look (e .key) 0 0 0 (entries n ws) ≡ Absent at m l h → entry ≡ entryWords e → used + length entry ≤ length ws
         → book ≡ take at ws ++ (entry ++ (take (used - at) (drop at ws) ++ drop (used - at + length entry) (drop at ws))) → length book ≡ length ws
         → Edited ws n used (addOnce e (entries n ws)) book (record { used = used + length entry; many = n + 1 })
-    once-entered at entry book gap s is fits now long =
-        let g = look-gap (e .key) 0 at (entries n ws) gap in
-        let r = reached-gap (e .key) at gap in
+    once-entered at m l h entry book gap is fits now long =
+        let g = look-gap (e .key) 0 0 0 at m l h (entries n ws) gap in
+        let r = reached-gap (e .key) at m l h gap in
         let all : addOnce e (entries n ws) ≡ (g .front ++ (e ∷ [])) ++ g .back =
-        once-lacks e (entries n ws) (look-lacks (e .key) 0 at (entries n ws) s gap) ∙ ap (add (e .count) (e .key)) (g .is)
+        once-lacks e (entries n ws) (there-told (e .key) 0 (entries n ws) s (Absent at m l h) gap) ∙ ap (add (e .count) (e .key)) (g .is)
         ∙ add-gap (e .count) (e .key) (g .front) (g .back) (g .below) (g .above) ∙ sym (append-assoc (g .front) (e ∷ []) (g .back)) in
         reached-edited ws n used laid (g .front ++ (e ∷ [])) (g .back) _ book _ _ _ _
         (reached-enter (g .front) (g .back) (behind n used ws) ws at (length (g .back)) used n r e entry book (length entry) is refl fits now)

@@ -11,9 +11,8 @@ ghost use Rattle.figures.specs.Limits.{greatest-count};
 ghost use Rattle.section.specs.Entries.{sectionWords, width, firstEntry, entries, span, Sorted};
 ghost use Rattle.changes.specs.Editing.{addAll, lowerAll, addOnce, fitting, lackingWords, weighed, firstAgainst, Laid, Edited, brought, entered, lessenedWords, lessenedBy};
 use figures::limits;
-use section::Found;
-use section::find;
 use section::past;
+use section::search;
 use words::Compared;
 
 // How many words of a part are used, and how many entries stand at its front.
@@ -46,7 +45,7 @@ fn first_against(book: &[u16], at: usize, left: usize, key: &[u16]) -> Compared
     }
     let start = at + 2;
     let end = past(book, at);
-    words::compare(&book[start..end], key)
+    words::standing(&book[start..end], key)
 }
 
 // What the first `more` entries of `other` would do to the first `many` of `book`, in one pass over both.
@@ -113,17 +112,17 @@ pub fn enter_once(part: &mut [u16], many: usize, used: usize, entry: &[u16]) -> 
     ensures { λ r. ⌜ Edited (now (part .entry)) many used (addOnce (firstEntry (now (entry .entry))) (entries many (now (part .entry)))) (now (part .exit)) r ⌝ }
 {
     let end = entry.len();
-    match find(part, 0, many, &entry[2..end]) {
-        Found::At(_) => Size { used, many },
-        Found::Absent(at) => {
-            enter(&mut part[at..], used - at, entry);
-            let grown = used + end;
-            let more = many + 1;
-            Size {
-                used: grown,
-                many: more,
-            }
-        }
+    let stop = search(part, 0, many, &entry[2..end]);
+    if stop.there {
+        return Size { used, many };
+    }
+    let at = stop.at;
+    enter(&mut part[at..], used - at, entry);
+    let grown = used + end;
+    let more = many + 1;
+    Size {
+        used: grown,
+        many: more,
     }
 }
 

@@ -1,44 +1,49 @@
 // Judging: whether an order's top and parts are all in the book, and otherwise the line to fix: the first one whose part is not, while all that stands strictly
-// below it is. Nothing lent is changed. Assumes nothing beyond each inner function's `requires`.
+// below it is; and where that part would stand in the book. Nothing lent is changed. Assumes nothing beyond each inner function's `requires`.
 ghost use mathlib.Core.Path.{_≡_};
-ghost use Prim.Native.Nat.{_*_, _/_, _≤_, _<_};
-ghost use lib.ListN.{length};
+ghost use Prim.Native.Nat.{_+_, _*_, _/_, _≤_, _<_};
+ghost use lib.ListN.{length, getD};
 ghost use Rattle.words.specs.Compare.{compareOf};
 ghost use Rattle.figures.specs.Limits.{most-nodes, most-words};
 ghost use Rattle.figures.specs.Numbers.{done};
+ghost use Rattle.section.specs.Near.{placeAt, Stopped};
 ghost use Rattle.trees.specs.Reading.{causeOf};
 ghost use Rattle.trees.specs.Levels.{LinesLevelled};
 ghost use Rattle.book.specs.Decoding.{bookIn};
 ghost use Rattle.book.specs.Holding.{Holds};
-ghost use Rattle.verdicts.specs.Judging.{judgeOf};
-ghost use Rattle.verdicts.specs.Seeking.{topKnown, unknownWithin, lineToFix, speltIn, keyOf, Seeks, lineAnswer};
+ghost use Rattle.verdicts.specs.Expecting.{judgementOf};
+ghost use Rattle.verdicts.specs.Seeking.{topNear, unknownWithin, lineToFix, speltIn, keyOf, Seeks, JudgedAt, plainlyOf, unknownOf};
 use book::BookForm;
 use book::Places;
 use figures::Answer;
-use figures::Depth;
-use figures::answered;
 use figures::limits;
 use figures::numbers;
-use section::Found;
+use section::Neighbours;
+use section::around;
+use section::find;
+use section::place_at;
 use trees::PartAt;
+use verdicts::Judgement;
 use verdicts::Sought;
 use words::Compared;
 
-// Whether the order's top is in the book.
-fn top_known(book: &[u16], places: Places, order: &[u16], levels: &[u8; limits::MOST_NODES]) -> bool
+// The neighbours of the order's top in the book.
+fn top_near(
+    book: &[u16],
+    places: Places,
+    order: &[u16],
+    levels: &[u8; limits::MOST_NODES],
+) -> Neighbours
     requires { ⌜ Holds (now book) places ⌝ }
     requires { ⌜ causeOf (now order) ≡ done ⌝ }
     requires { ⌜ LinesLevelled (now order) (now levels) × (length (now levels) ≡ most-nodes) ⌝ }
-    ensures { λ r. ⌜ r ≡ topKnown (bookIn (now (book .entry))) (now (order .entry)) ⌝ }
+    ensures { λ r. ⌜ r ≡ topNear (bookIn (now (book .entry))) (now (order .entry)) ⌝ }
 {
     let mut cut = [0u16; limits::MOST_WORDS];
     let laid = cuts::put_line(order, levels, 0, places.k.of_tops(), &mut cut);
     let count = laid.count;
     let many = book[limits::TOPS_WORD] as usize;
-    match section::find(book, places.tops, many, &cut[0..count]) {
-        Found::At(_) => true,
-        Found::Absent(_) => false,
-    }
+    around(find(book, places.tops, many, &cut[0..count]))
 }
 
 // The part that a line stands for, the lines counted from 0; the words of a middle part are written to `cut`.
@@ -99,13 +104,81 @@ fn against(tree: &[u16], part: Sought, order: &[u16], cut: &[u16]) -> Compared
     let from = part.from;
     let to = part.to;
     if part.low {
-        return words::compare(tree, &order[from..to]);
+        return words::standing(tree, &order[from..to]);
     }
-    words::compare(tree, &cut[from..to])
+    words::standing(tree, &cut[from..to])
 }
 
-// The first line whose part is unknown, of the lines from `from` up to `to`, both counted from 0. It is counted from 1, and is 0 where every part is
-// known.
+// The place of the first word, counted from 1, in which the entry at word `at`, the first of some, differs from the part that is sought; 0 where there is none.
+fn part_place(
+    book: &[u16],
+    at: usize,
+    some: usize,
+    part: Sought,
+    order: &[u16],
+    cut: &[u16],
+) -> usize
+    requires { ⌜ (part .from ≤ part .to) × (part .to ≤ length (speltIn (part .low) (now order) (now cut))) ⌝ }
+    requires { ⌜ (0 < some → at + 2 + 2 * getD (now book) at 0 ≤ length (now book)) ⌝ }
+    ensures { λ r. ⌜ r ≡ placeAt (keyOf part (now (order .entry)) (now (cut .entry))) (now (book .entry)) at some ⌝ }
+{
+    let from = part.from;
+    let to = part.to;
+    if part.low {
+        return place_at(book, at, some, &order[from..to]);
+    }
+    place_at(book, at, some, &cut[from..to])
+}
+
+// The judgement at a line whose part is not in its section, where a search has stopped: `last` is the last entry that it has passed, and `left` entries are
+// left from word `at` on.
+fn unknown(
+    book: &[u16],
+    part: Sought,
+    order: &[u16],
+    cut: &[u16],
+    line: usize,
+    last: usize,
+    at: usize,
+    left: usize,
+) -> Judgement
+    requires { ⌜ (part .from ≤ part .to) × (part .to ≤ length (speltIn (part .low) (now order) (now cut))) ⌝ }
+    requires { ⌜ Stopped (now book) (part .many) last at left ⌝ }
+    ensures { λ r. ⌜ r ≡ unknownOf part (keyOf part (now (order .entry)) (now (cut .entry))) (now (book .entry)) line last at left ⌝ }
+{
+    let below = part.many - left;
+    let low = part_place(book, last, below, part, order, cut);
+    let high = part_place(book, at, left, part, order, cut);
+    let near = Neighbours {
+        below,
+        there: false,
+        low,
+        high,
+    };
+    let number = if part.low {
+        numbers::LOW_UNKNOWN
+    } else {
+        numbers::MIDDLE_UNKNOWN
+    };
+    let answer = Answer { number, line };
+    Judgement { answer, near }
+}
+
+// A number with no line and no neighbours.
+fn plainly(number: u16) -> Judgement
+    ensures { λ r. ⌜ r ≡ plainlyOf number ⌝ }
+{
+    let answer = Answer { number, line: 0 };
+    let near = Neighbours {
+        below: 0,
+        there: false,
+        low: 0,
+        high: 0,
+    };
+    Judgement { answer, near }
+}
+
+// The judgement at the first line whose part is unknown, of the lines from `from` up to `to`, both counted from 0. Where every part is known it is 0 alone.
 fn first_unknown(
     book: &[u16],
     places: Places,
@@ -113,21 +186,22 @@ fn first_unknown(
     levels: &[u8; limits::MOST_NODES],
     from: usize,
     to: usize,
-) -> usize
+) -> Judgement
     requires { ⌜ Holds (now book) places ⌝ }
     requires { ⌜ causeOf (now order) ≡ done ⌝ }
     requires { ⌜ (from ≤ to) × (to ≤ length (now order) / 2) ⌝ }
     requires { ⌜ LinesLevelled (now order) (now levels) × (length (now levels) ≡ most-nodes) ⌝ }
-    ensures { λ r. ⌜ r ≡ unknownWithin (bookIn (now (book .entry))) (now (order .entry)) from to ⌝ }
+    ensures { λ r. ⌜ JudgedAt (bookIn (now (book .entry))) (now (order .entry)) (unknownWithin (bookIn (now (book .entry))) (now (order .entry)) from to) r ⌝ }
 {
     let mut cut = [0u16; limits::MOST_WORDS];
     let mut line = from;
     'lines: loop {
         if to <= line {
-            break 'lines 0;
+            break 'lines plainly(numbers::DONE);
         }
         let part = seek(book, places, order, levels, line, &mut cut);
         line += 1;
+        let mut last = part.at;
         let mut at = part.at;
         let mut left = part.many;
         while 0 < left {
@@ -135,89 +209,80 @@ fn first_unknown(
             let end = section::past(book, at);
             match against(&book[start..end], part, order, &cut) {
                 Compared::Lower => {
+                    last = at;
                     at = end;
                     left -= 1;
                 }
                 Compared::Equal => continue 'lines,
-                Compared::Higher => break 'lines line,
+                Compared::Higher => {
+                    break 'lines unknown(book, part, order, &cut, line, last, at, left);
+                }
             }
         }
-        break 'lines line;
+        break 'lines unknown(book, part, order, &cut, line, last, at, left);
     }
 }
 
-// The line to fix, counted from 1; 0 where every part is known. It is the first unknown line if all strictly below it are known, and otherwise the one to fix
-// among those: each line is looked up at most once.
+// The judgement at the line to fix; 0 alone where every part is known. It is the first unknown line if all strictly below it are known, and otherwise the one
+// to fix among those: each line is looked up at most once.
 fn line_to_fix(
     book: &[u16],
     places: Places,
     order: &[u16],
     levels: &[u8; limits::MOST_NODES],
-) -> usize
+) -> Judgement
     requires { ⌜ Holds (now book) places ⌝ }
     requires { ⌜ causeOf (now order) ≡ done ⌝ }
     requires { ⌜ LinesLevelled (now order) (now levels) × (length (now levels) ≡ most-nodes) ⌝ }
-    ensures { λ r. ⌜ r ≡ lineToFix (bookIn (now (book .entry))) (now (order .entry)) ⌝ }
+    ensures { λ r. ⌜ JudgedAt (bookIn (now (book .entry))) (now (order .entry)) (lineToFix (bookIn (now (book .entry))) (now (order .entry))) r ⌝ }
 {
-    let mut found: usize = 0;
+    let mut found = plainly(numbers::DONE);
     let mut from: usize = 0;
     let mut to = order.len() / 2;
     loop {
-        let line = first_unknown(book, places, order, levels, from, to);
+        let judged = first_unknown(book, places, order, levels, from, to);
+        let line = judged.answer.line;
         if line == 0 {
             return found;
         }
-        found = line;
+        found = judged;
         from = line;
         to = cuts::line_end(order, levels, line - 1) / 2;
     }
 }
 
-// The answer for the line to fix, counted from 1: 21 or 22 by the depth of its uncut subtree.
-fn line_answer(order: &[u16], levels: &[u8; limits::MOST_NODES], k: Depth, line: usize) -> Answer
-    requires { ⌜ causeOf (now order) ≡ done ⌝ }
-    requires { ⌜ (0 < line) × (line ≤ length (now order) / 2) ⌝ }
-    requires { ⌜ LinesLevelled (now order) (now levels) × (length (now levels) ≡ most-nodes) ⌝ }
-    ensures { λ r. ⌜ r ≡ lineAnswer (k .k) (now (order .entry)) line ⌝ }
-{
-    let number = match parts::part_line(order, levels, line - 1, k) {
-        // Not met by a line of an order, which has a part.
-        PartAt::NoPart => numbers::LOW_UNKNOWN,
-        PartAt::LowTo { end: _ } => numbers::LOW_UNKNOWN,
-        PartAt::MiddleTo { end: _, count: _ } => numbers::MIDDLE_UNKNOWN,
-    };
-    Answer { number, line }
-}
-
 // Judges an order by a book in form.
-fn judge_order(book: &[u16], places: Places, order: &[u16]) -> Answer
+fn judge_order(book: &[u16], places: Places, order: &[u16]) -> Judgement
     requires { ⌜ Holds (now book) places ⌝ }
-    ensures { λ r. ⌜ r ≡ judgeOf (now (book .entry)) (now (order .entry)) ⌝ }
+    ensures { λ r. ⌜ r ≡ judgementOf (now (book .entry)) (now (order .entry)) ⌝ }
 {
     let mut levels = [0u8; limits::MOST_NODES];
     let cause = order::cause_into(order, &mut levels);
     if cause != numbers::DONE {
-        return answered(cause);
+        return plainly(cause);
     }
-    let line = line_to_fix(book, places, order, &levels);
-    if line != 0 {
-        return line_answer(order, &levels, places.k, line);
+    let judged = line_to_fix(book, places, order, &levels);
+    if judged.answer.line != 0 {
+        return judged;
     }
-    if !top_known(book, places, order, &levels) {
-        return Answer {
-            number: numbers::TOP_UNKNOWN,
-            line: 1,
-        };
+    let near = top_near(book, places, order, &levels);
+    if near.there {
+        return plainly(numbers::DONE);
     }
-    answered(numbers::DONE)
+    let answer = Answer {
+        number: numbers::TOP_UNKNOWN,
+        line: 1,
+    };
+    Judgement { answer, near }
 }
 
-// Judges an order: 4, 5, 1, 2, or 0 if its top, its low parts and its middle parts are all in the book, and otherwise 20, 21 or 22 with a line.
-pub fn judge(book: &[u16], order: &[u16]) -> Answer
-    ensures { λ r. ⌜ r ≡ judgeOf (now (book .entry)) (now (order .entry)) ⌝ }
+// Judges an order: 4, 5, 1, 2, or 0 if its top, its low parts and its middle parts are all in the book, and otherwise 20, 21 or 22 with a line and the
+// neighbours in the book of what is unknown there.
+pub fn judge(book: &[u16], order: &[u16]) -> Judgement
+    ensures { λ r. ⌜ r ≡ judgementOf (now (book .entry)) (now (order .entry)) ⌝ }
 {
     match look::in_form(book) {
-        BookForm::Refused(number) => answered(number),
+        BookForm::Refused(number) => plainly(number),
         BookForm::InForm(places) => judge_order(book, places, order),
     }
 }

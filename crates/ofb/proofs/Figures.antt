@@ -1,21 +1,23 @@
--- The figures of an answer are small: its line is 0, or at most 64 for a verdict and 65 for a text, and what it counts is at most 128 words, 512
--- bytes of a form or the 32,773 bytes of the longest file. Assumes nothing.
-use Prim.Native.Nat.{ℕ, suc, _+_, _*_, _≤_}
+-- The figures of an answer are small: its line is 0, or at most 64 for a verdict and 65 for a text, what it counts is at most 128 words, 512
+-- bytes of a form or the 32,773 bytes of the longest file, and the neighbours of a part are at most as many as a book has words. Assumes nothing.
+use Prim.Native.Nat.{ℕ, suc, _+_, _*_, _^_, _≤_}
 use mathlib.Core.Path.{_≡_, refl, sym, ap, subst}
 use mathlib.Core.Bool.{Bool, true, false}
 use mathlib.Core.List.{List, [], _∷_}
 use mathlib.Core.Option.{Option, none, some}
 use native.Mathlib.Omega.{arith}
 use lib.Dec.{leb}
-use lib.ListN.{length, drop, length-reverse}
+use lib.ListN.{length, drop, length-append, length-reverse}
 use Rattle.words.specs.Base.{if_then_else_, within}
-use Rattle.figures.specs.Limits.{most-nodes, most-words, least-k, greatest-k, most-book-words}
+use Rattle.figures.specs.Limits.{most-nodes, most-words, head-words, least-k, greatest-k, most-book-words}
 use Rattle.figures.specs.Answers.{answered}
 use Rattle.figures.specs.declared.Answer.{Answer}
-use Rattle.section.specs.Entries.{has}
+use Rattle.section.specs.Entries.{sectionWords, has}
+use Rattle.section.specs.Near.{nowhere, Small}
+use Rattle.section.proofs.Near.{nowhere-small, near-small}
 use Rattle.trees.specs.Trees.{Tree, words, subtrees}
 use Rattle.trees.specs.Reading.{byOrder, orderOf}
-use Rattle.trees.specs.Parts.{top}
+use Rattle.trees.specs.Parts.{top, isLow}
 use Rattle.trees.specs.Answers.{Writing, refuse, write}
 use Rattle.trees.proofs.Causes.{Passed, Seen, stopped, passed, seen}
 use Rattle.form.specs.Text.{Line, linesOf, textOf}
@@ -28,7 +30,7 @@ use Rattle.form.proofs.LineBytes.{spell-most}
 use Rattle.form.proofs.TreeLines.{lines-count}
 use Rattle.form.proofs.Trips.{form-write, fault-write}
 use Rattle.form.proofs.Unique.{form-text}
-use Rattle.book.specs.Book.{Book}
+use Rattle.book.specs.Book.{Book, body, used}
 use Rattle.book.specs.Decoding.{byBook, sized, onBook, bookFormOf}
 use Rattle.book.specs.Sound.{IsBook, WhyForm, shorter, longer, formless, book}
 use Rattle.book.specs.Taught.{agreeing}
@@ -38,6 +40,7 @@ use Rattle.book.proofs.Meaning.{used-fits}
 use Rattle.book.proofs.Holding.{refused-book}
 use Rattle.book.proofs.Sound.{on-any, why-is}
 use Rattle.verdicts.specs.Judging.{Doubt, no-doubt, doubt, leastToFix, verdictOn, verdict, judgeOf}
+use Rattle.verdicts.specs.Expecting.{nearPart, nearTop, expectedOn, expected, expectedOf}
 use Rattle.verdicts.specs.Seeking.{doubtLine}
 use Rattle.verdicts.proofs.Fixes.{doubt-within}
 use Rattle.book.specs.Checking.{checkOf}
@@ -129,6 +132,41 @@ judge-line-most ws os =
     -- The line of an answer is 64 at most.
     most : Answer → Type 0
     most a = a .line ≤ most-nodes
+
+-- ---- what the book expected
+
+-- The words of a section are fewer than those of its book, by the seven of the head.
+tops-few : (b : Book) → length (sectionWords (b .R)) + head-words ≤ used b
+unfolding used body
+tops-few b = simp length-append (omega arith)
+
+lows-few : (b : Book) → length (sectionWords (b .L)) + head-words ≤ used b
+unfolding used body
+lows-few b = simp length-append (omega arith)
+
+middles-few : (b : Book) → length (sectionWords (b .P)) + head-words ≤ used b
+unfolding used body
+middles-few b = simp length-append (omega arith)
+
+-- What a book that fits expects has figures of 16 bits.
+expected-small : (b : Book) (t : Tree) → used b ≤ most-book-words → Small (2 ^ 16) (expected b t)
+unfolding expected expectedOn nearTop nearPart
+expected-small b t few = go (leastToFix b 1 (subtrees t))
+  where
+    -- By the line that is doubted.
+    go : (d : Doubt) → Small (2 ^ 16) (expectedOn b t d)
+    go no-doubt =
+        either-way (Small (2 ^ 16)) (has (words (top (b .k) t)) (b .R)) _ _ (nowhere-small (2 ^ 16) (omega arith)) (near-small (2 ^ 16) _ (b .R) (omega (arith, tops-few b)))
+    go (doubt line s) =
+        either-way (Small (2 ^ 16)) (isLow (b .k) s) _ _ (near-small (2 ^ 16) _ (b .L) (omega (arith, lows-few b))) (near-small (2 ^ 16) _ (b .P) (omega (arith, middles-few b)))
+
+-- Judging: whatever is handed on has figures of 16 bits.
+pub expected-fits : (ws os : List ℕ) → Small (2 ^ 16) (expectedOf ws os)
+unfolding expectedOf
+expected-fits ws os =
+    let none = nowhere-small (2 ^ 16) (omega arith) in
+    by-book (Small (2 ^ 16)) ws (λ n. nowhere) _ (λ n. none)
+    (λ b i. by-order (Small (2 ^ 16)) os (λ n. nowhere) (expected b) (λ n. none) (λ t p. expected-small b t (omega (arith, used-fits ws b (i .laid), i .short))))
 
 -- ---- files
 

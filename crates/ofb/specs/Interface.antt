@@ -9,7 +9,9 @@ use Rattle.figures.specs.declared.Answer.{Answer}
 use Rattle.figures.specs.declared.Written.{Written}
 use Rattle.trees.specs.Answers.{Writing, subtreeOf}
 use Rattle.book.specs.Opening.{Outcome}
+use Rattle.verdicts.specs.declared.Judgement.{Judgement}
 use Rattle.ofb.specs.declared.OfbAnswer.{OfbAnswer}
+use Rattle.ofb.specs.declared.OfbJudged.{OfbJudged}
 use Rattle.ofb.specs.declared.OfbPart.{OfbPart}
 
 -- An answer, with nothing written to an output that is not a book.
@@ -19,6 +21,18 @@ toldOf a = record { number = a .number; line = a .line; written = 0 }
 -- An answer of a call that writes words or bytes.
 abbrev pub toldWrittenOf : Written → OfbAnswer
 toldWrittenOf a = record { number = a .number; line = a .line; written = a .count }
+
+-- A judgement: `there` is 1 for a part that is there, and 0 for one that is not.
+abbrev pub toldJudgedOf : Judgement → OfbJudged
+toldJudgedOf j =
+    record {
+      number = j .answer .number;
+      line = j .answer .line;
+      below = j .near .below;
+      there = if j .near .there then 1 else 0;
+      «place_below» = j .near .low;
+      «place_above» = j .near .high;
+    }
 
 -- What a call answers in C, and the words or bytes of the slice that it may write, after it.
 pub record Handed : Type 0 where

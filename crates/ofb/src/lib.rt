@@ -3,16 +3,18 @@
 ghost use mathlib.Core.Path.{_≡_};
 ghost use Prim.Native.Nat.{_^_, _<_};
 ghost use Rattle.book.specs.Opening.{openOf};
-ghost use Rattle.verdicts.specs.Judging.{judgeOf};
+ghost use Rattle.section.specs.Near.{Small};
+ghost use Rattle.verdicts.specs.Expecting.{judgementOf};
 ghost use Rattle.effects.specs.Calls.{teachOf, withdrawOf};
 ghost use Rattle.sums.specs.Joining.{joinOf};
 ghost use Rattle.book.specs.Checking.{checkOf};
 ghost use Rattle.files.specs.Files.{writeFileOf, readFileOf};
 ghost use Rattle.form.specs.Reading.{readOf};
 ghost use Rattle.form.specs.Writing.{writeOf};
-ghost use Rattle.ofb.specs.Interface.{toldOf, toldWrittenOf, handed, outcomeInC, writingInC, partInC};
+ghost use Rattle.ofb.specs.Interface.{toldOf, toldWrittenOf, toldJudgedOf, handed, outcomeInC, writingInC, partInC};
 use figures::Answer;
 use figures::Written;
+use verdicts::Judgement;
 
 // An answer, as C has it.
 #[repr(C)]
@@ -20,6 +22,18 @@ pub struct OfbAnswer {
     pub number: u16,
     pub line: u16,
     pub written: u32,
+}
+
+// A judgement, as C has it: the number and the line, and of what is unknown there how many entries of its section stand below it, whether it is there (0 or
+// 1), and the places at which it first differs from the last entry below and from the first above.
+#[repr(C)]
+pub struct OfbJudged {
+    pub number: u16,
+    pub line: u16,
+    pub below: u16,
+    pub there: u16,
+    pub place_below: u16,
+    pub place_above: u16,
 }
 
 // A part of an order, as C has it: the word at which it starts, and how many words it has.
@@ -50,6 +64,23 @@ fn told_written(answer: Written) -> OfbAnswer
         number: answer.number,
         line: answer.line as u16,
         written: answer.count as u32,
+    }
+}
+
+// A judgement in C's numbers.
+fn told_judged(judged: Judgement) -> OfbJudged
+    requires { ⌜ (judged .answer .line < 2 ^ 16) × Small (2 ^ 16) (judged .near) ⌝ }
+    ensures { λ r. ⌜ r ≡ toldJudgedOf judged ⌝ }
+{
+    let answer = judged.answer;
+    let near = judged.near;
+    OfbJudged {
+        number: answer.number,
+        line: answer.line as u16,
+        below: near.below as u16,
+        there: near.there as u16,
+        place_below: near.low as u16,
+        place_above: near.high as u16,
     }
 }
 
@@ -91,11 +122,11 @@ pub extern "C" fn ofb_join(book: &mut [u16], other: &[u16]) -> OfbAnswer
 
 // Judges an order by a book: `judge::judge`.
 #[no_mangle]
-pub extern "C" fn ofb_judge(book: &[u16], order: &[u16]) -> OfbAnswer
-    ensures { λ r. ⌜ r ≡ toldOf (judgeOf (now (book .entry)) (now (order .entry))) ⌝ }
+pub extern "C" fn ofb_judge(book: &[u16], order: &[u16]) -> OfbJudged
+    ensures { λ r. ⌜ r ≡ toldJudgedOf (judgementOf (now (book .entry)) (now (order .entry))) ⌝ }
 {
-    let answer = judge::judge(book, order);
-    told(answer)
+    let judged = judge::judge(book, order);
+    told_judged(judged)
 }
 
 // Whether a book agrees with itself: `agree::check`.

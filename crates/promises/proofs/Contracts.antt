@@ -22,7 +22,7 @@ use Rattle.form.specs.Reading.{readOf}
 use Rattle.form.specs.Writing.{writeOf}
 use Rattle.book.specs.Decoding.{bookFormOf}
 use Rattle.book.specs.Opening.{outcome, openOf}
-use Rattle.verdicts.specs.Judging.{judgeOf}
+use Rattle.verdicts.specs.Expecting.{judgementOf}
 use Rattle.effects.specs.Calls.{teachOf, withdrawOf}
 use Rattle.sums.specs.Joining.{joinOf}
 use Rattle.book.specs.Checking.{checkOf as agreesOf}
@@ -250,7 +250,7 @@ module _ {M : Type 1} (𝓤 : URA.URA M) (H : Wp.Heap 𝓤) (A : Atoms.Atoms �
 
   -- `judge::judge`
   pub judge-says : (κs args g r : _) → let c = judge.spec 𝓤 H A mem run κs args in
-      (c .ghost ≡ Unit {0}) × (c .requires g ≡ ⊤ₛ) × (c .ensures g r ≡ exits 𝓤 H A judge.signature (judge.ended .kept) κs args (λ end. ⌜ r ≡ judgeOf (now (args .0)) (now (args .1 .0)) ⌝))
+      (c .ghost ≡ Unit {0}) × (c .requires g ≡ ⊤ₛ) × (c .ensures g r ≡ exits 𝓤 H A judge.signature (judge.ended .kept) κs args (λ end. ⌜ r ≡ judgementOf (now (args .0)) (now (args .1 .0)) ⌝))
   judge-says κs args g r = (refl, refl, refl)
 
   -- `teach::teach`

@@ -31,6 +31,8 @@ pub mod Demand2
 pub mod Demand3
 pub mod Growing
 pub mod NoMore
+pub mod Nearness
+pub mod Expected
 pub mod AtTheDesk
 pub mod DeskFigures
 pub mod DeskLine

@@ -1,12 +1,14 @@
 -- Rows that are computed beside the twelve cases: books in form and books that miss it by one damage, books that agree with themselves and books
--- that do not, refusals by 6, 7, 8 and 9, books that are joined, and what a book lets in. Assumes nothing.
+-- that do not, refusals by 6, 7, 8 and 9, books that are joined, what a book lets in, and what it expected. Assumes nothing.
 use Prim.Native.Nat.{ℕ, _+_, _≤_}
 use mathlib.Core.Path.{_≡_, refl}
 use mathlib.Core.Bool.{true, false}
 use mathlib.Core.List.{List, [], _∷_}
 use native.Mathlib.Omega.{arith}
 use lib.ListN.{set}
+use Rattle.words.specs.Compare.{signedFrom, signedOf}
 use Rattle.section.specs.Entries.{Entry, counted, add}
+use Rattle.section.specs.Near.{near, nowhere, entriesBelow, entriesAbove, lastPlace, firstPlace, nearOf}
 use Rattle.trees.specs.Trees.{Tree, node, bare, cons, words}
 use Rattle.trees.specs.Reading.{order, orderOf}
 use Rattle.trees.proofs.Fitting.{read-order}
@@ -15,6 +17,7 @@ use Rattle.book.specs.Decoding.{formed}
 use Rattle.book.specs.Sound.{IsBook}
 use Rattle.book.specs.Taught.{Teaching, bookOf, agreeing}
 use Rattle.verdicts.specs.Judging.{judgeOf}
+use Rattle.verdicts.specs.Expecting.{nearPart, nearTop, expectedOn, expected, expectedOf}
 use Rattle.effects.specs.Calls.{hasParts}
 use Rattle.effects.proofs.Outcomes.{laid-book}
 use Rattle.figures.specs.Limits.{most-book-words}
@@ -220,6 +223,20 @@ deeper : (judgeOf (lay 87 bookAB2) (words C) ≡ answered 0)
     × (judgeOf (lay 127 bookAB6) (words B) ≡ answered 0)
 unfolding computes
 deeper = (refl, refl, refl, refl, refl)
+
+-- What the book expected, by A and B: of C at k = 3, case 6, a middle part between those of A and B, which differ from it in the number of options below 3000 and
+-- in 0010; of A with nothing below 3000, a low part between 2000(16) and 3000(3001); of 1001, a low part above ten and sixteen; of 3001, a low part that is in
+-- the book, and so of the top, above 1000(2000,3000); and nothing of C at k = 2 and of A, which pass, of words that are no order, and of no book.
+expects-rows : (expectedOf (lay 109 bookAB) (words C) ≡ near 1 false 8 5)
+    × (expectedOf (lay 109 bookAB) (words (node 1000 (cons (node 2000 (cons (node 10 bare) bare)) (cons (node 3000 bare) bare)))) ≡ near 4 false 1 2)
+    × (expectedOf (lay 109 bookAB) (words (node 1001 bare)) ≡ near 2 false 1 1)
+    × (expectedOf (lay 109 bookAB) (words (node 3001 bare)) ≡ near 1 false 1 0)
+    × (expectedOf (lay 87 bookAB2) (words C) ≡ nowhere)
+    × (expectedOf (lay 109 bookAB) (words A) ≡ nowhere)
+    × (expectedOf (lay 109 bookAB) (1 ∷ []) ≡ nowhere)
+    × (expectedOf [] (words A) ≡ nowhere)
+unfolding computes signedFrom signedOf entriesBelow entriesAbove lastPlace firstPlace nearOf nearPart nearTop expectedOn expected expectedOf
+expects-rows = (refl, refl, refl, refl, refl, refl, refl, refl)
 
 -- Of a book in form that agrees with itself, laid in a slice that it fits: its own sets include all that is taught to it, and an order that is not answered by 0 is none of
 -- their forms.

@@ -9,3 +9,4 @@ pub mod DeskInput
 pub mod Forms
 pub mod Books
 pub mod NoMore
+pub mod Expected

@@ -4,7 +4,7 @@
 //   lay W W ..        the kept book is these words from now on
 //   teach W W ..      the order of these words is taught to the kept book
 //   withdraw W W ..   the order of these words is withdrawn from it
-//   ask W W ..        the order of these words is judged by it
+//   ask W W ..        the order of these words is judged by it; this also says what the book expected
 //   agrees            it is checked to agree with itself
 //   join              the other book, with which it changes places by `swap`, is joined to it
 //   show              says every word of it
@@ -103,12 +103,11 @@ pub fn show(given: &[u16], held: &[u16]) {
     say::slice(kept::all(held));
 }
 
-// Makes a call on a book, by its kind, one of the five, and what it is given: an order, or the words of the book that is joined.
+// Makes a call on a book, by its kind, one of the four, and what it is given: an order, or the words of the book that is joined.
 fn made(kind: u64, given: &[u16], book: &mut [u16]) -> OfbAnswer {
     match kind {
         kinds::TEACH => ofb::ofb_teach(book, given),
         kinds::WITHDRAW => ofb::ofb_withdraw(book, given),
-        kinds::ASK => ofb::ofb_judge(book, given),
         kinds::JOIN => ofb::ofb_join(book, given),
         _ => ofb::ofb_check(book),
     }
@@ -129,7 +128,31 @@ fn on_kept(kind: u64, given: &[u16], held: &mut [u16]) {
     state(kept::all(held));
 }
 
-// Runs a case of `teach`, `withdraw`, `ask` or `agrees`, of which the last has no order.
+// Says whether something is there, by a number that is not 0 if it is.
+fn whether(there: u16) {
+    if there == 0 {
+        say::text(b"not ");
+    }
+    say::text(b"there");
+}
+
+// Runs a case of `ask`: says the answer, what the book expected, and how the book stands.
+pub fn ask(given: &[u16], held: &[u16]) {
+    let judged = ofb::ofb_judge(kept::all(held), given);
+    say::heard(judged.number, judged.line as usize);
+    say::text(b", below ");
+    say::word(judged.below);
+    say::text(b", ");
+    whether(judged.there);
+    say::text(b", places ");
+    say::word(judged.place_below);
+    say::text(b" and ");
+    say::word(judged.place_above);
+    say::text(b", ");
+    state(kept::all(held));
+}
+
+// Runs a case of `teach`, `withdraw` or `agrees`, of which the last has no order.
 pub fn call(kind: u64, given: &[u16], held: &mut [u16]) {
     if kind == kinds::AGREES {
         if given.len() != 0 {

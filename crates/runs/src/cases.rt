@@ -23,11 +23,8 @@ fn with_words(kind: u64, given: &[u16], book: &mut [u16], other: &mut [u16], fil
         kinds::OPEN => books::open(given, book),
         kinds::LAY => books::lay(given, book),
         kinds::SHOW => books::show(given, book),
-        kinds::TEACH | kinds::WITHDRAW | kinds::ASK | kinds::AGREES => books::call(
-            kind,
-            given,
-            book,
-        ),
+        kinds::TEACH | kinds::WITHDRAW | kinds::AGREES => books::call(kind, given, book),
+        kinds::ASK => books::ask(given, book),
         kinds::JOIN => books::join(given, book, other),
         kinds::FILE => stored::lay(given, 0, file),
         kinds::MORE => stored::more(given, file),

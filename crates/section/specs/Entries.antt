@@ -7,7 +7,7 @@ use mathlib.Core.Path.{_≡_}
 use lib.Dec.{leb}
 use lib.ListN.{length, getD, take, drop}
 use Rattle.words.specs.Base.{if_then_else_, sameWords}
-use Rattle.words.specs.Compare.{compareOf, _≺_}
+use Rattle.words.specs.Compare.{compareOf, _≺_, signedOf, sizeOf}
 use Rattle.words.specs.declared.Compared.{Compared}
 use Rattle.words.specs.declared.Compared.the-variants.{Lower, Equal, Higher}
 use Rattle.section.specs.declared.Found.{Found}
@@ -99,10 +99,16 @@ byCompared Lower a b c = a
 byCompared Equal a b c = b
 byCompared Higher a b c = c
 
--- Where the key's entry stands, or would stand, if the first entry stands at word `at`.
-unfoldable pub look : List ℕ → ℕ → List Entry → Found
-look key at [] = Absent at
-look key at (e ∷ es) = byCompared (compareOf (e .key) key) (look key (at + (2 + length (e .key))) es) (At at) (Absent at)
+-- "the place of the first differing word" of an entry's tree and a key, counted from 1 over the tree's words; 0 where they are the same.
+abbrev pub placeIn : List ℕ → Entry → ℕ
+placeIn key e = sizeOf (signedOf (e .key) key)
+
+-- What a search finds that ends at the first entry not below the key: where the key's entry stands or would stand, if the first entry stands at word `at`, how
+-- many stand below it, if n stand before the first, and the places of its neighbours, if p is the place of the one before the first.
+unfoldable pub look : List ℕ → ℕ → ℕ → ℕ → List Entry → Found
+look key at n p [] = Absent at n p 0
+look key at n p (e ∷ es) =
+    byCompared (compareOf (e .key) key) (look key (at + (2 + length (e .key))) (suc n) (placeIn key e) es) (At at n) (Absent at n p (placeIn key e))
 
 -- n more of a key: "raises each count" or "enters the part".
 unfoldable pub add : ℕ → List ℕ → List Entry → List Entry

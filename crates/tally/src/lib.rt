@@ -48,7 +48,7 @@ fn against(book: &[u16], at: usize, key: &[u16], first: u16) -> Compared
         return Compared::Higher;
     }
     let end = past(book, at);
-    words::compare(&book[start..end], key)
+    words::standing(&book[start..end], key)
 }
 
 // Which of the listed entries has the key: the range that it can stand in is halved until it is found or none is left.

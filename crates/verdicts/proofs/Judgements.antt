@@ -1,24 +1,24 @@
 -- What is answered for a book in form, by the tests that the code makes in turn. Assumes nothing.
-use Prim.Native.Nat.{ℕ, suc, _-_, _*_, _/_, _≤_}
-use mathlib.Core.Path.{_≡_, refl, ap, sym, subst, _∙_}
-use mathlib.Core.Bool.{true, false}
+use Prim.Native.Nat.{ℕ, suc, _*_}
+use mathlib.Core.Path.{_≡_, ap, ap₂, sym, _∙_}
+use mathlib.Core.Bool.{Bool, true, false}
 use mathlib.Core.List.{List}
 use native.Mathlib.Omega.{arith}
-use lib.ListN.{length}
 use Rattle.words.specs.Base.{if_then_else_}
-use Rattle.figures.specs.Numbers.{done, top-unknown, low-unknown, middle-unknown}
+use Rattle.figures.specs.Numbers.{done, top-unknown}
 use Rattle.figures.specs.Answers.{answered}
+use Rattle.figures.specs.declared.Answer.{Answer}
 use Rattle.section.specs.Entries.{has}
+use Rattle.section.specs.Near.{nowhere}
+use Rattle.section.specs.declared.Neighbours.{Neighbours}
+use Rattle.section.proofs.Near.{near-there}
 use Rattle.trees.specs.Trees.{Tree, words, subtrees}
-use Rattle.trees.specs.Reading.{found, order, byOrder, orderOf, causeOf}
+use Rattle.trees.specs.Reading.{found, order, byFound, byOrder, orderOf, causeOf}
 use Rattle.trees.specs.Causes.{Cause}
-use Rattle.trees.specs.Answers.{treeAt}
-use Rattle.trees.specs.Parts.{top, isLow}
-use Rattle.trees.specs.Walks.{partAtOf}
-use Rattle.trees.specs.declared.PartAt.{PartAt}
-use Rattle.trees.specs.declared.PartAt.the-variants.{NoPart, LowTo, MiddleTo}
+use Rattle.trees.specs.Parts.{top}
+use Rattle.trees.specs.Walks.{treeFrom}
 use Rattle.trees.proofs.Causes.{Passed, has-tree, cause-is, cause-refuses}
-use Rattle.trees.proofs.Lines.{place-within, line-spot}
+use Rattle.trees.proofs.Lines.{place-within, line-spot, from-spot}
 use Rattle.book.specs.Book.{Book}
 use Rattle.book.specs.Decoding.{bookIn, bookFormOf}
 use Rattle.book.specs.Holding.{Holds}
@@ -27,25 +27,17 @@ use Rattle.book.specs.declared.Places.{Places}
 use Rattle.book.specs.declared.BookForm.the-variants.{Refused}
 use Rattle.book.proofs.Sound.{held-book, on-any}
 use Rattle.book.proofs.Holding.{refused-book}
-use Rattle.verdicts.specs.Judging.{doubt, leastToFix, verdictOn, verdict, judgeOf}
-use Rattle.verdicts.specs.Seeking.{topKnown, doubtLine, lineToFix, unknownNumber, lineAnswer}
-use Rattle.verdicts.proofs.Fixes.{LeastIs, none-least, is-least, least-is, doubt-within}
-use Rattle.trees.proofs.Spots.{two-words-a-line, short-order, PartIs, part-told}
+use Rattle.verdicts.specs.Judging.{no-doubt, doubt, leastToFix, verdictOn, verdict, judgeOf}
+use Rattle.verdicts.specs.Expecting.{nearTop, expectedOn, expected, expectedOf, judgementOf}
+use Rattle.verdicts.specs.Seeking.{topNear, doubtLine, lineToFix, plainlyOf, judgedOn, judgedLine}
+use Rattle.verdicts.specs.declared.Judgement.{Judgement}
+use Rattle.verdicts.proofs.Fixes.{LeastIs, none-least, is-least, least-is}
 
--- ---- the line to fix and its number
+-- ---- the line to fix and its judgement
 
--- The number of an unknown part, by the kind that its word tells.
-part-number : (k at : ℕ) (s : Tree) (w : PartAt) → PartIs k at s w → (if isLow k s then low-unknown else middle-unknown) ≡ unknownNumber w
-unfolding if_then_else_
-part-number k at s NoPart h = absurd h
-part-number k at s (LowTo e) h = rw (h .0)
-part-number k at s (MiddleTo e c) h = rw (h .0)
-
--- The answer for a line has the number of the part that was told there.
-pub line-told : (k : ℕ) (os : List ℕ) (line : ℕ) (w v : PartAt) → w ≡ partAtOf os ((line - 1) * 2) k → w ≡ v
-    → record { number = unknownNumber v; line = line } ≡ lineAnswer k os line
-unfolding lineAnswer
-line-told k os line w v e f = ap (λ (x : PartAt). record { number = unknownNumber x; line = line }) (sym f ∙ e)
+-- A judgement of an answer and neighbours.
+abbrev judgement : Answer → Neighbours → Judgement
+judgement a r = record { answer = a; near = r }
 
 -- An order's tree, and a book.
 module _ (b : Book) (os : List ℕ) (t : Tree) (p : Passed os t) where
@@ -54,40 +46,48 @@ module _ (b : Book) (os : List ℕ) (t : Tree) (p : Passed os t) where
   unfolding lineToFix byOrder
   line-is = rw (p .is)
 
-  -- It is one of the order's lines, or 0.
-  pub line-within : lineToFix b os ≤ length os / 2
-  line-within = omega (arith, line-is, doubt-within b 0 (subtrees t), two-words-a-line os t p)
+  -- The judgement at a line, by the tree that stands there.
+  judged-at : (j : ℕ) (s : Tree) → treeFrom os (j * 2) ≡ found s → judgedOn b t (doubt (suc j) s) ≡ judgedLine b os (suc j)
+  unfolding verdictOn expectedOn judgedLine byFound
+  judged-at j s e = rw e
 
-  -- The number of the part that a line stands for.
-  number-at : (j : ℕ) (s : Tree) → treeAt (subtrees t) j ≡ found s → (if isLow (b .k) s then low-unknown else middle-unknown) ≡ unknownNumber (partAtOf os (j * 2) (b .k))
-  number-at j s at =
-      let q = line-spot os t j p (place-within (subtrees t) j s at) in
-      let same : found (q .tree) ≡ found s = sym (q .is) ∙ at in
-      let is : q .tree ≡ s = cc in
-      subst (λ (u : Tree). (if isLow (b .k) u then low-unknown else middle-unknown) ≡ unknownNumber (partAtOf os (j * 2) (b .k))) is
-      (part-number (b .k) (j * 2) (q .tree) (partAtOf os (j * 2) (b .k)) (part-told os (j * 2) _ q (b .k) (partAtOf os (j * 2) (b .k)) (partAtOf os (j * 2) (b .k)) (short-order os t p) refl refl))
-
-  -- The verdict where a line is to be fixed.
-  verdict-line : (lineToFix b os ≡ 0 → ⊥) → verdict b t ≡ lineAnswer (b .k) os (lineToFix b os)
-  unfolding verdict verdictOn doubtLine lineAnswer
-  verdict-line h = go (least-is b 0 (subtrees t))
+  -- The judgement where a line is to be fixed.
+  on-line : (lineToFix b os ≡ 0 → ⊥) → judgedOn b t (leastToFix b 1 (subtrees t)) ≡ judgedLine b os (lineToFix b os)
+  unfolding doubtLine
+  on-line h = go (least-is b 0 (subtrees t))
     where
       -- By the least line to fix.
-      go : LeastIs b 0 (subtrees t) (leastToFix b 1 (subtrees t)) → verdict b t ≡ lineAnswer (b .k) os (lineToFix b os)
+      go : LeastIs b 0 (subtrees t) (leastToFix b 1 (subtrees t)) → judgedOn b t (leastToFix b 1 (subtrees t)) ≡ judgedLine b os (lineToFix b os)
       go (none-least e f) = absurd (h (line-is ∙ ap doubtLine e))
       go (is-least j s e at n f) =
           let d : leastToFix b 1 (subtrees t) ≡ doubt (suc j) s = e ∙ ap (λ (m : ℕ). doubt m s) (omega arith) in
-          let i : (suc j - 1) * 2 ≡ j * 2 = omega arith in
-          rw (line-is, d, i) (ap (λ (m : ℕ). record { number = m; line = suc j }) (number-at j s at))
+          let q = line-spot os t j p (place-within (subtrees t) j s at) in
+          ap (judgedOn b t) d ∙ judged-at j s (from-spot os (j * 2) _ q ∙ sym (q .is) ∙ at) ∙ ap (judgedLine b os) (sym (line-is ∙ ap doubtLine d))
 
-  -- The verdict where no line is to be fixed.
-  verdict-top : lineToFix b os ≡ 0 → verdict b t ≡ (if has (words (top (b .k) t)) (b .R) then answered done else record { number = top-unknown; line = 1 })
-  unfolding verdict verdictOn doubtLine
-  verdict-top h = go (least-is b 0 (subtrees t))
+  -- The neighbours of the top are those of the tree's.
+  top-is : topNear b os ≡ nearTop b t
+  unfolding topNear byOrder
+  top-is = rw (p .is)
+
+  -- The judgement where no line is to be fixed, by whether the top is there.
+  on-top : lineToFix b os ≡ 0 → (x : Bool) → topNear b os .there ≡ x
+      → judgedOn b t (leastToFix b 1 (subtrees t)) ≡ (if x then plainlyOf done else record { answer = record { number = top-unknown; line = 1 }; near = topNear b os })
+  unfolding verdictOn expectedOn doubtLine nearTop if_then_else_
+  on-top h x there = go (least-is b 0 (subtrees t))
     where
+      -- Whether R has it.
+      known : has (words (top (b .k) t)) (b .R) ≡ x
+      known = sym (near-there (words (top (b .k) t)) (b .R)) ∙ ap (λ (r : Neighbours). r .there) (sym top-is) ∙ there
+
+      -- By that.
+      by-top : (y : Bool) → has (words (top (b .k) t)) (b .R) ≡ y → judgedOn b t no-doubt ≡ (if y then plainlyOf done else record { answer = record { number = top-unknown; line = 1 }; near = nearTop b t })
+      by-top true e = rw e
+      by-top false e = rw e
+
       -- By the least line to fix.
-      go : LeastIs b 0 (subtrees t) (leastToFix b 1 (subtrees t)) → verdict b t ≡ (if has (words (top (b .k) t)) (b .R) then answered done else record { number = top-unknown; line = 1 })
-      go (none-least e f) = rw e
+      go : LeastIs b 0 (subtrees t) (leastToFix b 1 (subtrees t))
+          → judgedOn b t (leastToFix b 1 (subtrees t)) ≡ (if x then plainlyOf done else record { answer = record { number = top-unknown; line = 1 }; near = topNear b os })
+      go (none-least e f) = rw top-is (ap (judgedOn b t) e ∙ by-top x known)
       go (is-least j s e at n f) = absurd (omega (arith, h, line-is ∙ ap doubtLine e))
 
 -- ---- a book in form
@@ -98,6 +98,11 @@ module _ (ws os : List ℕ) (b : Book) (i : IsBook ws b) where
   unfolding judgeOf
   by-book = on-any ws b i answered (λ c. byOrder (orderOf os) answered (verdict c))
 
+  -- It hands on what it expects.
+  by-expected : expectedOf ws os ≡ byOrder (orderOf os) (λ n. nowhere) (expected b)
+  unfolding expectedOf
+  by-expected = on-any ws b i (λ n. nowhere) (λ c. byOrder (orderOf os) (λ n. nowhere) (expected c))
+
   -- An order with a cause of 1 or 2 is answered by it.
   pub by-cause : (n : ℕ) → Cause os n → (n ≡ done → ⊥) → judgeOf ws os ≡ answered n
   by-cause n c x = by-book ∙ cause-refuses os n c x answered (verdict b)
@@ -107,38 +112,60 @@ module _ (ws os : List ℕ) (b : Book) (i : IsBook ws b) where
   unfolding byOrder
   by-verdict t e = by-book ∙ rw e
 
+  -- Nothing is expected of the one,
+  pub none-by-cause : (n : ℕ) → Cause os n → (n ≡ done → ⊥) → expectedOf ws os ≡ nowhere
+  none-by-cause n c x = by-expected ∙ cause-refuses os n c x (λ m. nowhere) (expected b)
+
+  -- and of the other what the book expects.
+  pub expects : (t : Tree) → orderOf os ≡ order t → expectedOf ws os ≡ expected b t
+  unfolding byOrder
+  expects t e = by-expected ∙ rw e
+
+  -- The whole judgement on an order.
+  pub judges : (t : Tree) → orderOf os ≡ order t → judgementOf ws os ≡ judgedOn b t (leastToFix b 1 (subtrees t))
+  unfolding verdict expected
+  judges t e = ap₂ judgement (by-verdict t e) (expects t e)
+
 module _ (ws os : List ℕ) (p : Places) (H : Holds ws p) where
-  -- An order with a cause of 1 or 2 is answered by it.
-  pub judge-refused : (causeOf os ≡ done → ⊥) → judgeOf ws os ≡ answered (causeOf os)
-  judge-refused n = by-cause ws os (bookIn ws) (held-book ws p H) (causeOf os) (cause-is os) n
+  -- An order with a cause of 1 or 2 is answered by it alone.
+  pub judge-refused : (causeOf os ≡ done → ⊥) → judgementOf ws os ≡ plainlyOf (causeOf os)
+  judge-refused n =
+      let i = held-book ws p H in
+      ap₂ judgement (by-cause ws os (bookIn ws) i (causeOf os) (cause-is os) n) (none-by-cause ws os (bookIn ws) i (causeOf os) (cause-is os) n)
 
   module _ (e : causeOf os ≡ done) where
-    -- The line to fix, where there is one, is answered by its number.
-    pub judge-line : (lineToFix (bookIn ws) os ≡ 0 → ⊥) → judgeOf ws os ≡ lineAnswer (p .k .k) os (lineToFix (bookIn ws) os)
-    judge-line h =
-        let x = has-tree os e in
-        by-verdict ws os (bookIn ws) (held-book ws p H) (x .tree) (x .passes .is) ∙ verdict-line (bookIn ws) os (x .tree) (x .passes) h ∙ rw (H .depth)
+    -- The judgement by the line that is doubted.
+    judge-tree : let t = has-tree os e .tree in judgementOf ws os ≡ judgedOn (bookIn ws) t (leastToFix (bookIn ws) 1 (subtrees t))
+    judge-tree = let x = has-tree os e in judges ws os (bookIn ws) (held-book ws p H) (x .tree) (x .passes .is)
 
-    -- Otherwise the top decides.
-    judge-tops : lineToFix (bookIn ws) os ≡ 0 → judgeOf ws os ≡ (if topKnown (bookIn ws) os then answered done else record { number = top-unknown; line = 1 })
-    unfolding byOrder topKnown
-    judge-tops h =
-        let x = has-tree os e in
-        by-verdict ws os (bookIn ws) (held-book ws p H) (x .tree) (x .passes .is) ∙ verdict-top (bookIn ws) os (x .tree) (x .passes) h ∙ rw (x .passes .is)
+    -- The line to fix, where there is one, is answered with its judgement.
+    pub judge-line : (lineToFix (bookIn ws) os ≡ 0 → ⊥) → judgementOf ws os ≡ judgedLine (bookIn ws) os (lineToFix (bookIn ws) os)
+    judge-line h = let x = has-tree os e in judge-tree ∙ on-line (bookIn ws) os (x .tree) (x .passes) h
 
-    -- 20 with line 1 where no line is unknown and the top is.
-    pub judge-top : lineToFix (bookIn ws) os ≡ 0 → topKnown (bookIn ws) os ≡ false → judgeOf ws os ≡ record { number = top-unknown; line = 1 }
+    -- 20 with line 1 and the top's neighbours where no line is unknown and the top is.
+    pub judge-top : lineToFix (bookIn ws) os ≡ 0 → topNear (bookIn ws) os .there ≡ false
+        → judgementOf ws os ≡ record { answer = record { number = top-unknown; line = 1 }; near = topNear (bookIn ws) os }
     unfolding if_then_else_
-    judge-top h f = judge-tops h ∙ rw f
+    judge-top h f = let x = has-tree os e in judge-tree ∙ on-top (bookIn ws) os (x .tree) (x .passes) h false f
 
-    -- 0 where the top is known too.
-    pub judge-passes : lineToFix (bookIn ws) os ≡ 0 → topKnown (bookIn ws) os ≡ true → judgeOf ws os ≡ answered done
+    -- 0 alone where the top is known too.
+    pub judge-passes : lineToFix (bookIn ws) os ≡ 0 → topNear (bookIn ws) os .there ≡ true → judgementOf ws os ≡ plainlyOf done
     unfolding if_then_else_
-    judge-passes h f = judge-tops h ∙ rw f
+    judge-passes h f = let x = has-tree os e in judge-tree ∙ on-top (bookIn ws) os (x .tree) (x .passes) h true f
 
 -- ---- any words
 
--- A slice that is no book in form is answered by 4 or 5.
-pub judge-unheld : (ws os : List ℕ) (n : ℕ) → bookFormOf ws ≡ Refused n → judgeOf ws os ≡ answered n
-unfolding judgeOf
-judge-unheld ws os n e = refused-book ws n e answered (λ b. byOrder (orderOf os) answered (verdict b))
+module _ (ws os : List ℕ) (n : ℕ) (e : bookFormOf ws ≡ Refused n) where
+  -- A slice that is no book in form is answered by 4 or 5.
+  pub judge-unheld : judgeOf ws os ≡ answered n
+  unfolding judgeOf
+  judge-unheld = refused-book ws n e answered (λ b. byOrder (orderOf os) answered (verdict b))
+
+  -- Nothing is expected then.
+  pub none-unheld : expectedOf ws os ≡ nowhere
+  unfolding expectedOf
+  none-unheld = refused-book ws n e (λ m. nowhere) (λ b. byOrder (orderOf os) (λ m. nowhere) (expected b))
+
+  -- So it is answered by that alone.
+  pub judgement-unheld : judgementOf ws os ≡ plainlyOf n
+  judgement-unheld = ap₂ judgement judge-unheld none-unheld

@@ -1,16 +1,14 @@
 -- The order's top, written to a scratch and looked up in R. Assumes nothing.
 use Prim.Native.Nat.{ℕ, _-_, _/_, _<_, _≤_}
-use mathlib.Core.Path.{_≡_, sym, _∙_}
-use mathlib.Core.Bool.{true, false}
+use mathlib.Core.Path.{_≡_, _∙_}
 use mathlib.Core.List.{List}
 use native.Mathlib.Omega.{arith}
 use lib.ListN.{length, getD, take, drop}
 use Rattle.words.specs.Base.{over}
 use Rattle.figures.specs.Limits.{most-words}
-use Rattle.section.specs.Entries.{entries, look, has}
-use Rattle.section.specs.declared.Found.{Found}
-use Rattle.section.specs.declared.Found.the-variants.{At, Absent}
-use Rattle.section.proofs.Searches.{look-has, look-lacks}
+use Rattle.section.specs.Entries.{entries, look}
+use Rattle.section.specs.Near.{nearIn}
+use Rattle.section.proofs.Near.{near-is}
 use Rattle.trees.specs.Trees.{Tree, words}
 use Rattle.trees.specs.Reading.{byOrder, found}
 use Rattle.trees.specs.Parts.{top}
@@ -25,7 +23,8 @@ use Rattle.book.specs.Decoding.{bookIn}
 use Rattle.book.specs.Holding.{Holds}
 use Rattle.book.specs.declared.Places.{Places}
 use Rattle.book.specs.declared.Section.the-variants.{Tops}
-use Rattle.verdicts.specs.Seeking.{topKnown}
+use Rattle.verdicts.specs.Seeking.{topNear}
+use Rattle.verdicts.specs.Expecting.{nearTop}
 use Rattle.trees.proofs.Spots.{two-words-a-line, top-spot}
 
 -- The order's tree, and a depth to cut it at.
@@ -43,24 +42,10 @@ module _ (os : List ℕ) (t : Tree) (p : Passed os t) (d : ℕ) where
   unfolding top
   top-key k r old cut e f g = line-lent os t p 0 d first r f old cut g ∙ cut-spot os 0 (found t) (top-spot os t p) d ∙ rw e
 
--- A search for the top among the entries of R.
-module _ (ws os : List ℕ) (p : Places) (t : Tree) (H : Holds ws p) (q : Passed os t) where
-  -- What is asked is whether R has the top.
-  top-asked : topKnown (bookIn ws) os ≡ has (words (top (p .k .k) t)) (bookIn ws .R)
-  unfolding topKnown byOrder
-  top-asked = rw (q .is, H .depth)
-
-  module _ (key : List ℕ) (n : ℕ) (w : Found) (is : key ≡ words (top (p .k .k) t)) (many : n ≡ getD ws 4 0) (f : w ≡ look key (p .tops) (entries n (drop (p .tops) ws))) where
-    -- The search is one in R.
-    in-tops : w ≡ look (words (top (p .k .k) t)) (p .tops) (bookIn ws .R)
-    unfolding sectionOf
-    in-tops = f ∙ rw (is, many, H .section Tops .are)
-
-    -- An entry that is found is the top's.
-    pub top-there : (at : ℕ) → w ≡ At at → true ≡ topKnown (bookIn ws) os
-    top-there at e = sym (top-asked ∙ look-has _ (p .tops) at (bookIn ws .R) (sym in-tops ∙ e))
-
-    -- Where none is found the top is unknown.
-    pub top-lacking : (at : ℕ) → w ≡ Absent at → false ≡ topKnown (bookIn ws) os
-    unfolding sectionOf
-    top-lacking at e = sym (top-asked ∙ look-lacks _ (p .tops) at (bookIn ws .R) (H .section Tops .sorted) (sym in-tops ∙ e))
+-- What a search for the top among the entries of R says of its neighbours.
+pub top-found : (ws os : List ℕ) (p : Places) (t : Tree) → Holds ws p → Passed os t → (key : List ℕ) (n : ℕ) → key ≡ words (top (p .k .k) t) → n ≡ getD ws 4 0
+    → nearIn (look key (p .tops) 0 0 (entries n (drop (p .tops) ws))) ≡ topNear (bookIn ws) os
+unfolding topNear nearTop byOrder sectionOf
+top-found ws os p t H q key n is many =
+    let S = H .section Tops in
+    rw (q .is, is, many, S .are, H .depth) (near-is (words (top (bookIn ws .k) t)) (p .tops) (bookIn ws .R) (S .sorted))

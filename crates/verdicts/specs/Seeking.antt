@@ -1,26 +1,28 @@
 -- What the inner functions of `judge` look up in a book, by the trees that stand in the order's words. Assumes nothing: these are definitions.
-use Prim.Native.Nat.{ℕ, suc, _+_, _*_, _-_, _≤_}
+use Prim.Native.Nat.{ℕ, zero, suc, _+_, _*_, _-_, _≤_}
 use mathlib.Core.Bool.{Bool, true, false}
 use mathlib.Core.List.{List, [], _∷_}
 use mathlib.Core.Path.{_≡_}
 use lib.ListN.{length, take, drop}
 use Rattle.words.specs.Base.{if_then_else_}
-use Rattle.figures.specs.Numbers.{low-unknown, middle-unknown}
-use Rattle.figures.specs.declared.Answer.{Answer}
-use Rattle.section.specs.Entries.{Entry, entries, span, has, Sorted}
+use Rattle.figures.specs.Numbers.{done, low-unknown, middle-unknown}
+use Rattle.figures.specs.Answers.{answered}
+use Rattle.section.specs.Entries.{Entry, entries, span, Sorted}
+use Rattle.section.specs.Near.{near, nowhere, placeAt}
+use Rattle.section.specs.declared.Neighbours.{Neighbours}
 use Rattle.trees.specs.Trees.{Tree, words, subtrees}
-use Rattle.trees.specs.Reading.{found, byOrder, orderOf}
-use Rattle.trees.specs.Parts.{top, isLow, partOf}
-use Rattle.trees.specs.Walks.{treeFrom, partAtOf}
-use Rattle.trees.specs.declared.PartAt.{PartAt}
-use Rattle.trees.specs.declared.PartAt.the-variants.{NoPart, LowTo, MiddleTo}
+use Rattle.trees.specs.Reading.{found, byFound, byOrder, orderOf}
+use Rattle.trees.specs.Parts.{isLow, partOf}
+use Rattle.trees.specs.Walks.{treeFrom}
 use Rattle.book.specs.Book.{Book}
-use Rattle.verdicts.specs.Judging.{knows, Doubt, no-doubt, doubt, leastToFix}
+use Rattle.verdicts.specs.Judging.{knows, Doubt, no-doubt, doubt, leastToFix, verdictOn}
+use Rattle.verdicts.specs.Expecting.{nearTop, expectedOn}
+use Rattle.verdicts.specs.declared.Judgement.{Judgement}
 use Rattle.verdicts.specs.declared.Sought.{Sought}
 
--- The top of the order is in the book.
-unfoldable pub topKnown : Book → List ℕ → Bool
-topKnown b os = byOrder (orderOf os) (λ n. false) (λ t. has (words (top (b .k) t)) (b .R))
+-- The neighbours of the order's top in the book.
+unfoldable pub topNear : Book → List ℕ → Neighbours
+topNear b os = byOrder (orderOf os) (λ n. nowhere) (nearTop b)
 
 -- The least line whose subtree's part is unknown, of the subtrees from a line on; 0 where every part is known.
 unfoldable pub unknownLine : Book → ℕ → List Tree → ℕ
@@ -41,16 +43,23 @@ doubtLine (doubt line s) = line
 unfoldable pub lineToFix : Book → List ℕ → ℕ
 lineToFix b os = byOrder (orderOf os) (λ n. 0) (λ t. doubtLine (leastToFix b 1 (subtrees t)))
 
--- The number for an unknown part by what stands at a word: 21 for a low part, 22 for a middle part; 21 where there is none, which no line of an
--- order meets.
-abbrev pub unknownNumber : PartAt → ℕ
-unknownNumber NoPart = low-unknown
-unknownNumber (LowTo e) = low-unknown
-unknownNumber (MiddleTo e c) = middle-unknown
+-- A number with no line and no neighbours.
+abbrev pub plainlyOf : ℕ → Judgement
+plainlyOf n = record { answer = answered n; near = nowhere }
 
--- The answer for a line of an order that is to be fixed, counted from 1.
-unfoldable pub lineAnswer : ℕ → List ℕ → ℕ → Answer
-lineAnswer k os line = record { number = unknownNumber (partAtOf os ((line - 1) * 2) k); line = line }
+-- The judgement of a book on an order, by the line that is doubted.
+abbrev pub judgedOn : Book → Tree → Doubt → Judgement
+judgedOn b t d = record { answer = verdictOn b t d; near = expectedOn b t d }
+
+-- The judgement at a line of an order whose part is unknown, lines counted from 1; 0 alone at the line 0, which is none. Every line has a tree.
+unfoldable pub judgedLine : Book → List ℕ → ℕ → Judgement
+judgedLine b os zero = plainlyOf done
+judgedLine b os (suc i) = byFound (treeFrom os (i * 2)) (plainlyOf done) (λ s. judgedOn b s (doubt (suc i) s))
+
+-- What is answered is the judgement at the line.
+pub record JudgedAt (b : Book) (os : List ℕ) (line : ℕ) (r : Judgement) : Type 0 where
+  pub at : r .answer .line ≡ line
+  pub is : r ≡ judgedLine b os line
 
 -- The words that a part is in: a low part is in the order's own words, and a middle part in those of its cut.
 abbrev pub speltIn : Bool → List ℕ → List ℕ → List ℕ
@@ -77,3 +86,11 @@ pub record Seeks (b : Book) (ws os : List ℕ) (at : ℕ) (cut : List ℕ) (r : 
   pub among : entries (r .many) (drop (r .at) ws) ≡ lookedUpIn (r .low) b
   pub sorted : Sorted (entries (r .many) (drop (r .at) ws))
   pub within : r .at + span (r .many) (drop (r .at) ws) ≤ length ws
+
+-- The judgement at a line whose part's search has stopped there.
+abbrev pub unknownOf : Sought → List ℕ → List ℕ → ℕ → ℕ → ℕ → ℕ → Judgement
+unknownOf r key ws line last at left =
+    record {
+      answer = record { number = if r .low then low-unknown else middle-unknown; line = line };
+      near = near (r .many - left) false (placeAt key ws last (r .many - left)) (placeAt key ws at left);
+    }

@@ -2,10 +2,11 @@
 // each function's `requires`.
 ghost use mathlib.Core.Path.{_≡_};
 ghost use mathlib.Core.List.{_++_};
-ghost use Prim.Native.Nat.{_+_, _-_, _≤_};
+ghost use Prim.Native.Nat.{suc, _+_, _-_, _≤_, _<_, _^_};
+ghost use lib.IntN.{pos, negsuc};
 ghost use lib.ListN.{length, getD, take, drop, replicate};
 ghost use Rattle.words.specs.Base.{over};
-ghost use Rattle.words.specs.Compare.{compareOf, before};
+ghost use Rattle.words.specs.Compare.{compareOf, before, signedOf, sizeOf};
 
 // How one slice stands to another.
 pub enum Compared {
@@ -14,8 +15,63 @@ pub enum Compared {
     Higher,
 }
 
-// Compares two slices word by word from the first; a slice that ends first is lower.
-pub fn compare(a: &[u16], b: &[u16]) -> Compared
+// Compares two slices word by word from the first; a slice that ends first is lower. Answers the place of the first word in which they differ, counted from
+// 1: negative if the first slice is lower, positive if it is higher; 0 if they are equal.
+pub fn compare(a: &[u16], b: &[u16]) -> i64
+    ensures { λ r. ⌜ r ≡ signedOf (now (a .entry)) (now (b .entry)) ⌝ }
+{
+    let mut i = 0;
+    while i < a.len() {
+        if b.len() <= i {
+            return above(i);
+        }
+        let x = a[i];
+        let y = b[i];
+        if x < y {
+            return below(i);
+        }
+        if y < x {
+            return above(i);
+        }
+        i += 1;
+    }
+    if i < b.len() {
+        return below(i);
+    }
+    0
+}
+
+// The signed place of word i, words counted from 0, where the first slice is higher.
+fn above(i: usize) -> i64
+    requires { ⌜ i < 2 ^ 62 ⌝ }
+    ensures { λ r. ⌜ r ≡ pos (suc i) ⌝ }
+{
+    let place = i + 1;
+    place as i64
+}
+
+// The signed place of word i, words counted from 0, where the first slice is lower.
+fn below(i: usize) -> i64
+    requires { ⌜ i < 2 ^ 62 ⌝ }
+    ensures { λ r. ⌜ r ≡ negsuc i ⌝ }
+{
+    let place = i + 1;
+    0 - place as i64
+}
+
+// The place without its sign.
+pub fn size(place: i64) -> usize
+    requires { ⌜ sizeOf place < 2 ^ 63 ⌝ }
+    ensures { λ r. ⌜ r ≡ sizeOf place ⌝ }
+{
+    if place < 0 {
+        return (0 - place) as usize;
+    }
+    place as usize
+}
+
+// How the first slice stands to the second: the side that comparing tells, for callers that need no place, by a loop of its own, which is faster.
+pub fn standing(a: &[u16], b: &[u16]) -> Compared
     ensures { λ r. ⌜ r ≡ compareOf (now (a .entry)) (now (b .entry)) ⌝ }
 {
     let mut i = 0;
@@ -53,7 +109,7 @@ pub fn first(words: &[u16]) -> u16
 pub fn precedes(a: &[u16], b: &[u16]) -> bool
     ensures { λ r. ⌜ r ≡ before (now (a .entry)) (now (b .entry)) ⌝ }
 {
-    match compare(a, b) {
+    match standing(a, b) {
         Compared::Lower => true,
         Compared::Equal => false,
         Compared::Higher => false,

@@ -1,6 +1,6 @@
 -- `ask::ask` meets its contract, by what each letter asks for. Assumes nothing.
 use mathlib.Core.Path.{ap, sym, _∙_}
-use Rattle.figures.specs.declared.Answer.{Answer}
+use Rattle.verdicts.specs.declared.Judgement.{Judgement}
 use Rattle.book.specs.Opening.{outcome}
 use Rattle.ask.proofs.Forms.{asks-teaching, asks-withdrawing, asks-judging}
 use borrow.Author.Needs.{needs}
@@ -42,8 +42,8 @@ same-length-3 c = search needs
 
 returns-3 : tie.Need-returns-3
 returns-3 c =
-    ap (λ (r : Answer). outcome r (c .before .before .before .before .before .before .args .book .now)) (c .judge .ensures)
-    ∙ sym (asks-judging _ _ _ (c .before .before .enum-told3 .given .1))
+    ap (λ (r : Judgement). outcome (r .answer) (c .before .before .before .before .before .before .before .args .book .now)) (c .before .judge .ensures)
+    ∙ sym (asks-judging _ _ _ (c .before .before .before .enum-told3 .given .1))
 
 pub ask-spec : {M : Type 1} → statement M
 ask-spec =

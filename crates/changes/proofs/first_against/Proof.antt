@@ -33,26 +33,26 @@ add-start c = omega (arith, room c)
 past-requires : tie.Need-past-requires
 past-requires c κs = omega (arith, room c)
 
-mul-compare : tie.Need-mul-compare
-mul-compare c = search needs
+mul-standing : tie.Need-mul-standing
+mul-standing c = search needs
 
-sub-compare : tie.Need-sub-compare
-sub-compare c = search needs
+sub-standing : tie.Need-sub-standing
+sub-standing c = search needs
 
-part-compare-start : tie.Need-part-compare-start
-part-compare-start c = search needs
+part-standing-start : tie.Need-part-standing-start
+part-standing-start c = search needs
 
-part-compare-end : tie.Need-part-compare-end
-part-compare-end c = omega (arith, room (c .before))
+part-standing-end : tie.Need-part-standing-end
+part-standing-end c = omega (arith, room (c .before))
 
-compare-requires : tie.Need-compare-requires
-compare-requires c κs = search needs
+standing-requires : tie.Need-standing-requires
+standing-requires c κs = search needs
 
 returns-2 : tie.Need-returns-2
 returns-2 c =
     let x = c .before .before .before .before .before .before .args in
     let p = c .before .before in
-    rw (entries-at (x .book .now) (x .at) (x .left) (p .past .result) (omega (arith, p .before .if1 .left)) (p .past .ensures)) (c .compare .ensures)
+    rw (entries-at (x .book .now) (x .at) (x .left) (p .past .result) (omega (arith, p .before .if1 .left)) (p .past .ensures)) (c .standing .ensures)
 
 pub first-against-spec : {M : Type 1} → statement M
 first-against-spec =
@@ -61,9 +61,9 @@ first-against-spec =
     returns
     add-start
     past-requires
-    mul-compare
-    sub-compare
-    part-compare-start
-    part-compare-end
-    compare-requires
+    mul-standing
+    sub-standing
+    part-standing-start
+    part-standing-end
+    standing-requires
     returns-2)

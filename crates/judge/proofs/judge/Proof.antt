@@ -2,7 +2,7 @@
 use mathlib.Core.Path.{sym, _∙_}
 use borrow.Author.Needs.{needs}
 use Rattle.book.proofs.Holding.{holds}
-use Rattle.verdicts.proofs.Judgements.{judge-unheld}
+use Rattle.verdicts.proofs.Judgements.{judgement-unheld}
 use Rattle.judge.proofs.judge.Statement.{statement}
 use Rattle.judge.proofs.judge.Tie as tie
 
@@ -12,8 +12,8 @@ in-form-requires c κs = search needs
 enum-known-number : tie.Need-enum-known-number
 enum-known-number c = search needs
 
-answered-requires : tie.Need-answered-requires
-answered-requires c κs = search needs
+plainly-requires : tie.Need-plainly-requires
+plainly-requires c κs = search needs
 
 enum-known-places : tie.Need-enum-known-places
 enum-known-places c = search needs
@@ -22,7 +22,7 @@ judge-order-requires : tie.Need-judge-order-requires
 judge-order-requires c κs = holds _ _ (sym (c .before .before .before .in-form .ensures) ∙ c .before .places .given .1)
 
 returns : tie.Need-returns
-returns c = c .answered .ensures ∙ sym (judge-unheld _ _ _ (sym (c .before .before .before .before .in-form .ensures) ∙ c .before .before .number .given .1))
+returns c = c .plainly .ensures ∙ sym (judgement-unheld _ _ _ (sym (c .before .before .before .before .in-form .ensures) ∙ c .before .before .number .given .1))
 
 returns-2 : tie.Need-returns-2
 returns-2 c = search needs
@@ -33,7 +33,7 @@ judge-spec =
     (tie.spec
     in-form-requires
     enum-known-number
-    answered-requires
+    plainly-requires
     enum-known-places
     judge-order-requires
     returns

@@ -1,18 +1,15 @@
 -- `judge::judge_order` meets its contract, by the tests that it makes in turn. Assumes nothing.
 use mathlib.Core.Path.{_≡_, ap, sym, _∙_}
-use native.Mathlib.Omega.{arith}
 use borrow.Author.Needs.{needs}
-use borrow.Author.Tests.{not-true, not-false}
 use lib.ListN.{length}
 use Rattle.figures.specs.Limits.{most-nodes}
-use Rattle.figures.specs.Numbers.{done}
-use Rattle.figures.specs.Answers.{answered}
+use Rattle.figures.specs.Numbers.{done, top-unknown}
+use Rattle.section.specs.declared.Neighbours.{Neighbours}
 use Rattle.trees.specs.Reading.{causeOf}
 use Rattle.trees.specs.Levels.{LinesLevelled}
-use Rattle.trees.proofs.Causes.{has-tree}
 use Rattle.book.specs.Decoding.{bookIn}
-use Rattle.verdicts.specs.Seeking.{lineAnswer}
-use Rattle.verdicts.proofs.Judgements.{line-within, judge-refused, judge-line, judge-top, judge-passes}
+use Rattle.verdicts.specs.Seeking.{topNear, lineToFix, plainlyOf}
+use Rattle.verdicts.proofs.Judgements.{judge-refused, judge-line, judge-top, judge-passes}
 use Rattle.judge.proofs.judge_order.Statement.{statement}
 use Rattle.judge.proofs.judge_order.Tie as tie
 
@@ -27,63 +24,60 @@ listed c = let a = c .before .cause-into in (a .ensures .1 .0 (ordered c), a .en
 cause-into-requires : tie.Need-cause-into-requires
 cause-into-requires c κs = search needs
 
-answered-requires : tie.Need-answered-requires
-answered-requires c κs = search needs
+plainly-requires : tie.Need-plainly-requires
+plainly-requires c κs = search needs
 
 returns : tie.Need-returns
 returns c =
     let a = c .before .before .cause-into in
-    c .answered .ensures ∙ ap answered (a .ensures .0) ∙ sym (judge-refused _ _ _ (c .before .before .before .before .before .before .pre) (λ e. c .before .if1 .taken (a .ensures .0 ∙ e)))
+    c .plainly .ensures ∙ ap plainlyOf (a .ensures .0) ∙ sym (judge-refused _ _ _ (c .before .before .before .before .before .before .pre) (λ e. c .before .if1 .taken (a .ensures .0 ∙ e)))
 
 line-to-fix-requires : tie.Need-line-to-fix-requires
 line-to-fix-requires c κs = let o = c .before in (o .before .before .before .before .before .pre, (ordered o, listed o))
 
-line-answer-requires : tie.Need-line-answer-requires
-line-answer-requires c κs =
-    let o = c .before .before .before .before in
-    let s = o .before .before .before .before .before .args in
-    let t = has-tree (s .order .now) (ordered o) in
-    let within = line-within (bookIn (s .book .now)) (s .order .now) (t .tree) (t .passes) in
-    (ordered o, ((omega (arith, c .before .if2 .taken), omega (arith, c .before .before .line-to-fix .ensures, within)), listed o))
-
 returns-2 : tie.Need-returns-2
 returns-2 c =
-    let o = c .before .before .before .before .before in
-    let s = o .before .before .before .before .before in
-    let f = c .before .before .before .line-to-fix .ensures in
-    c .line-answer .ensures ∙ ap (lineAnswer (s .args .places .k .k) (s .args .order .now)) f
-    ∙ sym (judge-line _ _ _ (s .pre) (ordered o) (λ z. c .before .before .if2 .taken (f ∙ z)))
+    let o = c .before .before .before .before in
+    let f = c .before .before .line-to-fix .ensures in
+    f .is ∙ sym (judge-line _ _ _ (o .before .before .before .before .before .pre) (ordered o) (λ z. c .if2 .taken (f .at ∙ z)))
 
-top-known-requires : tie.Need-top-known-requires
-top-known-requires c κs = let o = c .before .before .before .before in (o .before .before .before .before .before .pre, (ordered o, listed o))
+top-near-requires : tie.Need-top-near-requires
+top-near-requires c κs = let o = c .before .before .before .before .before in (o .before .before .before .before .before .pre, (ordered o, listed o))
+
+plainly-requires-2 : tie.Need-plainly-requires-2
+plainly-requires-2 c κs = search needs
+
+-- No line is to be fixed.
+none : (c : tie.After-top-near) → let s = c .before .before .before .before .before .before .before .before .before .before .before .args in lineToFix (bookIn (s .book .now)) (s .order .now) ≡ 0
+none c = sym (c .before .before .before .before .line-to-fix .ensures .at) ∙ c .before .before .if2 .left
+
+-- Whether the top is there is what its neighbours say.
+topped : (c : tie.After-top-near) → let s = c .before .before .before .before .before .before .before .before .before .before .before .args in c .top-near .result .there ≡ topNear (bookIn (s .book .now)) (s .order .now) .there
+topped c = ap (λ (r : Neighbours). r .there) (c .top-near .ensures)
 
 returns-3 : tie.Need-returns-3
 returns-3 c =
-    let o = c .before .before .before .before .before .before in
-    let l = c .before .before .before .before in
-    sym (judge-top _ _ _ (o .before .before .before .before .before .pre) (ordered o) (sym (l .line-to-fix .ensures) ∙ c .before .before .before .if2 .left) (sym (c .before .top-known .ensures) ∙ not-true _ (c .if3 .taken)))
-
-answered-requires-2 : tie.Need-answered-requires-2
-answered-requires-2 c κs = search needs
+    let t = c .before .before in
+    let o = t .before .before .before .before .before .before in
+    c .plainly2 .ensures ∙ sym (judge-passes _ _ _ (o .before .before .before .before .before .pre) (ordered o) (none t) (sym (topped t) ∙ c .before .if3 .taken))
 
 returns-4 : tie.Need-returns-4
 returns-4 c =
-    let o = c .before .before .before .before .before .before .before in
-    let l = c .before .before .before .before .before in
-    c .answered2 .ensures
-    ∙ sym (judge-passes _ _ _ (o .before .before .before .before .before .pre) (ordered o) (sym (l .line-to-fix .ensures) ∙ c .before .before .before .before .if2 .left) (sym (c .before .before .top-known .ensures) ∙ not-false _ (c .before .if3 .left)))
+    let t = c .before in
+    let o = t .before .before .before .before .before .before in
+    ap (λ (r : Neighbours). record { answer = record { number = top-unknown; line = 1 }; near = r }) (t .top-near .ensures)
+    ∙ sym (judge-top _ _ _ (o .before .before .before .before .before .pre) (ordered o) (none t) (sym (topped t) ∙ c .if3 .left))
 
 pub judge-order-spec : {M : Type 1} → statement M
 judge-order-spec =
     tie.close
     (tie.spec
     cause-into-requires
-    answered-requires
+    plainly-requires
     returns
     line-to-fix-requires
-    line-answer-requires
     returns-2
-    top-known-requires
+    top-near-requires
+    plainly-requires-2
     returns-3
-    answered-requires-2
     returns-4)

@@ -1,55 +1,67 @@
 -- `judge::line_to_fix` meets its contract: at each turn the lines left are those of a row of trees, and decide. Assumes nothing.
-use Prim.Native.Nat.{_-_}
+use Prim.Native.Nat.{ℕ, _-_, _/_}
+use mathlib.Core.Path.{refl, sym, subst}
 use native.Mathlib.Omega.{arith}
 use borrow.Author.Needs.{needs}
+use lib.ListN.{length}
 use Rattle.book.specs.Decoding.{bookIn}
-use Rattle.verdicts.proofs.Descents.{Down, down-first, down-last, down-next}
+use Rattle.verdicts.specs.Seeking.{JudgedAt}
+use Rattle.verdicts.proofs.Descents.{Down, Next, down-first, down-last, down-next}
+use Rattle.verdicts.proofs.Rounds.{none-judged, own-line}
 use Rattle.judge.proofs.line_to_fix.Statement.{statement}
 use Rattle.judge.proofs.line_to_fix.Tie as tie
 
--- The lines left are those of a row of trees, and the line to fix is the one among them, or the one found before.
+-- The lines left are those of a row of trees, and the line to fix is the one among them, or the one found before, which is judged.
 abbrev Inv-loop : tie.InvT-loop
-Inv-loop book places order levels found₀ from₀ to₀ found from to = Down (bookIn book) order found from to
+Inv-loop book places order levels found₀ from₀ to₀ found from to =
+    Down (bookIn book) order (found .answer .line) from to × JudgedAt (bookIn book) order (found .answer .line) found
 
 -- Each turn leaves fewer lines.
 abbrev μ-loop : tie.MeasureT-loop
 μ-loop book places order levels found₀ from₀ to₀ found from to = to - from
 
+plainly-requires : tie.Need-plainly-requires Inv-loop μ-loop
+plainly-requires c κs = search needs
+
 loop-holds : tie.Need-loop-holds Inv-loop μ-loop
-loop-holds c = down-first _ _ (c .before .before .pre .1 .0)
+loop-holds c =
+    let s = c .before .before .before in
+    let b = bookIn (s .args .book .now) in
+    let o = s .args .order .now in
+    let j = none-judged b o 0 (c .plainly .result) refl (c .plainly .ensures) in
+    (subst (λ (n : ℕ). Down b o n 0 (length o / 2)) (sym (j .at)) (down-first b o (s .pre .1 .0)), own-line _ _ _ _ j)
 
 first-unknown-requires : tie.Need-first-unknown-requires Inv-loop μ-loop
 first-unknown-requires c κs =
-    let s = c .before .before .before in
-    let D = c .loop .inv in
+    let s = c .before .before .before .before in
+    let D = c .loop .inv .0 in
     (s .pre .0, (s .pre .1 .0, ((omega (arith, D .long), D .within), s .pre .1 .1)))
 
 returns : tie.Need-returns Inv-loop μ-loop
-returns c = down-last _ _ _ _ _ _ (c .before .before .loop .inv) (c .before .first-unknown .ensures) (c .if1 .taken)
+returns c =
+    let l = c .before .before in
+    let s = l .before .before .before .before in
+    subst (λ (n : ℕ). JudgedAt (bookIn (s .args .book .now)) (s .args .order .now) n (l .loop .found)) (down-last _ _ _ _ _ _ (l .loop .inv .0) (c .before .first-unknown .ensures .at) (c .if1 .taken)) (l .loop .inv .1)
 
 sub-line-end : tie.Need-sub-line-end Inv-loop μ-loop
 sub-line-end c = search needs
 
+-- The lines to be gone over next, where one is unknown.
+next : (c : tie.Else1 Inv-loop μ-loop) → let l = c .before .before in let s = l .before .before .before .before .args in let f = c .before .first-unknown in
+    Next (bookIn (s .book .now)) (s .order .now) (l .loop .found .answer .line) (l .loop .from) (l .loop .to) (f .result .answer .line) (l .loop .inv .0) (f .ensures .at)
+next c = down-next _ _ _ _ _ _ (c .before .before .loop .inv .0) (c .before .first-unknown .ensures .at) (c .if1 .left)
+
 line-end-requires : tie.Need-line-end-requires Inv-loop μ-loop
 line-end-requires c κs =
     let l = c .before .before in
-    let s = l .before .before .before in
-    let n = down-next _ _ _ _ _ _ (l .loop .inv) (c .before .first-unknown .ensures) (c .if1 .left) in
-    (s .pre .1 .0, (s .pre .1 .1 .0, (omega (arith, n .after, n .has, l .loop .inv .within), s .pre .1 .1 .1)))
+    let s = l .before .before .before .before in
+    (s .pre .1 .0, (s .pre .1 .1 .0, (omega (arith, next c .after, next c .has, l .loop .inv .0 .within), s .pre .1 .1 .1)))
 
 loop-less : tie.Need-loop-less Inv-loop μ-loop
-loop-less c =
-    let l = c .before .before .before in
-    let s = l .before .before .before in
-    let n = down-next _ _ _ _ _ _ (l .loop .inv) (c .before .before .first-unknown .ensures) (c .before .if1 .left) in
-    omega (arith, n .after, n .has, n .down _ (c .line-end .ensures) .1)
+loop-less c = let n = next (c .before) in omega (arith, n .after, n .has, n .down _ (c .line-end .ensures) .1)
 
 loop-again : tie.Need-loop-again Inv-loop μ-loop
-loop-again c =
-    let l = c .before .before .before in
-    let s = l .before .before .before in
-    let n = down-next _ _ _ _ _ _ (l .loop .inv) (c .before .before .first-unknown .ensures) (c .before .if1 .left) in
-    n .down _ (c .line-end .ensures) .0
+loop-again c = (next (c .before) .down _ (c .line-end .ensures) .0, own-line _ _ _ _ (c .before .before .first-unknown .ensures))
 
 pub line-to-fix-spec : {M : Type 1} → statement M
 line-to-fix-spec =
@@ -57,6 +69,7 @@ line-to-fix-spec =
     (tie.spec
     Inv-loop
     μ-loop
+    plainly-requires
     loop-holds
     first-unknown-requires
     returns

@@ -1,9 +1,11 @@
--- `ofb_judge` meets its contract: the line is 64 at most. Assumes nothing.
-use mathlib.Core.Path.{ap, _∙_}
+-- `ofb_judge` meets its contract: the line is 64 at most, and what the book expected fits too. Assumes nothing.
+use Prim.Native.Nat.{_^_}
+use mathlib.Core.Path.{ap, sym, subst, _∙_}
 use native.Mathlib.Omega.{arith}
-use Rattle.figures.specs.declared.Answer.{Answer}
-use Rattle.ofb.specs.Interface.{toldOf}
-use Rattle.ofb.proofs.Figures.{judge-line-most}
+use Rattle.section.specs.Near.{Small}
+use Rattle.verdicts.specs.declared.Judgement.{Judgement}
+use Rattle.ofb.specs.Interface.{toldJudgedOf}
+use Rattle.ofb.proofs.Figures.{judge-line-most, expected-fits}
 use borrow.Author.Needs.{needs}
 use Rattle.ofb.proofs.ofb_judge.Statement.{statement}
 use Rattle.ofb.proofs.ofb_judge.Tie as tie
@@ -11,13 +13,15 @@ use Rattle.ofb.proofs.ofb_judge.Tie as tie
 judge-requires : tie.Need-judge-requires
 judge-requires c κs = search needs
 
-told-requires : tie.Need-told-requires
-told-requires c κs =
-    let a = c .before .before .before .args in
-    omega (arith, ap (λ (a : Answer). a .line) (c .judge .ensures), judge-line-most (a .book .now) (a .order .now))
+told-judged-requires : tie.Need-told-judged-requires
+told-judged-requires c κs =
+    let a = c .before .before .before .args in (
+      omega (arith, ap (λ (j : Judgement). j .answer .line) (c .judge .ensures), judge-line-most (a .book .now) (a .order .now)),
+      subst (λ (j : Judgement). Small (2 ^ 16) (j .near)) (sym (c .judge .ensures)) (expected-fits (a .book .now) (a .order .now)),
+    )
 
 returns : tie.Need-returns
-returns c = c .told .ensures ∙ ap toldOf (c .before .judge .ensures)
+returns c = c .told-judged .ensures ∙ ap toldJudgedOf (c .before .judge .ensures)
 
 pub ofb-judge-spec : {M : Type 1} → statement M
-ofb-judge-spec = tie.close (tie.spec judge-requires told-requires returns)
+ofb-judge-spec = tie.close (tie.spec judge-requires told-judged-requires returns)

@@ -32,26 +32,26 @@ returns-2 c =
 past-requires : tie.Need-past-requires
 past-requires c κs = let s = c .before .before .before .before .before in words-room _ _ (s .pre .0) (s .pre .1 .0)
 
-mul-compare : tie.Need-mul-compare
-mul-compare c = search needs
+mul-standing : tie.Need-mul-standing
+mul-standing c = search needs
 
-sub-compare : tie.Need-sub-compare
-sub-compare c = search needs
+sub-standing : tie.Need-sub-standing
+sub-standing c = search needs
 
-part-compare-start : tie.Need-part-compare-start
-part-compare-start c = search needs
+part-standing-start : tie.Need-part-standing-start
+part-standing-start c = search needs
 
-part-compare-end : tie.Need-part-compare-end
-part-compare-end c = let s = c .before .before .before .before .before .before in omega (arith, c .past .ensures, words-room _ _ (s .pre .0) (s .pre .1 .0))
+part-standing-end : tie.Need-part-standing-end
+part-standing-end c = let s = c .before .before .before .before .before .before in omega (arith, c .past .ensures, words-room _ _ (s .pre .0) (s .pre .1 .0))
 
-compare-requires : tie.Need-compare-requires
-compare-requires c κs = search needs
+standing-requires : tie.Need-standing-requires
+standing-requires c κs = search needs
 
 returns-3 : tie.Need-returns-3
 returns-3 c =
     let p = c .before .before in
     let s = p .before .before .before .before .before .before in
-    c .compare .ensures ∙ ap (λ (k : List ℕ). compareOf k (s .args .key .now)) (key-words _ _ (s .pre .0) (s .pre .1 .0) _ (p .past .ensures))
+    c .standing .ensures ∙ ap (λ (k : List ℕ). compareOf k (s .args .key .now)) (key-words _ _ (s .pre .0) (s .pre .1 .0) _ (p .past .ensures))
 
 pub against-spec : {M : Type 1} → statement M
 against-spec =
@@ -63,9 +63,9 @@ against-spec =
     returns
     returns-2
     past-requires
-    mul-compare
-    sub-compare
-    part-compare-start
-    part-compare-end
-    compare-requires
+    mul-standing
+    sub-standing
+    part-standing-start
+    part-standing-end
+    standing-requires
     returns-3)

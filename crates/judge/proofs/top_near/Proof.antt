@@ -1,19 +1,20 @@
--- `judge::top_known` meets its contract: the words sought in R are those of the order's top. Assumes nothing.
+-- `judge::top_near` meets its contract: the words sought in R are those of the order's top. Assumes nothing.
 use Prim.Native.Nat.{_-_}
-use mathlib.Core.Path.{_≡_, refl}
+use mathlib.Core.Path.{_≡_, refl, ap, _∙_}
 use native.Mathlib.Omega.{arith}
 use borrow.Author.Needs.{needs}
 use lib.ListN.{take, drop}
 use Rattle.figures.specs.Limits.{most-words}
+use Rattle.section.specs.Near.{nearIn}
 use Rattle.trees.specs.Trees.{words}
 use Rattle.trees.specs.Parts.{top}
 use Rattle.trees.proofs.Causes.{HasTree, has-tree}
 use Rattle.book.specs.declared.Section.the-variants.{Tops}
-use Rattle.verdicts.proofs.Tops.{top-count, top-key, top-there, top-lacking}
+use Rattle.verdicts.proofs.Tops.{top-count, top-key, top-found}
 use Rattle.trees.proofs.Orders.{some-lines}
 use Rattle.trees.proofs.Spots.{two-words-a-line, top-room}
-use Rattle.judge.proofs.top_known.Statement.{statement}
-use Rattle.judge.proofs.top_known.Tie as tie
+use Rattle.judge.proofs.top_near.Statement.{statement}
+use Rattle.judge.proofs.top_near.Tie as tie
 
 -- The order's tree.
 tree : (s : tie.Start) → HasTree (s .args .order .now)
@@ -60,24 +61,17 @@ part-find-end c =
 find-requires : tie.Need-find-requires
 find-requires c κs = (c .before .before .before .before .before .before .before .before .before) .pre .0 .section Tops .within
 
-enum-told : tie.Need-enum-told
-enum-told c = search needs
-
-enum-told-2 : tie.Need-enum-told-2
-enum-told-2 c = search needs
+around-requires : tie.Need-around-requires
+around-requires c κs = search needs
 
 returns : tie.Need-returns
 returns c =
-    let s = c .before .before .before .before .before .before .before .before .before .before .before .before in
-    top-there _ _ _ _ (s .pre .0) (tree s .passes) _ _ _ (key (c .before .before .before .before .before .before)) refl (c .before .before .find .ensures) _ (c .enum-told .given .1)
+    let s = c .before .before .before .before .before .before .before .before .before .before .before in
+    c .around .ensures ∙ ap nearIn (c .before .find .ensures)
+    ∙ top-found _ _ _ _ (s .pre .0) (tree s .passes) _ _ (key (c .before .before .before .before .before)) refl
 
-returns-2 : tie.Need-returns-2
-returns-2 c =
-    let s = c .before .before .before .before .before .before .before .before .before .before .before .before in
-    top-lacking _ _ _ _ (s .pre .0) (tree s .passes) _ _ _ (key (c .before .before .before .before .before .before)) refl (c .before .before .find .ensures) _ (c .enum-told2 .given .1)
-
-pub top-known-spec : {M : Type 1} → statement M
-top-known-spec =
+pub top-near-spec : {M : Type 1} → statement M
+top-near-spec =
     tie.close
     (tie.spec
     of-tops-requires
@@ -89,7 +83,5 @@ top-known-spec =
     part-find-start
     part-find-end
     find-requires
-    enum-told
-    enum-told-2
-    returns
-    returns-2)
+    around-requires
+    returns)
