@@ -7,13 +7,13 @@ use mathlib.Core.List.{List, [], _∷_}
 use mathlib.Core.Option.{Option, none, some}
 use native.Mathlib.Omega.{arith}
 use lib.Dec.{leb}
-use lib.ListN.{length, drop, length-append, length-reverse}
+use lib.ListN.{length, drop, length-reverse}
 use Rattle.words.specs.Base.{if_then_else_, within}
-use Rattle.figures.specs.Limits.{most-nodes, most-words, head-words, least-k, greatest-k, most-book-words}
+use Rattle.figures.specs.Limits.{most-nodes, most-words, least-k, greatest-k, most-book-words}
 use Rattle.figures.specs.Answers.{answered}
 use Rattle.figures.specs.declared.Answer.{Answer}
-use Rattle.section.specs.Entries.{sectionWords, has}
-use Rattle.section.specs.Near.{nowhere, Small}
+use Rattle.section.specs.Entries.{has}
+use Rattle.section.specs.Near.{nowhere, nearOf, Small}
 use Rattle.section.proofs.Near.{nowhere-small, near-small}
 use Rattle.trees.specs.Trees.{Tree, words, subtrees}
 use Rattle.trees.specs.Reading.{byOrder, orderOf}
@@ -30,12 +30,15 @@ use Rattle.form.proofs.LineBytes.{spell-most}
 use Rattle.form.proofs.TreeLines.{lines-count}
 use Rattle.form.proofs.Trips.{form-write, fault-write}
 use Rattle.form.proofs.Unique.{form-text}
-use Rattle.book.specs.Book.{Book, body, used}
+use Rattle.book.specs.Book.{Book, sectionOf, used}
 use Rattle.book.specs.Decoding.{byBook, sized, onBook, bookFormOf}
 use Rattle.book.specs.Sound.{IsBook, WhyForm, shorter, longer, formless, book}
 use Rattle.book.specs.Taught.{agreeing}
 use Rattle.book.specs.Opening.{Outcome, openOf}
 use Rattle.book.specs.declared.BookForm.the-variants.{Refused}
+use Rattle.book.specs.declared.Section.{Section}
+use Rattle.book.specs.declared.Section.the-variants.{Tops, Lows, Middles}
+use Rattle.amend.proofs.Sections.{used-split}
 use Rattle.book.proofs.Meaning.{used-fits}
 use Rattle.book.proofs.Holding.{refused-book}
 use Rattle.book.proofs.Sound.{on-any, why-is}
@@ -135,30 +138,21 @@ judge-line-most ws os =
 
 -- ---- what the book expected
 
--- The words of a section are fewer than those of its book, by the seven of the head.
-tops-few : (b : Book) → length (sectionWords (b .R)) + head-words ≤ used b
-unfolding used body
-tops-few b = simp length-append (omega arith)
-
-lows-few : (b : Book) → length (sectionWords (b .L)) + head-words ≤ used b
-unfolding used body
-lows-few b = simp length-append (omega arith)
-
-middles-few : (b : Book) → length (sectionWords (b .P)) + head-words ≤ used b
-unfolding used body
-middles-few b = simp length-append (omega arith)
+-- What a section of a book that fits says of a key has figures of 16 bits.
+section-small : (s : Section) (b : Book) → used b ≤ most-book-words → (key : List ℕ) → Small (2 ^ 16) (nearOf key (sectionOf s b))
+section-small s b few key = near-small (2 ^ 16) key (sectionOf s b) (omega (arith, used-split s b))
 
 -- What a book that fits expects has figures of 16 bits.
 expected-small : (b : Book) (t : Tree) → used b ≤ most-book-words → Small (2 ^ 16) (expected b t)
-unfolding expected expectedOn nearTop nearPart
+unfolding expected expectedOn nearTop nearPart sectionOf
 expected-small b t few = go (leastToFix b 1 (subtrees t))
   where
     -- By the line that is doubted.
     go : (d : Doubt) → Small (2 ^ 16) (expectedOn b t d)
     go no-doubt =
-        either-way (Small (2 ^ 16)) (has (words (top (b .k) t)) (b .R)) _ _ (nowhere-small (2 ^ 16) (omega arith)) (near-small (2 ^ 16) _ (b .R) (omega (arith, tops-few b)))
+        either-way (Small (2 ^ 16)) (has (words (top (b .k) t)) (b .R)) _ _ (nowhere-small (2 ^ 16) (omega arith)) (section-small Tops b few _)
     go (doubt line s) =
-        either-way (Small (2 ^ 16)) (isLow (b .k) s) _ _ (near-small (2 ^ 16) _ (b .L) (omega (arith, lows-few b))) (near-small (2 ^ 16) _ (b .P) (omega (arith, middles-few b)))
+        either-way (Small (2 ^ 16)) (isLow (b .k) s) _ _ (section-small Lows b few _) (section-small Middles b few _)
 
 -- Judging: whatever is handed on has figures of 16 bits.
 pub expected-fits : (ws os : List ℕ) → Small (2 ^ 16) (expectedOf ws os)

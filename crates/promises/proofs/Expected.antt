@@ -22,7 +22,8 @@ use Rattle.trees.proofs.Paper.{r-only, top-is-r}
 use Rattle.book.specs.declared.BookForm.the-variants.{Refused}
 use Rattle.book.proofs.Sound.{why-only}
 use Rattle.verdicts.specs.Judging.{judgeOf}
-use Rattle.verdicts.specs.Expecting.{expectedOf}
+use Rattle.verdicts.specs.Expecting.{expectedOf, judgementOf}
+use Rattle.verdicts.specs.declared.Judgement.{Judgement}
 use Rattle.verdicts.specs.Verdicts.{In, Judged, no-book, no-order, judged}
 use Rattle.verdicts.proofs.Judgements.{none-by-cause, none-unheld}
 use Rattle.verdicts.proofs.Answers.{judged-is, answered-top, answered-low, answered-middle}
@@ -67,6 +68,10 @@ found-exactly key at es s r =
 -- ---- what judging hands on
 
 module _ (ws os : List ℕ) where
+  -- "Two outcomes allowed by one promise are shown equal": `judge::judge`, with number, line and neighbours.
+  pub one-judged : {r s : Judgement} → r ≡ judgementOf ws os → s ≡ judgementOf ws os → r ≡ s
+  one-judged e f = e ∙ sym f
+
   -- "with any other answer it is all 0 and not there", for all words.
   pub expected-none : (judgeOf ws os .number ≡ top-unknown → ⊥) → (judgeOf ws os .number ≡ low-unknown → ⊥) → (judgeOf ws os .number ≡ middle-unknown → ⊥)
       → expectedOf ws os ≡ nowhere

@@ -23,7 +23,7 @@ use Rattle.section.specs.Entries.{Entry, has, placeIn, Below, Sorted}
 use Rattle.section.specs.Near.{near, nowhere, entriesBelow, entriesAbove, lastPlace, firstPlace, nearOf}
 use Rattle.section.specs.declared.Neighbours.{Neighbours}
 use Rattle.section.proofs.Counts.{has-entry, entry-has}
-use Rattle.section.proofs.Near.{below-lower, below-equal, below-higher, above-higher, above-lower, above-equal}
+use Rattle.section.proofs.Near.{lower-is-below, equal-not-below, higher-not-below, higher-is-above, lower-not-above, equal-not-above}
 use Rattle.trees.specs.Trees.{Tree, words, subtrees}
 use Rattle.trees.specs.Reading.{found}
 use Rattle.trees.specs.Parts.{top, isLow, middle}
@@ -93,9 +93,9 @@ below-many key (e ∷ es) = go (compareOf (e .key) key) refl (below-many key es)
     -- By how the first entry stands.
     go : (o : Compared) → compareOf (e .key) key ≡ o → HowMany (λ f. IsLower (f .key) key) es (length (entriesBelow key es))
         → HowMany (λ f. IsLower (f .key) key) (e ∷ es) (length (entriesBelow key (e ∷ es)))
-    go Lower c ih = rw (below-lower key e es c) (one-more (lower-is (e .key) key c) ih)
-    go Equal c ih = rw (below-equal key e es c) (not-this (λ l. lower-not-equal _ _ c (is-lower _ _ l)) ih)
-    go Higher c ih = rw (below-higher key e es c) (not-this (λ l. lower-not-higher _ _ c (is-lower _ _ l)) ih)
+    go Lower c ih = rw (lower-is-below key e es c) (one-more (lower-is (e .key) key c) ih)
+    go Equal c ih = rw (equal-not-below key e es c) (not-this (λ l. lower-not-equal _ _ c (is-lower _ _ l)) ih)
+    go Higher c ih = rw (higher-not-below key e es c) (not-this (λ l. lower-not-higher _ _ c (is-lower _ _ l)) ih)
 
 -- ---- the last below
 
@@ -126,9 +126,9 @@ last-of p key (e ∷ es) s = go (compareOf (e .key) key) refl (λ q. last-of q k
     -- By how the first entry stands.
     go : (o : Compared) → compareOf (e .key) key ≡ o → ((q : ℕ) → LastIs q key es (lastPlace q key (entriesBelow key es)))
         → LastIs p key (e ∷ es) (lastPlace p key (entriesBelow key (e ∷ es)))
-    go Lower c ih = rw (below-lower key e es c) (unfold lastPlace in first c (ih (placeIn key e)))
-    go Equal c ih = rw (below-equal key e es c) (past (lower-not-equal _ _ c) (ih p))
-    go Higher c ih = rw (below-higher key e es c) (past (lower-not-higher _ _ c) (ih p))
+    go Lower c ih = rw (lower-is-below key e es c) (unfold lastPlace in first c (ih (placeIn key e)))
+    go Equal c ih = rw (equal-not-below key e es c) (past (lower-not-equal _ _ c) (ih p))
+    go Higher c ih = rw (higher-not-below key e es c) (past (lower-not-higher _ _ c) (ih p))
 
 -- So it is the place that 02 wants.
 place-below : (key : List ℕ) (es : List Entry) → Sorted es → PlaceBelow key es (lastPlace 0 key (entriesBelow key es))
@@ -168,9 +168,9 @@ first-of key (e ∷ es) s = go (compareOf (e .key) key) refl (first-of key es (s
     -- By how the first entry stands.
     go : (o : Compared) → compareOf (e .key) key ≡ o → FirstIs key es (firstPlace key (entriesAbove key es))
         → FirstIs key (e ∷ es) (firstPlace key (entriesAbove key (e ∷ es)))
-    go Lower c ih = rw (above-lower key e es c) (past (lower-not-higher _ _ (compare-flip (e .key) key ∙ ap flip c)) ih)
-    go Equal c ih = rw (above-equal key e es c) (past (lower-not-equal _ _ (compare-flip (e .key) key ∙ ap flip c)) ih)
-    go Higher c ih = rw (above-higher key e es c) (unfold firstPlace in first (compare-flip (e .key) key ∙ ap flip c))
+    go Lower c ih = rw (lower-not-above key e es c) (past (lower-not-higher _ _ (compare-flip (e .key) key ∙ ap flip c)) ih)
+    go Equal c ih = rw (equal-not-above key e es c) (past (lower-not-equal _ _ (compare-flip (e .key) key ∙ ap flip c)) ih)
+    go Higher c ih = rw (higher-is-above key e es c) (unfold firstPlace in first (compare-flip (e .key) key ∙ ap flip c))
 
 -- So it is the place that 02 wants.
 place-above : (key : List ℕ) (es : List Entry) → Sorted es → PlaceAbove key es (firstPlace key (entriesAbove key es))

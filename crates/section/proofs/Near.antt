@@ -7,16 +7,17 @@ use mathlib.Core.List.{List, [], _∷_}
 use native.Mathlib.Omega.{arith}
 use lib.ListN.{length}
 use Rattle.words.specs.Base.{if_then_else_, keep}
-use Rattle.words.specs.Compare.{compareOf, _≺_, before}
+use Rattle.words.specs.Compare.{compareOf, before}
 use Rattle.words.specs.declared.Compared.{Compared}
 use Rattle.words.specs.declared.Compared.the-variants.{Lower, Equal, Higher}
 use Rattle.words.proofs.Differences.{size-most-first}
-use Rattle.words.proofs.Ordered.{flip, compare-equal, compare-flip, ≺-trans}
+use Rattle.words.proofs.Ordered.{flip, compare-equal, compare-flip}
 use Rattle.section.specs.Entries.{Entry, sectionWords, has, byCompared, placeIn, look, Below, Sorted}
 use Rattle.section.specs.Near.{near, nowhere, entriesBelow, entriesAbove, lastPlace, firstPlace, nearOf, nearIn, Small}
 use Rattle.section.specs.declared.Found.{Found}
 use Rattle.section.specs.declared.Found.the-variants.{At, Absent}
 use Rattle.section.specs.declared.Neighbours.{Neighbours}
+use Rattle.section.proofs.Counts.{below-trans}
 use Rattle.section.proofs.Sizes.{size-first}
 use Rattle.section.proofs.Searches.{has-lower, has-equal, has-higher}
 
@@ -24,50 +25,40 @@ use Rattle.section.proofs.Searches.{has-lower, has-equal, has-higher}
 
 module _ (key : List ℕ) (e : Entry) (es : List Entry) where
   -- A lower entry is one of those below.
-  pub below-lower : compareOf (e .key) key ≡ Lower → entriesBelow key (e ∷ es) ≡ e ∷ entriesBelow key es
+  pub lower-is-below : compareOf (e .key) key ≡ Lower → entriesBelow key (e ∷ es) ≡ e ∷ entriesBelow key es
   unfolding entriesBelow keep if_then_else_ before
-  below-lower c = rw c
+  lower-is-below c = rw c
 
   -- An equal one is not.
-  pub below-equal : compareOf (e .key) key ≡ Equal → entriesBelow key (e ∷ es) ≡ entriesBelow key es
+  pub equal-not-below : compareOf (e .key) key ≡ Equal → entriesBelow key (e ∷ es) ≡ entriesBelow key es
   unfolding entriesBelow keep if_then_else_ before
-  below-equal c = rw c
+  equal-not-below c = rw c
 
   -- Nor is a higher one.
-  pub below-higher : compareOf (e .key) key ≡ Higher → entriesBelow key (e ∷ es) ≡ entriesBelow key es
+  pub higher-not-below : compareOf (e .key) key ≡ Higher → entriesBelow key (e ∷ es) ≡ entriesBelow key es
   unfolding entriesBelow keep if_then_else_ before
-  below-higher c = rw c
+  higher-not-below c = rw c
 
   -- A higher entry is one of those above.
-  pub above-higher : compareOf (e .key) key ≡ Higher → entriesAbove key (e ∷ es) ≡ e ∷ entriesAbove key es
+  pub higher-is-above : compareOf (e .key) key ≡ Higher → entriesAbove key (e ∷ es) ≡ e ∷ entriesAbove key es
   unfolding entriesAbove keep if_then_else_ before
-  above-higher c = rw (compare-flip (e .key) key, c)
+  higher-is-above c = rw (compare-flip (e .key) key, c)
 
   -- A lower one is not.
-  pub above-lower : compareOf (e .key) key ≡ Lower → entriesAbove key (e ∷ es) ≡ entriesAbove key es
+  pub lower-not-above : compareOf (e .key) key ≡ Lower → entriesAbove key (e ∷ es) ≡ entriesAbove key es
   unfolding entriesAbove keep if_then_else_ before
-  above-lower c = rw (compare-flip (e .key) key, c)
+  lower-not-above c = rw (compare-flip (e .key) key, c)
 
   -- Nor is an equal one.
-  pub above-equal : compareOf (e .key) key ≡ Equal → entriesAbove key (e ∷ es) ≡ entriesAbove key es
+  pub equal-not-above : compareOf (e .key) key ≡ Equal → entriesAbove key (e ∷ es) ≡ entriesAbove key es
   unfolding entriesAbove keep if_then_else_ before
-  above-equal c = rw (compare-flip (e .key) key, c)
-
-  -- A key lower than the first of ascending entries is lower than the next.
-  below-past : key ≺ e .key → Sorted (e ∷ es) → Below key es
-  unfolding Sorted Below
-  below-past h s = go es (s .1)
-    where
-      -- By the next entry.
-      go : (fs : List Entry) → Below (e .key) fs → Below key fs
-      go [] b = tt
-      go (f ∷ fs) b = ≺-trans key (e .key) (f .key) h b
+  equal-not-above c = rw (compare-flip (e .key) key, c)
 
 -- A key lower than the first of ascending entries has none below it.
 pub none-below : (key : List ℕ) (es : List Entry) → Below key es → Sorted es → entriesBelow key es ≡ []
 unfolding Below Sorted
 none-below key [] h s = unfold entriesBelow keep in refl
-none-below key (e ∷ es) h s = below-higher key e es (compare-flip key (e .key) ∙ ap flip h) ∙ none-below key es (below-past key e es h s) (s .2)
+none-below key (e ∷ es) h s = higher-not-below key e es (compare-flip key (e .key) ∙ ap flip h) ∙ none-below key es (below-trans key (e .key) es h (s .1)) (s .2)
 
 -- ---- what the entries left say
 
@@ -88,21 +79,21 @@ module _ (n p : ℕ) (key : List ℕ) (e : Entry) (es : List Entry) where
   unfolding nearFrom lastPlace
   near-lower c =
       let one : suc n + length (entriesBelow key es) ≡ n + suc (length (entriesBelow key es)) = omega arith in
-      rw (has-lower e es key c, below-lower key e es c, above-lower key e es c, one)
+      rw (has-lower e es key c, lower-is-below key e es c, lower-not-above key e es c, one)
 
   -- An equal entry is the key's, and no later one stands below.
   near-equal : Sorted (e ∷ es) → compareOf (e .key) key ≡ Equal → near n true 0 0 ≡ nearFrom n p key (e ∷ es)
   unfolding nearFrom if_then_else_ Sorted
   near-equal s c =
       let later : Below key es = subst (λ (k : List ℕ). Below k es) (compare-equal (e .key) key c) (s .1) in
-      rw (has-equal e es key c, below-equal key e es c, none-below key es later (s .2)) (ap (λ (m : ℕ). near m true 0 0) (omega arith))
+      rw (has-equal e es key c, equal-not-below key e es c, none-below key es later (s .2)) (ap (λ (m : ℕ). near m true 0 0) (omega arith))
 
   -- A higher entry is the first above, and none from it on stands below.
   near-higher : Sorted (e ∷ es) → compareOf (e .key) key ≡ Higher → near n false p (placeIn key e) ≡ nearFrom n p key (e ∷ es)
   unfolding nearFrom if_then_else_ lastPlace firstPlace Below
   near-higher s c =
       let none = none-below key (e ∷ es) (compare-flip (e .key) key ∙ ap flip c) s in
-      rw (has-higher e es key s c, none, above-higher key e es c) (ap (λ (m : ℕ). near m false p (placeIn key e)) (omega arith))
+      rw (has-higher e es key s c, none, higher-is-above key e es c) (ap (λ (m : ℕ). near m false p (placeIn key e)) (omega arith))
 
 -- ---- the whole search
 
@@ -152,9 +143,9 @@ below-few key (e ∷ es) = go (compareOf (e .key) key) refl (below-few key es)
   where
     -- By how the first entry stands.
     go : (o : Compared) → compareOf (e .key) key ≡ o → length (entriesBelow key es) ≤ length (sectionWords es) → length (entriesBelow key (e ∷ es)) ≤ length (sectionWords (e ∷ es))
-    go Lower c ih = rw (below-lower key e es c, size-first e es) (omega arith)
-    go Equal c ih = rw (below-equal key e es c, size-first e es) (omega arith)
-    go Higher c ih = rw (below-higher key e es c, size-first e es) (omega arith)
+    go Lower c ih = rw (lower-is-below key e es c, size-first e es) (omega arith)
+    go Equal c ih = rw (equal-not-below key e es c, size-first e es) (omega arith)
+    go Higher c ih = rw (higher-not-below key e es c, size-first e es) (omega arith)
 
 -- The place for the last entry below is small if the one before the first is.
 low-few : (m p : ℕ) (key : List ℕ) (es : List Entry) → p ≤ m → suc (length (sectionWords es)) ≤ m → lastPlace p key (entriesBelow key es) ≤ m
@@ -168,9 +159,9 @@ low-few m p key (e ∷ es) h k = go (compareOf (e .key) key) refl (low-few m (pl
     -- By how the first entry stands.
     go : (o : Compared) → compareOf (e .key) key ≡ o → lastPlace (placeIn key e) key (entriesBelow key es) ≤ m → lastPlace p key (entriesBelow key es) ≤ m
         → lastPlace p key (entriesBelow key (e ∷ es)) ≤ m
-    go Lower c one two = rw (below-lower key e es c) (unfold lastPlace in one)
-    go Equal c one two = rw (below-equal key e es c) two
-    go Higher c one two = rw (below-higher key e es c) two
+    go Lower c one two = rw (lower-is-below key e es c) (unfold lastPlace in one)
+    go Equal c one two = rw (equal-not-below key e es c) two
+    go Higher c one two = rw (higher-not-below key e es c) two
 
 -- So is the place for the first above.
 high-few : (key : List ℕ) (es : List Entry) → firstPlace key (entriesAbove key es) ≤ suc (length (sectionWords es))
@@ -180,9 +171,9 @@ high-few key (e ∷ es) = go (compareOf (e .key) key) refl (high-few key es)
     -- By how the first entry stands.
     go : (o : Compared) → compareOf (e .key) key ≡ o → firstPlace key (entriesAbove key es) ≤ suc (length (sectionWords es))
         → firstPlace key (entriesAbove key (e ∷ es)) ≤ suc (length (sectionWords (e ∷ es)))
-    go Lower c ih = rw (above-lower key e es c, size-first e es) (omega arith)
-    go Equal c ih = rw (above-equal key e es c, size-first e es) (omega arith)
-    go Higher c ih = rw (above-higher key e es c, size-first e es) (unfold firstPlace in omega (arith, place-most key e))
+    go Lower c ih = rw (lower-not-above key e es c, size-first e es) (omega arith)
+    go Equal c ih = rw (equal-not-above key e es c, size-first e es) (omega arith)
+    go Higher c ih = rw (higher-is-above key e es c, size-first e es) (unfold firstPlace in omega (arith, place-most key e))
 
 -- Where there are none they are.
 pub nowhere-small : (n : ℕ) → 0 < n → Small n nowhere
