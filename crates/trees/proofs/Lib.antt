@@ -6,6 +6,8 @@ pub mod Once
 pub mod Paper
 pub mod LineParts
 pub mod Reading
+pub mod Rowing
+pub mod Waiting
 pub mod Orders
 pub mod Causes
 pub mod Fitting

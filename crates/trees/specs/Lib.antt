@@ -7,4 +7,5 @@ pub mod Walks
 pub mod Answers
 pub mod Fits
 pub mod Levels
+pub mod Spans
 pub mod Paper

@@ -18,6 +18,24 @@ pub enum Levelled {
     Deep(usize),
 }
 
+// What a node comes to that has so many children: it lacks one; or the line past its subtree, and how deep that is.
+pub enum Spanned {
+    Lacking,
+    To { end: usize, depth: usize },
+}
+
+// What words come to: not one tree, or one of this depth.
+pub enum Measured {
+    Broken,
+    Deep(usize),
+}
+
+// What taking a node's children from a stack of depths leaves: the stack is too short for them; or so many words are left, and the node is so deep.
+pub enum Popped {
+    Short,
+    Left { many: usize, depth: usize },
+}
+
 // A row of trees: the level at which they stand, and how many of them are not done.
 pub struct Row {
     pub level: usize,

@@ -1,0 +1,98 @@
+-- Orders gone over from the last node to the first: where the subtree of each line ends and how deep it is, and the row of trees that words spell. Assumes
+-- nothing: these are definitions.
+use mathlib.Core.List.{List, [], _∷_, _++_}
+use mathlib.Core.Bool.{Bool, true, false}
+use mathlib.Core.Path.{_≡_}
+use Prim.Native.Nat.{ℕ, zero, suc, _+_, max}
+use lib.Dec.{leb}
+use lib.ListN.{length, take, getD}
+use Rattle.words.specs.Base.{if_then_else_}
+use Rattle.figures.specs.Nodes.{soundNode}
+use Rattle.figures.specs.Numbers.{done}
+use Rattle.trees.specs.Trees.{Tree, node, Forest, bare, cons, count, depth, depthF, subtrees, subtreesF}
+use Rattle.trees.specs.Reading.{firstTrees, laterTrees, Found, missing, found, byOrder, orderOf, causeOf}
+use Rattle.trees.specs.declared.Spanned.{Spanned}
+use Rattle.trees.specs.declared.Spanned.the-variants.{Lacking, To}
+use Rattle.trees.specs.declared.Measured.{Measured}
+use Rattle.trees.specs.declared.Measured.the-variants.{Broken, Deep}
+use Rattle.trees.specs.declared.Popped.{Popped}
+use Rattle.trees.specs.declared.Popped.the-variants.{Short, Left}
+
+-- ---- what the scratch says of an order's lines
+
+-- How many lines a tree has, and a row of trees.
+unfoldable mutual
+  pub lines : Tree → ℕ
+  lines (node c f) = suc (linesF f)
+
+  pub linesF : Forest → ℕ
+  linesF bare = 0
+  linesF (cons t f) = lines t + linesF f
+
+-- What the scratch says of subtrees on lines from i on, counted from 0: of each, the line past it, and how deep it is.
+unfoldable pub spansFrom : ℕ → List Tree → List ℕ
+spansFrom i [] = []
+spansFrom i (s ∷ ss) = (i + lines s) ∷ depth s ∷ spansFrom (suc i) ss
+
+-- The spans of an order's lines; none of what is no order.
+unfoldable pub spansIn : List ℕ → List ℕ
+spansIn os = byOrder (orderOf os) (λ n. []) (λ t. spansFrom 0 (subtrees t))
+
+-- What callers know of an order that was gone over: it is one, and the spans of its lines stand at the front of the scratch.
+pub record GoneOver (os ss : List ℕ) : Type 0 where
+  pub sound : causeOf os ≡ done
+  pub spans : take (length os) ss ≡ spansIn os
+
+-- ---- the row of trees that words spell
+
+-- A row of trees, or a fault.
+pub data Rowed : Type 0 where
+  faulty : Rowed
+  rowed : Forest → Rowed
+
+-- A node before a row takes as many of its trees as it has children.
+unfoldable pub nodeBefore : Bool → ℕ → ℕ → Rowed → Rowed
+nodeBefore false c n r = faulty
+nodeBefore true c n faulty = faulty
+nodeBefore true c n (rowed f) = if leb n (count f) then rowed (cons (node c (firstTrees n f)) (laterTrees n f)) else faulty
+
+-- The row of trees that words spell, from their last node on.
+unfoldable pub rowOf : List ℕ → Rowed
+rowOf [] = rowed bare
+rowOf (c ∷ []) = faulty
+rowOf (c ∷ n ∷ ws) = nodeBefore (soundNode c n) c n (rowOf ws)
+
+-- What words come to that are a tree or not: its depth, or none.
+unfoldable pub measuredOf : Found → Measured
+measuredOf missing = Broken
+measuredOf (found t) = Deep (depth t)
+
+-- ---- by spans
+
+-- The words are the spans of a row's subtrees, which stand on lines from i on.
+abbrev pub SpansAre : ℕ → List ℕ → Rowed → Type 0
+SpansAre i ss faulty = ⊥
+SpansAre i ss (rowed f) = ss ≡ spansFrom i (subtreesF f)
+
+-- What a node comes to whose children are the first n trees of a row, which stands on lines from i on.
+unfoldable pub spannedBy : ℕ → ℕ → Rowed → Spanned
+spannedBy i n faulty = Lacking
+spannedBy i n (rowed f) = if leb n (count f) then To (i + linesF (firstTrees n f)) (depthF (firstTrees n f)) else Lacking
+
+-- ---- by a stack of depths
+
+-- The depths of a row's trees as a stack: that of the first tree is the last word.
+unfoldable pub stackOf : Forest → List ℕ
+stackOf bare = []
+stackOf (cons t f) = stackOf f ++ (depth t ∷ [])
+
+-- The first words of the stack are the depths of a row's trees.
+abbrev pub StackIs : ℕ → List ℕ → Rowed → Type 0
+StackIs many ss faulty = ⊥
+StackIs many ss (rowed f) = (many ≡ count f) × (take many ss ≡ stackOf f)
+
+-- What is left of the first words of a stack once n are taken from it, and how deep a node is over those taken and a child of one less than `deep`.
+unfoldable pub poppedBy : ℕ → ℕ → ℕ → List ℕ → Popped
+poppedBy zero many deep ss = Left many deep
+poppedBy (suc n) zero deep ss = Short
+poppedBy (suc n) (suc many) deep ss = poppedBy n many (max deep (suc (getD ss many 0))) ss
