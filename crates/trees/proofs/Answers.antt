@@ -2,24 +2,22 @@
 use mathlib.Core.Path.{_≡_, refl, ap, sym, _∙_}
 use mathlib.Core.Bool.{Bool, true, false}
 use mathlib.Core.List.{List, []}
-use Prim.Native.Nat.{ℕ, _-_, _≤_}
+use Prim.Native.Nat.{ℕ, _+_, _-_, _≤_}
 use native.Mathlib.Omega.{arith}
 use borrow.Author.Tests.{leb-true}
-use lib.Dec.{leb}
 use lib.ListN.{length, take, drop}
 use Rattle.words.specs.Base.{if_then_else_}
 use Rattle.figures.specs.Numbers.{done}
 use Rattle.figures.specs.Answers.{wrote}
-use Rattle.trees.specs.Trees.{Tree, depth, cut}
+use Rattle.trees.specs.Trees.{Tree, words, depth, cut}
 use Rattle.trees.specs.Reading.{byFound, refused, byOrder, orderOf}
 use Rattle.trees.specs.Parts.{isLow, middle, partOf}
-use Rattle.trees.specs.Walks.{walkOf, endOf, cutOf, partWalked, partAtOf, kindOf}
+use Rattle.trees.specs.Standing.{cutOf}
 use Rattle.trees.specs.Answers.{subtreeOf, refuse, write, cutIntoOf, partWriting, noPart, ofKind, partIntoOf}
-use Rattle.trees.specs.declared.Walked.the-variants.{Whole}
+use Rattle.trees.specs.declared.Kind.the-variants.{Low, Middle}
 use Rattle.trees.proofs.Cutting.{cut-shallow}
-use Rattle.trees.proofs.Cuts.{no-words}
-use Rattle.trees.proofs.PartsAt.{part-short}
-use Rattle.trees.proofs.Lines.{walk-spot, cut-spot, HasLine, LacksLine}
+use Rattle.trees.proofs.Writing.{no-words}
+use Rattle.trees.proofs.Lines.{cut-spot, HasLine, LacksLine}
 use Rattle.trees.proofs.Spots.{spot-within, spot-words}
 
 -- ---- an order that is refused
@@ -69,28 +67,24 @@ part-words k t = go (isLow k t) refl
     go true e = rw e (sym (cut-shallow t (k - 1) (omega (arith, leb-true (depth t) (k - 2) e))))
     go false e = rw e refl
 
--- The kind of the part is what the walk of the subtree says.
-part-kind : (k : ℕ) (t : Tree) (e c : ℕ) → kindOf (partWalked k (Whole e (depth t) c)) ≡ partOf k t .kind
-unfolding partWalked partOf isLow if_then_else_
-part-kind k t e c = go (leb (depth t) (k - 2)) refl
+-- The kind of the part is told by whether the subtree is low.
+part-kind : (k : ℕ) (t : Tree) → partOf k t .kind ≡ (if isLow k t then Low else Middle)
+unfolding partOf if_then_else_
+part-kind k t = go (isLow k t) refl
   where
-    go : (b : Bool) → leb (depth t) (k - 2) ≡ b → kindOf (partWalked k (Whole e (depth t) c)) ≡ partOf k t .kind
+    go : (b : Bool) → isLow k t ≡ b → partOf k t .kind ≡ (if isLow k t then Low else Middle)
     go true h = rw h refl
     go false h = rw h refl
 
 module _ (s : List ℕ) (line at : ℕ) (has : HasLine s line at) where
   -- The tree there ends within the order.
-  pub subtree-within : (e : ℕ) → at ≤ length s → e ≡ endOf (walkOf s at 0) → (at ≤ e) × (e ≤ length s)
-  subtree-within e h z =
-      let w = ap endOf (walk-spot s at _ (has .spot) 0) in
-      (omega arith, omega (arith, spot-within s at _ (has .spot) h))
+  pub subtree-within : (e : ℕ) → at ≤ length s → e ≡ at + length (words (has .spot .tree)) → (at ≤ e) × (e ≤ length s)
+  subtree-within e h z = (omega arith, omega (arith, spot-within s at _ (has .spot) h))
 
   -- The words up to where it ends are handed out.
-  pub subtree-has : (e : ℕ) → e ≡ endOf (walkOf s at 0) → subtreeOf s line ≡ take (e - at) (drop at s)
+  pub subtree-has : (e : ℕ) → e ≡ at + length (words (has .spot .tree)) → subtreeOf s line ≡ take (e - at) (drop at s)
   unfolding subtreeOf byOrder byFound
-  subtree-has e z =
-      let w = spot-words s at _ (has .spot) e (z ∙ ap endOf (walk-spot s at _ (has .spot) 0)) in
-      rw (has .is, has .spot .is, w) refl
+  subtree-has e z = let w = spot-words s at _ (has .spot) e z in rw (has .is, has .spot .is, w) refl
 
   -- The cut of the tree there is written.
   pub cut-has : (d : ℕ) (out : List ℕ) → cutIntoOf s line d out ≡ write (cutOf s at d) out
@@ -98,8 +92,8 @@ module _ (s : List ℕ) (line at : ℕ) (has : HasLine s line at) where
   cut-has d out = rw (has .is, has .spot .is, cut-spot s at _ (has .spot) d) refl
 
   -- The kind and the words are those of the tree there.
-  pub part-has : (k : ℕ) (out : List ℕ) → partIntoOf s line k out ≡ ofKind (kindOf (partAtOf s at k)) (write (cutOf s at (k - 1)) out)
+  pub part-has : (k : ℕ) (out : List ℕ) → partIntoOf s line k out ≡ ofKind (if isLow k (has .spot .tree) then Low else Middle) (write (cutOf s at (k - 1)) out)
   unfolding partIntoOf byOrder byFound
   part-has k out =
       let t : Tree = has .spot .tree in
-      rw (has .is, has .spot .is, part-short s at k (has .short), walk-spot s at _ (has .spot) (k - 1), cut-spot s at _ (has .spot) (k - 1), part-kind k t, part-words k t) refl
+      rw (has .is, has .spot .is, cut-spot s at _ (has .spot) (k - 1), part-kind k t, part-words k t) refl

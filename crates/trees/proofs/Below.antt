@@ -9,10 +9,9 @@ use Rattle.words.specs.Base.{_∈_}
 use Rattle.trees.specs.Trees.{Tree, node, Forest, bare, cons, words, subtrees, subtreesF, below}
 use Rattle.trees.specs.Reading.{found}
 use Rattle.trees.specs.Answers.{treeAt}
-use Rattle.trees.specs.Walks.{walkOf, endOf}
 use Rattle.trees.proofs.Orders.{size}
 use Rattle.trees.proofs.Causes.{Passed}
-use Rattle.trees.proofs.Lines.{at-left, at-behind, place-within, tree-next, line-spot, walk-spot}
+use Rattle.trees.proofs.Lines.{at-left, at-behind, place-within, tree-next}
 use Rattle.trees.proofs.LineParts.{at-in, in-at}
 
 -- Where a list that is two lists has a member: in the first of them, or in the second.
@@ -96,12 +95,3 @@ pub line-below : (t s u : Tree) (i m : ℕ) → treeAt (subtrees t) i ≡ found 
 line-below t s u i m e few f =
     let n = below-next t s i e in
     at-in (below s) m (sym (at-left (below s) (n .0) m few) ∙ ap (λ (l : List Tree). treeAt l m) (sym (n .1)) ∙ at-behind (subtrees t) (i + 1) m ∙ f)
-
--- The walk over a line's words ends past the lines of its subtree.
-pub line-ends : (os : List ℕ) (t s : Tree) (i : ℕ) → Passed os t → treeAt (subtrees t) i ≡ found s → endOf (walkOf os (i * 2) 0) / 2 ≡ i + length (subtrees s)
-line-ends os t s i p e =
-    let q = line-spot os t i p (place-within (subtrees t) i s e) in
-    let both : found (q .tree) ≡ found s = sym (q .is) ∙ e in
-    let is : q .tree ≡ s = cc in
-    let past : endOf (walkOf os (i * 2) 0) ≡ i * 2 + length (words s) = ap endOf (walk-spot os (i * 2) _ q 0) ∙ ap (λ (u : Tree). i * 2 + length (words u)) is in
-    omega (arith, past, size s)

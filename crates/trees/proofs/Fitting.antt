@@ -14,17 +14,16 @@ use Rattle.words.specs.declared.Compared.the-variants.{Lower}
 use Rattle.words.proofs.Tests.{no-test, and-left, and-right, and-both, fails-right}
 use Rattle.figures.specs.Limits.{most-nodes, most-words, greatest-depth}
 use Rattle.trees.specs.Trees.{Tree, node, words, depth, cut, subtrees}
-use Rattle.trees.specs.Reading.{found, treeOf, order, byOrder, orderOf}
+use Rattle.trees.specs.Reading.{Found, missing, found, treeOf, order, byOrder, orderOf}
 use Rattle.trees.specs.Parts.{top, isLow, lows, middle, isMiddle, middles, lowParts, middleParts}
-use Rattle.trees.specs.Levels.{deepOf}
-use Rattle.trees.specs.declared.Levelled.the-variants.{Broken, Deep}
+use Rattle.trees.specs.Spans.{measuredOf}
+use Rattle.trees.specs.declared.Measured.the-variants.{Broken, Deep}
 use Rattle.trees.specs.Fits.{fitsOf, IsOrder, Fits}
 use Rattle.trees.proofs.Unique.{words-unique}
 use Rattle.trees.proofs.Once.{kept-in, once-from}
 use Rattle.trees.proofs.Cutting.{depth-cut, cut-depth, cut-deep, cut-good, cut-nodes, subtree-good, subtree-nodes}
 use Rattle.trees.proofs.Paper.{subtree-from, subtree-depth}
 use Rattle.trees.proofs.Orders.{size, words-read, read-words, tree-passes}
-use Rattle.trees.proofs.Deep.{too-deep, deep-found}
 use Rattle.trees.proofs.Causes.{Passed, Seen, stopped, passed, seen, order-passed}
 
 -- ---- what the lines say
@@ -40,11 +39,15 @@ found-passed s t l e d =
     let n : length (subtrees t) ≤ most-nodes = omega (arith, size t, ap length (r .0)) in
     order-passed s t (ap orderOf (r .0) ∙ tree-passes t (r .1) n d)
 
--- A test that passes leaves the other to decide.
-both : (a b : Bool) → b ≡ true → (a and b) ≡ a
-unfolding _and_
-both true b e = e
-both false b e = refl
+-- What is measured of a tree is its depth.
+depth-told : (x : Found) (t : Tree) (d : ℕ) → measuredOf x ≡ Deep d → x ≡ found t → depth t ≡ d
+unfolding measuredOf
+depth-told x t d e f = let same : Deep (depth t) ≡ Deep d = rw f at e in cc
+
+-- Nothing is measured of what is no tree.
+no-depth : {A : Type 0} (d : ℕ) → measuredOf missing ≡ Deep d → A
+unfolding measuredOf
+no-depth d e = absurd (let z : _≡_ {A = ℕ} 0 1 = cc in omega arith)
 
 module _ (least greatest : ℕ) (s : List ℕ) where
   -- Of an order the depth decides.
@@ -65,16 +68,24 @@ module _ (least greatest : ℕ) (s : List ℕ) where
   pub fits-long : most-words < length s → fitsOf least greatest s ≡ false
   fits-long l = fits-none (λ t p. absurd (omega (arith, size t, ap length (p .spelt), p .nodes)))
 
-  -- Words whose lines come to no tree, or to one that is deeper than the greatest depth, do not fit.
-  pub fits-broken : deepOf greatest (treeOf s) ≡ Broken → fitsOf least greatest s ≡ false
-  fits-broken e = fits-none (λ t p. fails-right _ _ (lt-leb (depth t) greatest (too-deep greatest (treeOf s) t e (passed-found p))))
+  -- Words that are no tree do not fit.
+  pub fits-broken : measuredOf (treeOf s) ≡ Broken → fitsOf least greatest s ≡ false
+  unfolding measuredOf
+  fits-broken e = fits-none (λ t p. let z : _≡_ {A = ℕ} 0 1 = cc (rw (passed-found p) at e) in absurd (omega arith))
 
-  -- Of any other the least depth decides.
-  pub fits-deep : (d : ℕ) → length s ≤ most-words → greatest ≤ greatest-depth → deepOf greatest (treeOf s) ≡ Deep d → fitsOf least greatest s ≡ leb least d
-  fits-deep d short g e =
-      let f = deep-found greatest (treeOf s) d e in
-      let p = found-passed s (f .0 .tree) short (f .0 .is) (omega (arith, f .0 .deep, f .1)) in
-      fits-order (f .0 .tree) (p .is) ∙ ap (within least greatest) (f .0 .deep) ∙ both (leb least d) (leb d greatest) (le-leb d greatest (f .1))
+  -- Of a tree of few enough words the depth decides.
+  pub fits-deep : (d : ℕ) → length s ≤ most-words → greatest ≤ greatest-depth → measuredOf (treeOf s) ≡ Deep d → fitsOf least greatest s ≡ within least greatest d
+  fits-deep d short g e = go (treeOf s) refl (leb d greatest) refl
+    where
+      go : (x : Found) → treeOf s ≡ x → (y : Bool) → leb d greatest ≡ y → fitsOf least greatest s ≡ within least greatest d
+      go missing f y l = no-depth d (sym (ap measuredOf f) ∙ e)
+      go (found t) f false l =
+          fits-none (λ u p. fails-right _ _ (ap (λ (n : ℕ). leb n greatest) (depth-told (treeOf s) u d e (passed-found p)) ∙ l))
+          ∙ sym (fails-right (leb least d) (leb d greatest) l)
+      go (found t) f true l =
+          let deep : depth t ≡ d = depth-told (treeOf s) t d e f in
+          let p = found-passed s t short f (omega (arith, leb-true d greatest l)) in
+          fits-order t (p .is) ∙ ap (within least greatest) deep
 
 -- ---- what it means to be an order, and to fit
 

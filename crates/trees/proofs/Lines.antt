@@ -13,9 +13,8 @@ use Rattle.figures.specs.Limits.{most-words}
 use Rattle.figures.specs.Numbers.{done}
 use Rattle.trees.specs.Trees.{Tree, node, Forest, bare, cons, count, words, wordsF, depth, cut, Good, GoodF, subtrees, subtreesF}
 use Rattle.trees.specs.Reading.{byFound, Found, missing, found, refused, order, byOrder, orderOf, causeOf}
-use Rattle.trees.specs.Walks.{firstTree, treeFrom, walked, walkOf, cutOf, linePlace, placeOf}
+use Rattle.trees.specs.Standing.{firstTree, treeFrom, cutOf, linePlace, placeOf}
 use Rattle.trees.specs.Answers.{treeAt, lineOf}
-use Rattle.trees.specs.declared.Walked.the-variants.{Whole}
 use Rattle.trees.specs.declared.Place.{Place}
 use Rattle.trees.specs.declared.Place.the-variants.{Refused, Lacking, At}
 use Rattle.trees.proofs.Reading.{not-found, complete, reads-none}
@@ -148,17 +147,12 @@ subtree-part s t u i p l = pick i (length (subtrees t))
     (q .after, rw e (q .here)))
     (λ h. not-found (sym (at-past (subtrees t) i h) ∙ l))
 
--- What stands at a spot: the tree, what the walk finds, and the words of the cut.
+-- What stands at a spot: the tree, and the words of the cut.
 module _ (s : List ℕ) (at : ℕ) (x : Found) (p : Spot s at x) where
   -- The words from there on begin with the tree.
   pub from-spot : treeFrom s at ≡ found (p .tree)
   unfolding treeFrom firstTree
   from-spot = rw (p .here, complete (p .tree) (p .good) 0 (p .after), reads-none (p .after)) refl
-
-  -- The walk finds the tree.
-  pub walk-spot : (d : ℕ) → walkOf s at d ≡ Whole (at + length (words (p .tree))) (depth (p .tree)) (length (words (cut (p .tree) d)))
-  unfolding walkOf walked
-  walk-spot d = rw from-spot refl
 
   -- The cut is that of the tree.
   pub cut-spot : (d : ℕ) → cutOf s at d ≡ words (cut (p .tree) d)

@@ -11,9 +11,6 @@ use Rattle.figures.specs.Limits.{least-code, greatest-code, most-nodes, most-wo
 use Rattle.figures.specs.Numbers.{done, no-order, too-large}
 use Rattle.trees.specs.Trees.{Tree, node, Forest, bare, cons, count, words, wordsF, depth, Good, GoodF, subtrees, subtreesF}
 use Rattle.trees.specs.Reading.{Reading, broken, read, readTrees, Found, missing, found, only, treeOf, order, byOrder, withinDepth, orderOf, causeOf}
-use Rattle.trees.specs.Walks.{firstTree, treeFrom, walked, walkOf}
-use Rattle.trees.specs.declared.Walked.{Walked}
-use Rattle.trees.specs.declared.Walked.the-variants.{Broken, Whole}
 use Rattle.trees.proofs.Reading.{Sound, sound, complete, reads-none}
 
 -- ---- words and trees
@@ -109,36 +106,17 @@ module _ (s : List ℕ) (z : Sized s) where
   unfolding causeOf byOrder withinDepth if_then_else_
   cause-none h f l = rw (sized-order s z, f .is, f .deep, le-leb _ _ l)
 
--- What the walk from word 0 says of the order's tree: none if it breaks or ends early, and otherwise how deep it is.
-abbrev pub FromTop : List ℕ → Found → Walked → Type 0
-FromTop s x Broken = x ≡ missing
-FromTop s x (Whole e h c) = (e < length s → x ≡ missing) × (length s ≤ e → FoundDeep x h)
-
--- `FromTop` holds of what was read, by cases.
-from-top-of : (s : List ℕ) (p : Reading) → Sound 1 s p → FromTop s (only p) (walked 0 0 (firstTree p))
-unfolding walked firstTree only count wordsF
-from-top-of s broken g = refl
-from-top-of s (read bare r) g = refl
-from-top-of s (read (cons t bare) []) g =
-    let l : length s ≡ length (words t) = ap length (g .0) ∙ simp length-append (omega arith) in
-    (λ h. absurd (omega arith), λ h. record { tree = t; is = refl; deep = refl })
-from-top-of s (read (cons t bare) (x ∷ r)) g =
-    let l : length s ≡ length (words t) + suc (length r) = ap length (g .0) ∙ simp length-append (omega arith) in
-    (λ h. refl, λ h. absurd (omega arith))
-from-top-of s (read (cons t (cons u f)) []) g = absurd (omega (arith, g .1))
-from-top-of s (read (cons t (cons u f)) (x ∷ r)) g = absurd (omega (arith, g .1))
-
--- `FromTop` holds of what a call of the walk answered: its result w is known to be v.
-pub from-top : (s : List ℕ) (w v : Walked) → w ≡ walkOf s 0 0 → w ≡ v → FromTop s (treeOf s) v
-unfolding walkOf treeFrom treeOf
-from-top s w v e f = subst (FromTop s (treeOf s)) (sym e ∙ f) (from-top-of s (readTrees s 1) (sound s 1))
-
 -- ---- the words of a tree
 
 -- A tree has a first line.
 pub some-lines : (t : Tree) → 1 ≤ length (subtrees t)
 unfolding subtrees
 some-lines (node c f) = omega arith
+
+-- It has the two words of its node.
+pub two-words : (t : Tree) → 2 ≤ length (words t)
+unfolding words
+two-words (node c f) = omega arith
 
 -- The length of a tree's words is a cause only if they are too many.
 pub tree-sized : (s : List ℕ) (t : Tree) → s ≡ words t → length s ≤ most-words → Sized s

@@ -40,7 +40,7 @@ opened-words bare l w = refl
 opened-words (cons t f) l w = ap (λ (r : List ℕ). words t ++ r) (opened-words f l w) ∙ sym (append-assoc (words t) (wordsF f) (wordsW w))
 
 -- So are its subtrees,
-opened-subtrees : (f : Forest) (l : ℕ) (w : Waiting) → subtreesW (opened f l w) ≡ subtreesF f ++ subtreesW w
+pub opened-subtrees : (f : Forest) (l : ℕ) (w : Waiting) → subtreesW (opened f l w) ≡ subtreesF f ++ subtreesW w
 unfolding opened subtreesW subtreesF
 opened-subtrees bare l w = refl
 opened-subtrees (cons t f) l w = ap (λ (r : List Tree). subtrees t ++ r) (opened-subtrees f l w) ∙ sym (append-assoc (subtrees t) (subtreesF f) (subtreesW w))

@@ -3,7 +3,7 @@ pub mod Trees
 pub mod Reading
 pub mod Causes
 pub mod Parts
-pub mod Walks
+pub mod Standing
 pub mod Answers
 pub mod Fits
 pub mod Levels

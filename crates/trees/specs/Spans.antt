@@ -3,9 +3,9 @@
 use mathlib.Core.List.{List, [], _∷_, _++_}
 use mathlib.Core.Bool.{Bool, true, false}
 use mathlib.Core.Path.{_≡_}
-use Prim.Native.Nat.{ℕ, zero, suc, _+_, max}
+use Prim.Native.Nat.{ℕ, zero, suc, _+_, _*_, _≤_, max}
 use lib.Dec.{leb}
-use lib.ListN.{length, take, getD}
+use lib.ListN.{length, take, drop, getD, set}
 use Rattle.words.specs.Base.{if_then_else_}
 use Rattle.figures.specs.Nodes.{soundNode}
 use Rattle.figures.specs.Numbers.{done}
@@ -96,3 +96,18 @@ unfoldable pub poppedBy : ℕ → ℕ → ℕ → List ℕ → Popped
 poppedBy zero many deep ss = Left many deep
 poppedBy (suc n) zero deep ss = Short
 poppedBy (suc n) (suc many) deep ss = poppedBy n many (max deep (suc (getD ss many 0))) ss
+
+-- ---- the levels of lines by their spans
+
+-- A row of n trees begins on line i of those that the scratch tells of, and ends within `many` lines.
+pub record RowAt (ss : List ℕ) (i n many : ℕ) : Type 0 where
+  pub row : Forest
+  pub after : List ℕ
+  pub trees : count row ≡ n
+  pub here : drop (2 * i) ss ≡ spansFrom i (subtreesF row) ++ after
+  pub ends : i + linesF row ≤ many
+
+-- The levels once the first lines of n trees have level l, the first of which begins on line i and each other one where the one before it ends.
+unfoldable pub hopped : ℕ → ℕ → ℕ → List ℕ → List ℕ → List ℕ
+hopped zero i l ss ls = ls
+hopped (suc n) i l ss ls = hopped n (getD ss (2 * i) 0) l ss (set ls i l)

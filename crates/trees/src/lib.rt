@@ -2,22 +2,6 @@
 // code. Here are the types that what goes over orders is answered by. Assumes nothing.
 use figures::Written;
 
-// What reading one tree at a word finds: the word past it, its depth, and the number of words of its cut.
-pub enum Walked {
-    Broken,
-    Whole {
-        end: usize,
-        depth: usize,
-        cut: usize,
-    },
-}
-
-// What the lines of words come to: not one tree, or not one of an allowed depth; or a tree of this depth.
-pub enum Levelled {
-    Broken,
-    Deep(usize),
-}
-
 // What a node comes to that has so many children: it lacks one; or the line past its subtree, and how deep that is.
 pub enum Spanned {
     Lacking,
@@ -36,12 +20,6 @@ pub enum Popped {
     Left { many: usize, depth: usize },
 }
 
-// A row of trees: the level at which they stand, and how many of them are not done.
-pub struct Row {
-    pub level: usize,
-    pub trees: u16,
-}
-
 // Where a line of an order stands.
 pub enum Place {
     Refused(u16),
@@ -49,24 +27,11 @@ pub enum Place {
     At(usize),
 }
 
-// What a written cut comes to: the word past the uncut tree, and the number of words written.
-pub struct Laid {
-    pub end: usize,
-    pub count: usize,
-}
-
 // The kind of part that a line stands for.
 pub enum Kind {
     Absent,
     Low,
     Middle,
-}
-
-// The part at a word: a low part is the words up to `end`; a middle part is a cut of `count` words.
-pub enum PartAt {
-    NoPart,
-    LowTo { end: usize },
-    MiddleTo { end: usize, count: usize },
 }
 
 // The answer of `part_into`.

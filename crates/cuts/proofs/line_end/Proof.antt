@@ -1,24 +1,24 @@
--- `cuts::line_end` meets its contract: the walk's end. Assumes nothing.
-use mathlib.Core.Path.{ap, sym, _∙_}
+-- `cuts::line_end` meets its contract. Assumes nothing.
+use Prim.Native.Nat.{_*_}
+use native.Mathlib.Omega.{arith}
 use borrow.Author.Needs.{needs}
-use Rattle.trees.specs.Walks.{endOf}
 use Rattle.cuts.proofs.line_end.Statement.{statement}
 use Rattle.cuts.proofs.line_end.Tie as tie
 
-walk-line-requires : tie.Need-walk-line-requires
-walk-line-requires c κs = search needs
+mul-end : tie.Need-mul-end
+mul-end c = search needs
 
-enum-known-end : tie.Need-enum-known-end
-enum-known-end c = search needs
+mul-end-2 : tie.Need-mul-end-2
+mul-end-2 c = search needs
 
-enum-told : tie.Need-enum-told
-enum-told c = search needs
+shared-slice-read-end : tie.Need-shared-slice-read-end
+shared-slice-read-end c = search needs
+
+cast-result : tie.Need-cast-result
+cast-result c = omega (arith, c .shared-slice-known .given (c .before .args .line * 2))
 
 returns : tie.Need-returns
-returns c = ap endOf (sym (c .enum-told .given .1) ∙ c .before .before .walk-line .ensures)
-
-returns-2 : tie.Need-returns-2
-returns-2 c = ap endOf (sym (c .before .end .given .1) ∙ c .before .before .before .walk-line .ensures)
+returns c = search needs
 
 pub line-end-spec : {M : Type 1} → statement M
-line-end-spec = tie.close (tie.spec walk-line-requires enum-known-end enum-told returns returns-2)
+line-end-spec = tie.close (tie.spec mul-end mul-end-2 shared-slice-read-end cast-result returns)
