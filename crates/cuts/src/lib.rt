@@ -5,9 +5,39 @@ ghost use Prim.Native.Nat.{_+_, _*_, _/_, _≤_, _<_, _^_};
 ghost use lib.ListN.{length, getD};
 ghost use lib.Dec.{leb};
 ghost use Rattle.words.specs.Base.{over, if_then_else_};
+ghost use Rattle.figures.specs.Limits.{most-words};
+ghost use Rattle.figures.specs.Numbers.{done};
+ghost use Rattle.trees.specs.Reading.{causeOf};
 ghost use Rattle.trees.specs.Levels.{LinesLevelled};
 ghost use Rattle.trees.specs.Spans.{GoneOver};
-ghost use Rattle.trees.specs.Walks.{cutOf};
+ghost use Rattle.trees.specs.Standing.{cutOf, placeOf};
+ghost use Rattle.trees.specs.Answers.{subtreeOf, writing, write, cutIntoOf};
+use figures::Written;
+use figures::limits;
+use figures::numbers;
+use figures::wrote;
+use trees::Place;
+
+// Where a line of an order stands; and the spans of the order's lines, at the front of `spans`.
+pub fn find_line(order: &[u16], line: usize, spans: &mut [u16]) -> Place
+    requires { ⌜ most-words ≤ length (now spans) ⌝ }
+    ensures came { λ r. ⌜ r ≡ placeOf (now (order .entry)) line ⌝ }
+    ensures listed { λ _. ⌜ (causeOf (now (order .entry)) ≡ done → GoneOver (now (order .entry)) (now (spans .exit))) ⌝ }
+    ensures kept { λ _. ⌜ length (now (spans .exit)) ≡ length (now (spans .entry)) ⌝ }
+{
+    let number = order::cause_into(order, spans);
+    if number != numbers::DONE {
+        return Place::Refused(number);
+    }
+    if line == 0 {
+        return Place::Lacking;
+    }
+    if order.len() / 2 < line {
+        return Place::Lacking;
+    }
+    let at = (line - 1) * 2;
+    Place::At(at)
+}
 
 // The line past the subtree of a line, both counted from 0, by the spans of an order's lines.
 pub fn line_end(spans: &[u16], line: usize) -> usize
@@ -16,6 +46,22 @@ pub fn line_end(spans: &[u16], line: usize) -> usize
 {
     let end = spans[line * 2];
     end as usize
+}
+
+// The subtree of a line, counted from 1, as that part of the order; an empty part for an order with a cause of 1 or 2 and for a line
+// that the order lacks.
+pub fn subtree(order: &[u16], line: usize) -> &[u16]
+    ensures { λ r. ⌜ now r ≡ subtreeOf (now (order .entry)) line ⌝ }
+{
+    let mut spans = [0u16; limits::MOST_WORDS];
+    match find_line(order, line, &mut spans) {
+        Place::Refused(_) => &order[0..0],
+        Place::Lacking => &order[0..0],
+        Place::At(at) => {
+            let end = line_end(&spans, line - 1) * 2;
+            &order[at..end]
+        }
+    }
 }
 
 // What a node at a depth keeps of its number of children in a cut at d: none at depth d.
@@ -66,4 +112,34 @@ pub fn put_line(
         count += 2;
     }
     count
+}
+
+// Writes the cut at d of the subtree of a line, the lines counted from 0, to the front of `out`, or answers 11 where it has no room. How long it is shows
+// where it is written to a scratch first.
+pub fn cut_line(order: &[u16], spans: &[u16], line: usize, d: usize, out: &mut [u16]) -> Written
+    requires { ⌜ GoneOver (now order) (now spans) ⌝ }
+    requires { ⌜ line < length (now order) / 2 ⌝ }
+    ensures { λ r. ⌜ writing r (now (out .exit)) ≡ write (cutOf (now (order .entry)) (line * 2) d) (now (out .entry)) ⌝ }
+{
+    let mut levels = [0u8; limits::MOST_NODES];
+    order::level_lines(order, spans, &mut levels);
+    let mut cut = [0u16; limits::MOST_WORDS];
+    let count = put_line(order, spans, &levels, line, d, &mut cut);
+    if out.len() < count {
+        return wrote(numbers::SHORT_OUTPUT, 0);
+    }
+    put_line(order, spans, &levels, line, d, out);
+    wrote(numbers::DONE, count)
+}
+
+// Writes the cut at d of the subtree of a line to the front of `out`; nothing for a line that the order lacks.
+pub fn cut_into(order: &[u16], line: usize, d: usize, out: &mut [u16]) -> Written
+    ensures { λ r. ⌜ writing r (now (out .exit)) ≡ cutIntoOf (now (order .entry)) line d (now (out .entry)) ⌝ }
+{
+    let mut spans = [0u16; limits::MOST_WORDS];
+    match find_line(order, line, &mut spans) {
+        Place::Refused(number) => wrote(number, 0),
+        Place::Lacking => wrote(numbers::DONE, 0),
+        Place::At(_) => cut_line(order, &spans, line - 1, d, out),
+    }
 }

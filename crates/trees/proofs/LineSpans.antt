@@ -16,7 +16,7 @@ use Rattle.trees.specs.Spans.{lines, linesF, spansFrom, spansIn, GoneOve
 use Rattle.trees.specs.Answers.{treeAt}
 use Rattle.trees.proofs.Orders.{size}
 use Rattle.trees.proofs.Causes.{Passed, has-tree}
-use Rattle.trees.proofs.Lines.{Spot, line-spot, from-spot, cut-spot, next-tree}
+use Rattle.trees.proofs.Lines.{Spot, line-spot, from-spot, cut-spot, next-tree, HasLine, StandsAt}
 use Rattle.trees.proofs.Spots.{two-words-a-line}
 use Rattle.trees.proofs.Spanning.{spans-long, lines-subtrees, spans-of}
 use Rattle.trees.proofs.Levels.{levels-count, level-within, levels-of}
@@ -77,6 +77,14 @@ module _ (os ss : List ℕ) (over : GoneOver os ss) where
   -- The word past its subtree.
   pub span-end : (line : ℕ) (s : Tree) → line < length os / 2 → treeFrom os (line * 2) ≡ found s → getD ss (line * 2) 0 * 2 ≡ line * 2 + length (words s)
   span-end line s h e = omega (arith, span-is line s h e .0, size s)
+
+  -- What is read of a line that stands at a word, counted from 1.
+  pub stands-span : (line at : ℕ) (h : HasLine os line at) → StandsAt os line at
+      → (getD ss ((line - 1) * 2) 0 * 2 ≡ at + length (words (h .spot .tree))) × (getD ss ((line - 1) * 2 + 1) 0 ≡ depth (h .spot .tree))
+  stands-span line at h p =
+      let few : line - 1 < length os / 2 = omega (arith, p .some, p .has) in
+      let here : treeFrom os ((line - 1) * 2) ≡ found (h .spot .tree) = ap (treeFrom os) (sym (p .word)) ∙ from-spot os at _ (h .spot) in
+      (span-end (line - 1) (h .spot .tree) few here ∙ ap (λ (n : ℕ). n + length (words (h .spot .tree))) (sym (p .word)), span-is (line - 1) (h .spot .tree) few here .1)
 
 -- ---- the levels
 

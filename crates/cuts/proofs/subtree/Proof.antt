@@ -1,0 +1,118 @@
+-- `cuts::subtree` meets its contract, by where the line stands. Assumes nothing.
+use Prim.Native.Nat.{ℕ, _+_, _*_, _≤_}
+use mathlib.Core.Path.{_≡_, ap, sym, _∙_}
+use native.Mathlib.Omega.{arith}
+use lib.ListN.{length}
+use borrow.Author.Needs.{needs}
+use Rattle.trees.specs.Trees.{words}
+use Rattle.trees.proofs.Lines.{HasLine, placed, StandsAt, stands-at}
+use Rattle.trees.proofs.LineSpans.{spans-room, stands-span}
+use Rattle.trees.proofs.Answers.{subtree-refused, subtree-lacks, subtree-within, subtree-has}
+use Rattle.cuts.proofs.subtree.Statement.{statement}
+use Rattle.cuts.proofs.subtree.Tie as tie
+
+-- The line stands at the word.
+stands : (c : tie.After-at) → StandsAt (c .before .before .before .before .before .args .order .now) (c .before .before .before .before .before .args .line) (c .at .given .0 .0)
+stands c = stands-at _ _ _ (sym (c .before .before .find-line .ensures .0) ∙ c .at .given .1)
+
+-- The order has the line.
+has : (c : tie.After-at) → HasLine (c .before .before .before .before .before .args .order .now) (c .before .before .before .before .before .args .line) (c .at .given .0 .0)
+has c = placed _ _ _ _ (c .before .before .find-line .ensures .0) (c .at .given .1)
+
+-- It ends behind the words of its tree.
+ends : (c : tie.After-line-end) →
+    let h = has (c .before .before .before) in
+    c .line-end .result * 2 ≡ c .before .before .before .at .given .0 .0 + length (words (h .spot .tree))
+ends c =
+    let k = stands (c .before .before .before) in
+    ap (λ (n : ℕ). n * 2) (c .line-end .ensures) ∙ stands-span _ _ (c .before .before .before .before .before .find-line .ensures .1 .0 (k .passes)) _ _ (has (c .before .before .before)) k .0
+
+-- It ends within the order.
+within : (c : tie.After-line-end) →
+    (c .before .before .before .at .given .0 .0 ≤ c .line-end .result * 2)
+    × (c .line-end .result * 2 ≤ length (c .before .before .before .before .before .before .before .before .args .order .now))
+within c = let k = stands (c .before .before .before) in subtree-within _ _ _ (has (c .before .before .before)) _ (omega arith) (ends c)
+
+find-line-requires : tie.Need-find-line-requires
+find-line-requires c κs = search needs
+
+enum-told : tie.Need-enum-told
+enum-told c = search needs
+
+sub-result : tie.Need-sub-result
+sub-result c = search needs
+
+part-result-start : tie.Need-part-result-start
+part-result-start c = search needs
+
+part-result-end : tie.Need-part-result-end
+part-result-end c = search needs
+
+enum-told-2 : tie.Need-enum-told-2
+enum-told-2 c = search needs
+
+sub-result-2 : tie.Need-sub-result-2
+sub-result-2 c = search needs
+
+part-result-start-2 : tie.Need-part-result-start-2
+part-result-start-2 c = search needs
+
+part-result-end-2 : tie.Need-part-result-end-2
+part-result-end-2 c = search needs
+
+enum-known-at : tie.Need-enum-known-at
+enum-known-at c = search needs
+
+sub-line-end : tie.Need-sub-line-end
+sub-line-end c = let k = stands (c .before .before) in omega arith
+
+line-end-requires : tie.Need-line-end-requires
+line-end-requires c κs =
+    let k = stands (c .before .before) in
+    let f = c .before .before .before .before .find-line .ensures .1 in
+    (k .passes, (f .0 (k .passes), (omega arith, f .1)))
+
+mul-result : tie.Need-mul-result
+mul-result c = let k = stands (c .before .before .before) in omega (arith, has (c .before .before .before) .short)
+
+sub-result-3 : tie.Need-sub-result-3
+sub-result-3 c = let w = within c in omega arith
+
+part-result-start-3 : tie.Need-part-result-start-3
+part-result-start-3 c = let w = within c in omega arith
+
+part-result-end-3 : tie.Need-part-result-end-3
+part-result-end-3 c = let w = within c in omega arith
+
+returns : tie.Need-returns
+returns c = sym (subtree-refused _ _ _ (placed _ _ _ _ (c .before .before .before .find-line .ensures .0) (c .before .enum-told .given .1)))
+
+returns-2 : tie.Need-returns-2
+returns-2 c = sym (subtree-lacks _ _ (placed _ _ _ _ (c .before .before .before .find-line .ensures .0) (c .before .enum-told2 .given .1)))
+
+returns-3 : tie.Need-returns-3
+returns-3 c = sym (subtree-has _ _ _ (has (c .before .before .before .before)) _ (ends (c .before)))
+
+pub subtree-spec : {M : Type 1} → statement M
+subtree-spec =
+    tie.close
+    (tie.spec
+    find-line-requires
+    enum-told
+    sub-result
+    part-result-start
+    part-result-end
+    enum-told-2
+    sub-result-2
+    part-result-start-2
+    part-result-end-2
+    enum-known-at
+    sub-line-end
+    line-end-requires
+    mul-result
+    sub-result-3
+    part-result-start-3
+    part-result-end-3
+    returns
+    returns-2
+    returns-3)
