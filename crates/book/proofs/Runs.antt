@@ -12,6 +12,7 @@ use lib.ListN.{length, getD, take, drop, length-drop, drop-of-length-le}
 use lib.Seq.{drop-drop, getD-drop, drop-cons}
 use Rattle.words.specs.Base.{_and_, if_then_else_}
 use Rattle.words.specs.Compare.{before}
+use Rattle.words.proofs.Tests.{fails-left, fails-right}
 use Rattle.figures.specs.Limits.{greatest-count}
 use Rattle.trees.specs.Fits.{fitsOf}
 use Rattle.section.specs.Entries.{firstEntry, entries, width, span, total}
@@ -153,6 +154,10 @@ module _ (book : List ℕ) (least greatest : ℕ) (last : List ℕ) (at sum left
     unfolding _and_
     uncounted h = broken least greatest last at sum left (drop at book) (run-at ∙ rw (lt-leb 1 count h))
 
+    -- Its key does not stand above the last, whatever else it is.
+    pub unsorted : before last (take (end - (at + 2)) (drop (at + 2) book)) ≡ false → stretch least greatest last at sum left (drop at book) ≡ Broken
+    unsorted e = broken least greatest last at sum left (drop at book) (run-at ∙ fails-right _ _ (fails-left _ _ e))
+
     module _ (some : 1 ≤ count) (few : count ≤ greatest-count) where
       -- Its key is no order of a depth between the two.
       pub misfit : fitsOf least greatest (take (end - (at + 2)) (drop (at + 2) book)) ≡ false → stretch least greatest last at sum left (drop at book) ≡ Broken
@@ -160,11 +165,6 @@ module _ (book : List ℕ) (least greatest : ℕ) (last : List ℕ) (at sum left
       misfit e = broken least greatest last at sum left (drop at book) (run-at ∙ rw (le-leb 1 count some, le-leb count greatest-count few, e))
 
       module _ (fit : fitsOf least greatest (take (end - (at + 2)) (drop (at + 2) book)) ≡ true) where
-        -- Its key does not stand above the last.
-        pub unsorted : before last (take (end - (at + 2)) (drop (at + 2) book)) ≡ false → stretch least greatest last at sum left (drop at book) ≡ Broken
-        unfolding _and_
-        unsorted e = broken least greatest last at sum left (drop at book) (run-at ∙ rw (le-leb 1 count some, le-leb count greatest-count few, fit, e))
-
         -- It is in form and in order: what is found is found of the others.
         pub goes-on : before last (take (end - (at + 2)) (drop (at + 2) book)) ≡ true
             → stretch least greatest last at sum left (drop at book) ≡ stretch least greatest (take (end - (at + 2)) (drop (at + 2) book)) end (sum + count) (left - 1) (drop end book)

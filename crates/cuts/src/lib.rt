@@ -58,7 +58,7 @@ pub fn subtree(order: &[u16], line: usize) -> &[u16]
         Place::Refused(_) => &order[0..0],
         Place::Lacking => &order[0..0],
         Place::At(at) => {
-            let end = line_end(&spans, line - 1) * 2;
+            let end = line_end(&spans, at / 2) * 2;
             &order[at..end]
         }
     }
@@ -140,6 +140,6 @@ pub fn cut_into(order: &[u16], line: usize, d: usize, out: &mut [u16]) -> Writte
     match find_line(order, line, &mut spans) {
         Place::Refused(number) => wrote(number, 0),
         Place::Lacking => wrote(numbers::DONE, 0),
-        Place::At(_) => cut_line(order, &spans, line - 1, d, out),
+        Place::At(at) => cut_line(order, &spans, at / 2, d, out),
     }
 }

@@ -1,17 +1,18 @@
 -- The bytes of a line as stores and lent parts leave them, and those of lines one after the other. Assumes nothing.
-use Prim.Native.Nat.{ℕ, suc, _+_, _*_, _-_, _/_, _≤_, _<_}
+use Prim.Native.Nat.{ℕ, zero, suc, _+_, _*_, _-_, _/_, _%_, _≤_, _<_}
 use mathlib.Core.Path.{_≡_, refl, ap, sym, _∙_}
 use mathlib.Core.List.{List, [], _∷_, _++_, append-assoc, append-nil}
+use native.Mathlib.Nat.{div-div-eq-div-mul}
 use native.Mathlib.Decide.{decLt}
 use native.Mathlib.Omega.{arith}
 use borrow.Author.Tests.{lt-ltb, le-ltb}
-use lib.ListN.{length, take, drop, set, length-append, length-drop}
+use lib.ListN.{length, take, drop, getD, set, length-append, length-drop}
 use lib.Seq.{length-take-le, take-at, drop-at, drop-drop, sets-eq}
 use Rattle.words.specs.Base.{if_then_else_, over}
 use Rattle.trees.specs.Trees.{Tree, Forest, node, bare, cons}
 use Rattle.trees.specs.Levels.{treeLevels, rowLevels}
-use Rattle.trees.proofs.Cuts.{part-back}
-use Rattle.form.specs.Text.{space, line-feed, digit, code-size, levelText, codeText, Line, lineText, spell, linesOf, linesF}
+use Rattle.trees.proofs.Writing.{part-back}
+use Rattle.form.specs.Text.{digit-0, space, line-feed, digit, code-size, levelText, codeText, Line, lineText, spell, linesOf, linesF}
 use Rattle.form.specs.Turns.{levelsOf}
 
 -- ---- a level
@@ -43,6 +44,18 @@ pub two-stores : (l : ℕ) (out : List ℕ) (a b : ℕ) → 10 ≤ l → length 
 two-stores l out a b h room e f = rw (two-digits l h, e, f) (sets-eq (digit (l / 10) ∷ digit l ∷ []) out 0 (omega (arith, two-bytes l h)))
 
 -- ---- a code
+
+-- The first digit of a code is that of its hundreds' tens.
+pub first-digit : (n a : ℕ) → a ≡ digit (n / 100 / 10) → a ≡ digit (n / 1000)
+first-digit n a e = e ∙ ap digit (div-div-eq-div-mul n 100 10)
+
+-- The third digit of a code is that of its last two digits' tens.
+pub third-digit : (n c : ℕ) → c ≡ digit (n % 100 / 10) → c ≡ digit (n / 10)
+third-digit n c e = let z : n % 100 / 10 % 10 ≡ n / 10 % 10 = omega arith in e ∙ ap (λ (k : ℕ). digit-0 + k) z
+
+-- The last digit of a code is that of its last two digits.
+pub last-digit : (n d : ℕ) → d ≡ digit (n % 100) → d ≡ digit n
+last-digit n d e = let z : n % 100 % 10 ≡ n % 10 = omega arith in e ∙ ap (λ (k : ℕ). digit-0 + k) z
 
 -- A code's bytes are written by six stores.
 pub six-stores : (n : ℕ) (out : List ℕ) (a b c d : ℕ) → code-size ≤ length out → a ≡ digit (n / 1000) → b ≡ digit (n / 100) → c ≡ digit (n / 10) → d ≡ digit n
@@ -123,3 +136,9 @@ pub spell-most : (xs : List Line) → length (spell xs) ≤ 8 * length xs
 unfolding spell
 spell-most [] = omega arith
 spell-most (x ∷ xs) = omega (arith, length-append (lineText x) (spell xs), line-size x, level-most (x .level), spell-most xs)
+
+-- Lines whose levels have one digit take seven bytes each.
+pub spell-short : (xs : List Line) → ((i : ℕ) → i < length xs → getD (levelsOf xs) i 0 < 10) → length (spell xs) ≡ length xs * (1 + code-size)
+unfolding spell levelsOf
+spell-short [] h = refl
+spell-short (x ∷ xs) h = omega (arith, length-append (lineText x) (spell xs), line-size x, one-byte (x .level) (h zero (omega arith)), spell-short xs (λ i k. h (suc i) (omega arith)))

@@ -4,11 +4,10 @@ ghost use mathlib.Core.Path.{_≡_};
 ghost use Prim.Native.Nat.{_+_, _*_, _/_, _≤_, _<_};
 ghost use lib.ListN.{length, getD};
 ghost use Rattle.words.specs.Compare.{compareOf};
-ghost use Rattle.figures.specs.Limits.{most-nodes, most-words};
-ghost use Rattle.figures.specs.Numbers.{done};
+ghost use Rattle.figures.specs.Limits.{most-words};
 ghost use Rattle.section.specs.Near.{placeAt, Stopped};
-ghost use Rattle.trees.specs.Reading.{causeOf};
 ghost use Rattle.trees.specs.Levels.{LinesLevelled};
+ghost use Rattle.trees.specs.Spans.{GoneOver};
 ghost use Rattle.book.specs.Decoding.{bookIn};
 ghost use Rattle.book.specs.Holding.{Holds};
 ghost use Rattle.verdicts.specs.Expecting.{judgementOf};
@@ -22,26 +21,19 @@ use section::Neighbours;
 use section::around;
 use section::find;
 use section::place_at;
-use trees::PartAt;
 use verdicts::Judgement;
 use verdicts::Sought;
 use words::Compared;
 
 // The neighbours of the order's top in the book.
-fn top_near(
-    book: &[u16],
-    places: Places,
-    order: &[u16],
-    levels: &[u8; limits::MOST_NODES],
-) -> Neighbours
+fn top_near(book: &[u16], places: Places, order: &[u16], spans: &[u16], levels: &[u8]) -> Neighbours
     requires { ⌜ Holds (now book) places ⌝ }
-    requires { ⌜ causeOf (now order) ≡ done ⌝ }
-    requires { ⌜ LinesLevelled (now order) (now levels) × (length (now levels) ≡ most-nodes) ⌝ }
+    requires { ⌜ GoneOver (now order) (now spans) ⌝ }
+    requires { ⌜ LinesLevelled (now order) (now levels) ⌝ }
     ensures { λ r. ⌜ r ≡ topNear (bookIn (now (book .entry))) (now (order .entry)) ⌝ }
 {
     let mut cut = [0u16; limits::MOST_WORDS];
-    let laid = cuts::put_line(order, levels, 0, places.k.of_tops(), &mut cut);
-    let count = laid.count;
+    let count = cuts::put_line(order, spans, levels, 0, places.k.of_tops(), &mut cut);
     let many = book[limits::TOPS_WORD] as usize;
     around(find(book, places.tops, many, &cut[0..count]))
 }
@@ -51,48 +43,38 @@ fn seek(
     book: &[u16],
     places: Places,
     order: &[u16],
-    levels: &[u8; limits::MOST_NODES],
+    spans: &[u16],
+    levels: &[u8],
     line: usize,
     cut: &mut [u16],
 ) -> Sought
     requires { ⌜ Holds (now book) places ⌝ }
-    requires { ⌜ causeOf (now order) ≡ done ⌝ }
+    requires { ⌜ GoneOver (now order) (now spans) ⌝ }
     requires { ⌜ line < length (now order) / 2 ⌝ }
     requires { ⌜ most-words ≤ length (now cut) ⌝ }
-    requires { ⌜ LinesLevelled (now order) (now levels) × (length (now levels) ≡ most-nodes) ⌝ }
+    requires { ⌜ LinesLevelled (now order) (now levels) ⌝ }
     ensures { λ r. ⌜ Seeks (bookIn (now (book .entry))) (now (book .entry)) (now (order .entry)) (line * 2) (now (cut .exit)) r ⌝ }
 {
-    let from = line * 2;
-    match parts::part_line(order, levels, line, places.k) {
-        // Never met: every line of an order has a part.
-        PartAt::NoPart => Sought {
+    if parts::is_low(spans, line, places.k) {
+        let many = book[limits::LOWS_WORD] as usize;
+        let from = line * 2;
+        let to = cuts::line_end(spans, line) * 2;
+        return Sought {
             low: true,
             from,
-            to: from,
-            at: places.used,
-            many: 0,
-        },
-        PartAt::LowTo { end } => {
-            let many = book[limits::LOWS_WORD] as usize;
-            Sought {
-                low: true,
-                from,
-                to: end,
-                at: places.lows,
-                many,
-            }
-        }
-        PartAt::MiddleTo { end: _, count } => {
-            cuts::put_line(order, levels, line, places.k.of_middles(), cut);
-            let many = book[limits::MIDDLES_WORD] as usize;
-            Sought {
-                low: false,
-                from: 0,
-                to: count,
-                at: places.middles,
-                many,
-            }
-        }
+            to,
+            at: places.lows,
+            many,
+        };
+    }
+    let to = cuts::put_line(order, spans, levels, line, places.k.of_middles(), cut);
+    let many = book[limits::MIDDLES_WORD] as usize;
+    Sought {
+        low: false,
+        from: 0,
+        to,
+        at: places.middles,
+        many,
     }
 }
 
@@ -183,14 +165,15 @@ fn first_unknown(
     book: &[u16],
     places: Places,
     order: &[u16],
-    levels: &[u8; limits::MOST_NODES],
+    spans: &[u16],
+    levels: &[u8],
     from: usize,
     to: usize,
 ) -> Judgement
     requires { ⌜ Holds (now book) places ⌝ }
-    requires { ⌜ causeOf (now order) ≡ done ⌝ }
+    requires { ⌜ GoneOver (now order) (now spans) ⌝ }
     requires { ⌜ (from ≤ to) × (to ≤ length (now order) / 2) ⌝ }
-    requires { ⌜ LinesLevelled (now order) (now levels) × (length (now levels) ≡ most-nodes) ⌝ }
+    requires { ⌜ LinesLevelled (now order) (now levels) ⌝ }
     ensures { λ r. ⌜ JudgedAt (bookIn (now (book .entry))) (now (order .entry)) (unknownWithin (bookIn (now (book .entry))) (now (order .entry)) from to) r ⌝ }
 {
     let mut cut = [0u16; limits::MOST_WORDS];
@@ -199,7 +182,7 @@ fn first_unknown(
         if to <= line {
             break 'lines plainly(numbers::DONE);
         }
-        let part = seek(book, places, order, levels, line, &mut cut);
+        let part = seek(book, places, order, spans, levels, line, &mut cut);
         line += 1;
         let mut last = part.at;
         let mut at = part.at;
@@ -229,25 +212,26 @@ fn line_to_fix(
     book: &[u16],
     places: Places,
     order: &[u16],
-    levels: &[u8; limits::MOST_NODES],
+    spans: &[u16],
+    levels: &[u8],
 ) -> Judgement
     requires { ⌜ Holds (now book) places ⌝ }
-    requires { ⌜ causeOf (now order) ≡ done ⌝ }
-    requires { ⌜ LinesLevelled (now order) (now levels) × (length (now levels) ≡ most-nodes) ⌝ }
+    requires { ⌜ GoneOver (now order) (now spans) ⌝ }
+    requires { ⌜ LinesLevelled (now order) (now levels) ⌝ }
     ensures { λ r. ⌜ JudgedAt (bookIn (now (book .entry))) (now (order .entry)) (lineToFix (bookIn (now (book .entry))) (now (order .entry))) r ⌝ }
 {
     let mut found = plainly(numbers::DONE);
     let mut from: usize = 0;
     let mut to = order.len() / 2;
     loop {
-        let judged = first_unknown(book, places, order, levels, from, to);
+        let judged = first_unknown(book, places, order, spans, levels, from, to);
         let line = judged.answer.line;
         if line == 0 {
             return found;
         }
         found = judged;
         from = line;
-        to = cuts::line_end(order, levels, line - 1) / 2;
+        to = cuts::line_end(spans, line - 1);
     }
 }
 
@@ -256,16 +240,18 @@ fn judge_order(book: &[u16], places: Places, order: &[u16]) -> Judgement
     requires { ⌜ Holds (now book) places ⌝ }
     ensures { λ r. ⌜ r ≡ judgementOf (now (book .entry)) (now (order .entry)) ⌝ }
 {
-    let mut levels = [0u8; limits::MOST_NODES];
-    let cause = order::cause_into(order, &mut levels);
+    let mut spans = [0u16; limits::MOST_WORDS];
+    let cause = order::cause_into(order, &mut spans);
     if cause != numbers::DONE {
         return plainly(cause);
     }
-    let judged = line_to_fix(book, places, order, &levels);
+    let mut levels = [0u8; limits::MOST_NODES];
+    order::level_lines(order, &spans, &mut levels);
+    let judged = line_to_fix(book, places, order, &spans, &levels);
     if judged.answer.line != 0 {
         return judged;
     }
-    let near = top_near(book, places, order, &levels);
+    let near = top_near(book, places, order, &spans, &levels);
     if near.there {
         return plainly(numbers::DONE);
     }

@@ -3,7 +3,7 @@
 ghost use mathlib.Core.Path.{_≡_};
 ghost use Prim.Native.Nat.{_≤_};
 ghost use lib.ListN.{length, drop};
-ghost use Rattle.figures.specs.Limits.{greatest-depth, head-words};
+ghost use Rattle.figures.specs.Limits.{most-nodes, greatest-depth, head-words};
 ghost use Rattle.book.specs.Decoding.{bookFormOf};
 ghost use Rattle.book.specs.Passes.{wholeAt, stretchOf, zeros, headOf};
 use book::BookForm;
@@ -36,11 +36,19 @@ fn whole_at(book: &[u16], at: usize) -> Whole
     Whole::Ends { end, count }
 }
 
-// One pass over the n entries from `from`: each is whole, counts at least 1, is an order of a depth from `least` to `greatest`, and stands
-// above the one before it.
-fn pass(book: &[u16], from: usize, n: u16, least: usize, greatest: usize) -> Stretch
-    requires { ⌜ greatest ≤ greatest-depth ⌝ }
-    ensures { λ r. ⌜ r ≡ stretchOf (now (book .entry)) from n least greatest ⌝ }
+// One pass over the n entries from `from`: each is whole, counts at least 1, stands above the one before it, and is an order of a depth from
+// `least` to `greatest`, by a lent stack of depths.
+fn pass(
+    book: &[u16],
+    from: usize,
+    n: u16,
+    least: usize,
+    greatest: usize,
+    stack: &mut [u16],
+) -> Stretch
+    requires { ⌜ (greatest ≤ greatest-depth) × (most-nodes ≤ length (now stack)) ⌝ }
+    ensures came { λ r. ⌜ r ≡ stretchOf (now (book .entry)) from n least greatest ⌝ }
+    ensures kept { λ _. ⌜ length (now (stack .exit)) ≡ length (now (stack .entry)) ⌝ }
 {
     let mut at = from;
     let mut left = n;
@@ -55,10 +63,10 @@ fn pass(book: &[u16], from: usize, n: u16, least: usize, greatest: usize) -> Str
         if count < limits::LEAST_COUNT {
             return Stretch::Broken;
         }
-        if !order::fits(&book[start..end], least, greatest) {
+        if !words::precedes(&book[last..last_end], &book[start..end]) {
             return Stretch::Broken;
         }
-        if !words::precedes(&book[last..last_end], &book[start..end]) {
+        if !depths::fits(&book[start..end], least, greatest, stack) {
             return Stretch::Broken;
         }
         last = start;
@@ -114,23 +122,33 @@ pub fn in_form(book: &[u16]) -> BookForm
     };
     let low = k.of_tops();
     let middle = k.of_middles();
+    let mut stack = [0u16; limits::MOST_NODES];
     let Stretch::InOrder(tops, live) = pass(
         book,
         limits::HEAD_WORDS,
         book[limits::TAUGHT_WORD],
         0,
         limits::GREATEST_DEPTH,
+        &mut stack,
     ) else {
         return BookForm::Refused(numbers::NOT_IN_FORM);
     };
-    let Stretch::InOrder(lows, _) = pass(book, tops, book[limits::TOPS_WORD], 0, low) else {
-        return BookForm::Refused(numbers::NOT_IN_FORM);
-    };
-    let Stretch::InOrder(middles, _) = pass(book, lows, book[limits::LOWS_WORD], 0, low) else {
-        return BookForm::Refused(numbers::NOT_IN_FORM);
-    };
-    let Stretch::InOrder(used, _) = pass(book, middles, book[limits::MIDDLES_WORD], middle, middle)
+    let Stretch::InOrder(lows, _) = pass(book, tops, book[limits::TOPS_WORD], 0, low, &mut stack)
     else {
+        return BookForm::Refused(numbers::NOT_IN_FORM);
+    };
+    let Stretch::InOrder(middles, _) = pass(book, lows, book[limits::LOWS_WORD], 0, low, &mut stack)
+    else {
+        return BookForm::Refused(numbers::NOT_IN_FORM);
+    };
+    let Stretch::InOrder(used, _) = pass(
+        book,
+        middles,
+        book[limits::MIDDLES_WORD],
+        middle,
+        middle,
+        &mut stack,
+    ) else {
         return BookForm::Refused(numbers::NOT_IN_FORM);
     };
     if !head_right(book, live, used) {

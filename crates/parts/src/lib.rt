@@ -1,23 +1,28 @@
-// The part that a line of an order stands for at k, by the depth of its uncut subtree. Assumes nothing.
+// The part that a line of an order stands for at k, by the depth of its uncut subtree. Assumes nothing beyond the `requires` of an inner function.
 ghost use mathlib.Core.Path.{_≡_};
-ghost use Prim.Native.Nat.{_*_, _/_, _<_};
-ghost use lib.ListN.{length};
-ghost use Rattle.figures.specs.Limits.{most-nodes};
-ghost use Rattle.figures.specs.Numbers.{done};
-ghost use Rattle.trees.specs.Reading.{causeOf};
-ghost use Rattle.trees.specs.Levels.{LinesLevelled};
-ghost use Rattle.trees.specs.Walks.{partAtOf, kindOf};
+ghost use Prim.Native.Nat.{_+_, _-_, _*_, _<_};
+ghost use lib.Dec.{leb};
+ghost use lib.ListN.{length, getD};
+ghost use Rattle.words.specs.Base.{if_then_else_};
 ghost use Rattle.trees.specs.Answers.{noPart, partWriting, partIntoOf};
+ghost use Rattle.trees.specs.declared.Kind.the-variants.{Low, Middle};
 use figures::Depth;
 use figures::limits;
 use figures::numbers;
 use figures::wrote;
-use order::walk;
 use trees::Kind;
-use trees::PartAt;
 use trees::PartWritten;
 use trees::Place;
-use trees::Walked;
+
+// Whether a line, counted from 0, stands for a low part at k, by the spans of the order's lines: its subtree is at most k-2 deep.
+pub fn is_low(spans: &[u16], line: usize, k: Depth) -> bool
+    requires { ⌜ line * 2 + 1 < length (now spans) ⌝ }
+    ensures { λ r. ⌜ r ≡ leb (getD (now (spans .entry)) (line * 2 + 1) 0) (k .k - 2) ⌝ }
+{
+    let deepest = k.of_tops();
+    let depth = spans[line * 2 + 1] as usize;
+    depth <= deepest
+}
 
 // A number, and no part.
 fn no_part(number: u16) -> PartWritten
@@ -29,54 +34,11 @@ fn no_part(number: u16) -> PartWritten
     }
 }
 
-// The part that the tree at word `at` stands for at k, with nothing written; none in more words than an order has.
-pub fn part_at(order: &[u16], at: usize, k: Depth) -> PartAt
-    ensures { λ r. ⌜ r ≡ partAtOf (now (order .entry)) at (k .k) ⌝ }
+// The kind of a part that is low or not.
+fn kind_of(low: bool) -> Kind
+    ensures { λ r. ⌜ r ≡ (if low then Low else Middle) ⌝ }
 {
-    if limits::MOST_WORDS < order.len() {
-        return PartAt::NoPart;
-    }
-    let Walked::Whole { end, depth, cut } = walk(order, at, k.of_middles()) else {
-        return PartAt::NoPart;
-    };
-    if depth <= k.of_tops() {
-        return PartAt::LowTo { end };
-    }
-    PartAt::MiddleTo { end, count: cut }
-}
-
-// The part that a line stands for at k, the lines counted from 0, by the levels of the order's lines.
-pub fn part_line(order: &[u16], levels: &[u8; limits::MOST_NODES], line: usize, k: Depth) -> PartAt
-    requires { ⌜ causeOf (now order) ≡ done ⌝ }
-    requires { ⌜ LinesLevelled (now order) (now levels) ⌝ }
-    requires { ⌜ line < length (now order) / 2 ⌝ }
-    requires { ⌜ length (now levels) ≡ most-nodes ⌝ }
-    ensures { λ r. ⌜ r ≡ partAtOf (now (order .entry)) (line * 2) (k .k) ⌝ }
-{
-    let Walked::Whole {
-        end,
-        depth,
-        cut: count,
-    } = cuts::walk_line(order, levels, line, k.of_middles())
-    else {
-        return PartAt::NoPart;
-    };
-    let deepest = k.of_tops();
-    if depth <= deepest {
-        return PartAt::LowTo { end };
-    }
-    PartAt::MiddleTo { end, count }
-}
-
-// The kind of part that the tree at word `at` stands for at k.
-fn kind_at(order: &[u16], at: usize, k: Depth) -> Kind
-    ensures { λ r. ⌜ r ≡ kindOf (partAtOf (now (order .entry)) at (k .k)) ⌝ }
-{
-    match part_at(order, at, k) {
-        PartAt::NoPart => Kind::Absent,
-        PartAt::LowTo { end: _ } => Kind::Low,
-        PartAt::MiddleTo { end: _, count: _ } => Kind::Middle,
-    }
+    if low { Kind::Low } else { Kind::Middle }
 }
 
 // The part that a line stands for at k: its kind, and its words to the front of `out`. The words of either kind are the cut at k-1, since
@@ -84,13 +46,13 @@ fn kind_at(order: &[u16], at: usize, k: Depth) -> Kind
 pub fn part_into(order: &[u16], line: usize, k: Depth, out: &mut [u16]) -> PartWritten
     ensures { λ r. ⌜ partWriting r (now (out .exit)) ≡ partIntoOf (now (order .entry)) line (k .k) (now (out .entry)) ⌝ }
 {
-    let mut levels = [0u8; limits::MOST_NODES];
-    match cuts::find_line(order, line, &mut levels) {
+    let mut spans = [0u16; limits::MOST_WORDS];
+    match cuts::find_line(order, line, &mut spans) {
         Place::Refused(number) => no_part(number),
         Place::Lacking => no_part(numbers::DONE),
         Place::At(at) => {
-            let kind = kind_at(order, at, k);
-            let written = cuts::cut_at(order, at, k.of_middles(), out);
+            let kind = kind_of(is_low(&spans, at / 2, k));
+            let written = cuts::cut_line(order, &spans, at / 2, k.of_middles(), out);
             PartWritten { kind, written }
         }
     }

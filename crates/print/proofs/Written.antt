@@ -6,25 +6,28 @@ use native.Mathlib.Omega.{arith}
 use lib.ListN.{length, take, drop, getD, length-append}
 use lib.Seq.{getD-at, getD-take, getD-drop}
 use Rattle.words.specs.Base.{over}
-use Rattle.figures.specs.Limits.{most-nodes, greatest-depth}
+use Rattle.figures.specs.Limits.{most-nodes}
 use Rattle.figures.specs.Numbers.{done}
 use Rattle.figures.specs.declared.Written.{Written}
 use Rattle.figures.specs.Answers.{wrote}
-use Rattle.trees.specs.Trees.{Tree}
-use Rattle.trees.specs.Reading.{byOrder, causeOf}
+use Rattle.trees.specs.Trees.{Tree, depth, subtrees}
+use Rattle.trees.specs.Reading.{found, byOrder, causeOf}
 use Rattle.trees.specs.Answers.{writing, write}
 use Rattle.trees.specs.Levels.{LinesLevelled, treeLevels}
-use Rattle.trees.proofs.Orders.{size}
-use Rattle.trees.proofs.Deep.{levels-of}
-use Rattle.trees.proofs.SubtreeLevels.{level-within}
+use Rattle.trees.specs.Spans.{GoneOver}
+use Rattle.trees.proofs.Orders.{size, two-words}
+use Rattle.trees.proofs.Levels.{level-within, levels-of}
 use Rattle.trees.proofs.Causes.{Passed, refused-by, has-tree}
+use Rattle.trees.proofs.Lines.{from-spot}
+use Rattle.trees.proofs.Spots.{top-spot}
+use Rattle.trees.proofs.LineSpans.{span-is}
 use Rattle.form.specs.Text.{code-size, Line, linesOf, levelText, lineText, spell, textOf}
 use Rattle.form.specs.Reading.{wordsOf}
 use Rattle.form.specs.Writing.{writeOf}
 use Rattle.form.specs.Turns.{linesIn, levelsOf}
 use Rattle.form.proofs.Counts.{length-words}
 use Rattle.form.proofs.TreeLines.{lines-words, lines-count}
-use Rattle.form.proofs.LineBytes.{over-part, line-size, spell-append, spell-more, spell-most, levels-append, levels-size, tree-levels}
+use Rattle.form.proofs.LineBytes.{over-part, line-size, spell-append, spell-more, spell-most, spell-short, levels-append, levels-size, tree-levels}
 
 -- ---- the lines of an order that passes
 
@@ -54,13 +57,30 @@ known s e =
     let z : length s ≡ 2 * length (linesIn s) = ap length w ∙ length-words (linesIn s) in
     record { spelt = w; twice = z; few = omega (arith, size t, ap length (p .spelt), p .nodes) }
 
+-- An order whose cause is 0 has the two words of its first line.
+pub some-words : (s : List ℕ) → causeOf s ≡ done → 2 ≤ length s
+some-words s e = let p = has-tree s e .passes in omega (arith, two-words (has-tree s e .tree), ap length (p .spelt))
+
 -- The levels listed for an order are those of its lines.
-pub levels-listed : (s levels : List ℕ) → causeOf s ≡ done → LinesLevelled s levels → take (length (linesIn s)) levels ≡ levelsOf (linesIn s)
+levels-listed : (s levels : List ℕ) → causeOf s ≡ done → LinesLevelled s levels → take (length (linesIn s)) levels ≡ levelsOf (linesIn s)
 levels-listed s levels e h =
     let p = has-tree s e .passes in
     let t = has-tree s e .tree in
     let n : length (linesIn s) ≡ length s / 2 = omega (arith, known s e .twice) in
     ap (λ (m : ℕ). take m levels) n ∙ h ∙ levels-of s t (p .is) ∙ tree-levels t 0 ∙ ap levelsOf (sym (lines-in s t p))
+
+-- Where the spans say that an order is less than ten deep, each of its lines takes seven bytes.
+pub text-shallow : (s spans : List ℕ) → GoneOver s spans → getD spans 1 0 < 10 → length s / 2 * (1 + code-size) ≡ length (spell (linesIn s))
+text-shallow s spans over h =
+    let p = has-tree s (over .sound) .passes in
+    let t = has-tree s (over .sound) .tree in
+    let d : getD spans 1 0 ≡ depth t = span-is s spans over 0 t (omega (arith, some-words s (over .sound))) (from-spot s 0 (found t) (top-spot s t p)) .1 in
+    let n : length (linesIn s) ≡ length (subtrees t) = ap length (lines-in s t p) ∙ lines-count t 0 in
+    let e : treeLevels t 0 ≡ levelsOf (linesIn s) = tree-levels t 0 ∙ ap levelsOf (sym (lines-in s t p)) in
+    let low : (i : ℕ) → i < length (linesIn s) → getD (levelsOf (linesIn s)) i 0 < 10 =
+    λ i k. omega (arith, d, h, level-within t i (omega (arith, n)), ap (λ (ls : List ℕ). getD ls i 0) e) in
+    let m : length s / 2 ≡ length (linesIn s) = omega (arith, known s (over .sound) .twice) in
+    ap (λ (k : ℕ). k * (1 + code-size)) m ∙ sym (spell-short (linesIn s) low)
 
 -- ---- one line after the other
 
@@ -123,34 +143,19 @@ next-of xs out₀ out line at x before after room same e l b o =
       };
     }
 
-module _ (s levels : List ℕ) (fine : causeOf s ≡ done) (listed : take (length (linesIn s)) levels ≡ levelsOf (linesIn s)) (line : ℕ) where
+module _ (s levels : List ℕ) (fine : causeOf s ≡ done) (levelled : LinesLevelled s levels) (line : ℕ) where
   -- The line behind those before is the one that is read.
   this-line : (x : Line) (before after : List Line) → linesIn s ≡ before ++ (x ∷ after) → length before ≡ line → x ≡ record { level = getD levels line 0; code = getD s (2 * line) 0 }
   unfolding levelsOf wordsOf
   this-line x before after e l =
       let n : length (linesIn s) ≡ line + suc (length after) = ap length e ∙ length-append before (x ∷ after) ∙ ap (λ (m : ℕ). m + suc (length after)) l in
       let level : getD levels line 0 ≡ x .level =
-      sym (getD-take (length (linesIn s)) levels line 0 (omega arith)) ∙ ap (λ (r : List ℕ). getD r line 0) (listed ∙ ap levelsOf e ∙ levels-append before (x ∷ after)) ∙ getD-at (levelsOf before) (x .level) (levelsOf after) 0 line (levels-size before ∙ l) in
+      sym (getD-take (length (linesIn s)) levels line 0 (omega arith)) ∙ ap (λ (r : List ℕ). getD r line 0) (levels-listed s levels fine levelled ∙ ap levelsOf e ∙ levels-append before (x ∷ after)) ∙ getD-at (levelsOf before) (x .level) (levelsOf after) 0 line (levels-size before ∙ l) in
       let m : 2 * length before + 0 ≡ 2 * line = omega arith in
       let code : getD s (2 * line) 0 ≡ x .code =
       ap (λ (i : ℕ). getD s i 0) (sym m) ∙ sym (getD-drop (2 * length before) s 0 0) ∙ ap (λ (r : List ℕ). getD (drop (2 * length before) r) 0 0) (known s fine .spelt ∙ ap wordsOf e) ∙ ap (λ (r : List ℕ). getD r 0 0) (words-behind before (x ∷ after)) in
       let is : _≡_ {A = Line} (record { level = x .level; code = x .code }) (record { level = getD levels line 0; code = getD s (2 * line) 0 }) = cc in
       is
-
-  -- The level that is read is at most 12.
-  pub level-small : line < length s / 2 → getD levels line 0 ≤ greatest-depth
-  level-small h =
-      let p = has-tree s fine .passes in
-      let t = has-tree s fine .tree in
-      let n : line < length (linesIn s) = omega (arith, known s fine .twice) in
-      let e : treeLevels t 0 ≡ levelsOf (linesIn s) = tree-levels t 0 ∙ ap levelsOf (sym (lines-in s t p)) in
-      omega (
-        arith,
-        p .deep,
-        level-within t line (omega (arith, lines-count t 0, ap length (lines-in s t p))),
-        ap (λ (ls : List ℕ). getD ls line 0) (e ∙ sym listed),
-        getD-take (length (linesIn s)) levels line 0 n,
-      )
 
   -- The bytes of a level and of a code measure the line that is read.
   pub measured-next : (bytes n : ℕ) → line < length s / 2 → n ≡ length (levelText (getD levels line 0)) → Measured (linesIn s) line bytes → Measured (linesIn s) (line + 1) (bytes + (n + code-size))

@@ -1,15 +1,16 @@
-// Order form text, written: how many bytes it takes by the levels of the order's lines, and then each line's bytes once. Assumes nothing beyond each function's `requires`.
+// Order form text, written: how many bytes it takes, by the order's depth or the levels of its lines, and then each line's bytes once. Assumes nothing beyond each function's `requires`.
 ghost use mathlib.Core.Path.{_≡_};
 ghost use Prim.Native.Nat.{_≤_};
-ghost use lib.ListN.{length, take};
+ghost use lib.ListN.{length};
 ghost use Rattle.words.specs.Base.{over};
-ghost use Rattle.figures.specs.Limits.{most-nodes};
 ghost use Rattle.figures.specs.Numbers.{done};
 ghost use Rattle.trees.specs.Reading.{causeOf};
+ghost use Rattle.trees.specs.Levels.{LinesLevelled};
+ghost use Rattle.trees.specs.Spans.{GoneOver};
 ghost use Rattle.trees.specs.Answers.{writing};
 ghost use Rattle.form.specs.Text.{digit, code-size, levelText, codeText, lineText, spell};
 ghost use Rattle.form.specs.Writing.{writeOf};
-ghost use Rattle.form.specs.Turns.{linesIn, levelsOf};
+ghost use Rattle.form.specs.Turns.{linesIn};
 use figures::Written;
 use figures::limits;
 use figures::numbers;
@@ -51,11 +52,13 @@ fn put_code(out: &mut [u8], code: u16)
     ensures { λ _. ⌜ now (out .exit) ≡ over (codeText code) (now (out .entry)) ⌝ }
 {
     let n = code as usize;
+    let high = n / 100;
+    let low = n % 100;
     out[0] = b' ';
-    out[1] = digit_of(n / 1000);
-    out[2] = digit_of(n / 100);
-    out[3] = digit_of(n / 10);
-    out[4] = digit_of(n);
+    out[1] = digit_of(high / 10);
+    out[2] = digit_of(high);
+    out[3] = digit_of(low / 10);
+    out[4] = digit_of(low);
     out[5] = b'\n';
 }
 
@@ -70,10 +73,9 @@ fn put_line(out: &mut [u8], level: usize, code: u16) -> usize
     w + CODE_SIZE
 }
 
-// How many bytes the lines of an order take, whose levels are known.
-fn text_size(order: &[u16], levels: &[u8; limits::MOST_NODES]) -> usize
-    requires { ⌜ (causeOf (now order) ≡ done) × (take (length (linesIn (now order))) (now levels) ≡ levelsOf (linesIn (now order))) ⌝ }
-    requires { ⌜ length (now levels) ≡ most-nodes ⌝ }
+// How many bytes the lines of an order take, by the level of each.
+fn lines_size(order: &[u16], levels: &[u8]) -> usize
+    requires { ⌜ (causeOf (now order) ≡ done) × LinesLevelled (now order) (now levels) ⌝ }
     ensures { λ r. ⌜ r ≡ length (spell (linesIn (now (order .entry)))) ⌝ }
 {
     let n = order.len() / 2;
@@ -87,9 +89,21 @@ fn text_size(order: &[u16], levels: &[u8; limits::MOST_NODES]) -> usize
     bytes
 }
 
+// How many bytes the lines of an order take, which was gone over: seven each where no level has two digits.
+fn text_size(order: &[u16], spans: &[u16], levels: &[u8]) -> usize
+    requires { ⌜ GoneOver (now order) (now spans) × LinesLevelled (now order) (now levels) ⌝ }
+    ensures { λ r. ⌜ r ≡ length (spell (linesIn (now (order .entry)))) ⌝ }
+{
+    let depth = spans[1];
+    if depth < 10 {
+        return order.len() / 2 * (1 + CODE_SIZE);
+    }
+    lines_size(order, levels)
+}
+
 // Writes the lines of an order, whose levels are known, to the front of `out`, which has room for them.
-fn put_lines(order: &[u16], levels: &[u8; limits::MOST_NODES], out: &mut [u8])
-    requires { ⌜ (causeOf (now order) ≡ done) × (take (length (linesIn (now order))) (now levels) ≡ levelsOf (linesIn (now order))) × (length (spell (linesIn (now order))) ≤ length (now out)) ⌝ }
+fn put_lines(order: &[u16], levels: &[u8], out: &mut [u8])
+    requires { ⌜ (causeOf (now order) ≡ done) × LinesLevelled (now order) (now levels) × (length (spell (linesIn (now order))) ≤ length (now out)) ⌝ }
     ensures { λ _. ⌜ now (out .exit) ≡ over (spell (linesIn (now (order .entry)))) (now (out .entry)) ⌝ }
 {
     let n = order.len() / 2;
@@ -107,12 +121,14 @@ fn put_lines(order: &[u16], levels: &[u8; limits::MOST_NODES], out: &mut [u8])
 pub fn write(order: &[u16], out: &mut [u8]) -> Written
     ensures { λ r. ⌜ writing r (now (out .exit)) ≡ writeOf (now (order .entry)) (now (out .entry)) ⌝ }
 {
-    let mut levels = [0u8; limits::MOST_NODES];
-    let number = order::cause_into(order, &mut levels);
+    let mut spans = [0u16; limits::MOST_WORDS];
+    let number = order::cause_into(order, &mut spans);
     if number != numbers::DONE {
         return wrote(number, 0);
     }
-    let count = text_size(order, &levels);
+    let mut levels = [0u8; limits::MOST_NODES];
+    order::level_lines(order, &spans, &mut levels);
+    let count = text_size(order, &spans, &levels);
     if out.len() < count {
         return wrote(numbers::SHORT_OUTPUT, 0);
     }

@@ -10,7 +10,8 @@ ghost use Rattle.section.specs.Entries.{width, firstEntry, has};
 ghost use Rattle.tally.specs.Tallying.{listed, Indexed, soughtIn, Few, talliedOnce, markedOnce, Ready, Taken};
 ghost use Rattle.trees.specs.Reading.{causeOf};
 ghost use Rattle.trees.specs.Levels.{LinesLevelled};
-ghost use Rattle.trees.specs.Walks.{cutOf};
+ghost use Rattle.trees.specs.Spans.{GoneOver};
+ghost use Rattle.trees.specs.Standing.{cutOf};
 ghost use Rattle.book.specs.Decoding.{bookIn};
 ghost use Rattle.book.specs.Holding.{Holds};
 ghost use Rattle.own.specs.Own.{listOf};
@@ -31,7 +32,8 @@ pub struct Turn {
 // turn, by way of a scratch for its words. Answers whether it has an entry.
 fn tally_cut(
     order: &[u16],
-    levels: &[u8; limits::MOST_NODES],
+    spans: &[u16],
+    levels: &[u8],
     line: usize,
     d: usize,
     part: &mut [u16],
@@ -41,8 +43,8 @@ fn tally_cut(
     marks: &mut [u16],
     turn: Turn,
 ) -> bool
-    requires { ⌜ causeOf (now order) ≡ done ⌝ }
-    requires { ⌜ LinesLevelled (now order) (now levels) × (length (now levels) ≡ most-nodes) ⌝ }
+    requires { ⌜ GoneOver (now order) (now spans) ⌝ }
+    requires { ⌜ LinesLevelled (now order) (now levels) ⌝ }
     requires { ⌜ line < length (now order) / 2 ⌝ }
     requires { ⌜ most-words ≤ length (now part) ⌝ }
     requires { ⌜ Indexed (now starts) (now book) ⌝ }
@@ -52,8 +54,7 @@ fn tally_cut(
     ensures counted { λ _. ⌜ now (counts .exit) ≡ talliedOnce (turn .by) (turn .number) (soughtIn (cutOf (now (order .entry)) (line * 2) d) (listed (now (starts .entry)) (now (book .entry)))) (now (marks .entry)) (now (counts .entry)) ⌝ }
     ensures noted { λ _. ⌜ now (marks .exit) ≡ markedOnce (turn .number) (soughtIn (cutOf (now (order .entry)) (line * 2) d) (listed (now (starts .entry)) (now (book .entry)))) (now (marks .entry)) ⌝ }
 {
-    let laid = cuts::put_line(order, levels, line, d, part);
-    let end = laid.count;
+    let end = cuts::put_line(order, spans, levels, line, d, part);
     tally::tally_once(
         book,
         starts,
@@ -69,7 +70,8 @@ fn tally_cut(
 // what was tallied then is of no use.
 fn tally_parts(
     order: &[u16],
-    levels: &[u8; limits::MOST_NODES],
+    spans: &[u16],
+    levels: &[u8],
     k: Depth,
     low: bool,
     part: &mut [u16],
@@ -80,8 +82,8 @@ fn tally_parts(
     turn: Turn,
 ) -> bool
     requires { ⌜ least-k ≤ k .k ⌝ }
-    requires { ⌜ causeOf (now order) ≡ done ⌝ }
-    requires { ⌜ LinesLevelled (now order) (now levels) × (length (now levels) ≡ most-nodes) ⌝ }
+    requires { ⌜ GoneOver (now order) (now spans) ⌝ }
+    requires { ⌜ LinesLevelled (now order) (now levels) ⌝ }
     requires { ⌜ most-words ≤ length (now part) ⌝ }
     requires { ⌜ Indexed (now starts) (now book) ⌝ }
     requires { ⌜ Ready (turn .number) (turn .by) (listOf low (k .k) (now order)) (listed (now starts) (now book)) (now counts) (now marks) ⌝ }
@@ -90,10 +92,11 @@ fn tally_parts(
     let lines = order.len() / 2;
     let mut line: usize = 0;
     while line < lines {
-        if own::is_low(order, levels, line, k) == low {
+        if parts::is_low(spans, line, k) == low {
             let d = k.of_middles();
             if !tally_cut(
                 order,
+                spans,
                 levels,
                 line,
                 d,
@@ -116,7 +119,8 @@ fn tally_parts(
 // this turn. Answers false where one has no entry; what was tallied then is of no use.
 fn tally_section(
     order: &[u16],
-    levels: &[u8; limits::MOST_NODES],
+    spans: &[u16],
+    levels: &[u8],
     k: Depth,
     section: Section,
     part: &mut [u16],
@@ -127,8 +131,8 @@ fn tally_section(
     turn: Turn,
 ) -> bool
     requires { ⌜ least-k ≤ k .k ⌝ }
-    requires { ⌜ causeOf (now order) ≡ done ⌝ }
-    requires { ⌜ LinesLevelled (now order) (now levels) × (length (now levels) ≡ most-nodes) ⌝ }
+    requires { ⌜ GoneOver (now order) (now spans) ⌝ }
+    requires { ⌜ LinesLevelled (now order) (now levels) ⌝ }
     requires { ⌜ most-words ≤ length (now part) ⌝ }
     requires { ⌜ Indexed (now starts) (now book) ⌝ }
     requires { ⌜ Ready (turn .number) (turn .by) (partsIn section (k .k) (now order)) (listed (now starts) (now book)) (now counts) (now marks) ⌝ }
@@ -137,14 +141,39 @@ fn tally_section(
     match section {
         Section::Taught => {
             let d = limits::GREATEST_DEPTH;
-            tally_cut(order, levels, 0, d, part, book, starts, counts, marks, turn)
+            tally_cut(
+                order,
+                spans,
+                levels,
+                0,
+                d,
+                part,
+                book,
+                starts,
+                counts,
+                marks,
+                turn,
+            )
         }
         Section::Tops => {
             let d = k.of_tops();
-            tally_cut(order, levels, 0, d, part, book, starts, counts, marks, turn)
+            tally_cut(
+                order,
+                spans,
+                levels,
+                0,
+                d,
+                part,
+                book,
+                starts,
+                counts,
+                marks,
+                turn,
+            )
         }
         Section::Lows => tally_parts(
             order,
+            spans,
             levels,
             k,
             true,
@@ -157,6 +186,7 @@ fn tally_section(
         ),
         Section::Middles => tally_parts(
             order,
+            spans,
             levels,
             k,
             false,
@@ -170,13 +200,16 @@ fn tally_section(
     }
 }
 
-// Tallies what the taught order at word `at` counts in a section, for the section's listed entries, by marks of this turn. Answers false where
-// a part has no entry; what was tallied then is of no use.
+// Tallies what the taught order at word `at` counts in a section, for the section's listed entries, by marks of this turn. Lent as
+// scratch: spans and levels for the order's lines, and words for a part. Answers false where a part has no entry; what was tallied then is of no use.
 fn tally_order(
     book: &[u16],
     at: usize,
     k: Depth,
     section: Section,
+    spans: &mut [u16],
+    levels: &mut [u8],
+    part: &mut [u16],
     starts: &[u16],
     counts: &mut [u16],
     marks: &mut [u16],
@@ -184,6 +217,7 @@ fn tally_order(
 ) -> bool
     requires { ⌜ (at + width (drop at (now book)) ≤ length (now book)) × (causeOf (firstEntry (drop at (now book)) .key) ≡ done) ⌝ }
     requires { ⌜ least-k ≤ k .k ⌝ }
+    requires { ⌜ (most-words ≤ length (now spans)) × (most-nodes ≤ length (now levels)) × (most-words ≤ length (now part)) ⌝ }
     requires { ⌜ Indexed (now starts) (now book) ⌝ }
     requires { ⌜ Ready turn (firstEntry (drop at (now book)) .count) (partsIn section (k .k) (firstEntry (drop at (now book)) .key)) (listed (now starts) (now book)) (now counts) (now marks) ⌝ }
     ensures { λ r. ⌜ Taken turn (firstEntry (drop at (now (book .entry))) .count) (partsIn section (k .k) (firstEntry (drop at (now (book .entry))) .key))
@@ -192,16 +226,16 @@ fn tally_order(
     let start = at + 2;
     let end = past(book, at);
     let by = book[at + 1];
-    let mut levels = [0u8; limits::MOST_NODES];
-    order::cause_into(&book[start..end], &mut levels);
+    order::cause_into(&book[start..end], spans);
+    order::level_lines(&book[start..end], spans, levels);
     let own = Turn { number: turn, by };
-    let mut part = [0u16; limits::MOST_WORDS];
     tally_section(
         &book[start..end],
-        &levels,
+        spans,
+        levels,
         k,
         section,
-        &mut part,
+        part,
         book,
         starts,
         counts,
@@ -230,10 +264,25 @@ pub fn tally_taught(
     ensures noted { λ r. ⌜ (r ≡ true → now (marks .exit) ≡
         markedAll section (bookIn (now (book .entry)) .k) (bookIn (now (book .entry)) .T) (listed (now (starts .entry)) (now (book .entry))) (now (marks .entry))) ⌝ }
 {
+    let mut spans = [0u16; limits::MOST_WORDS];
+    let mut levels = [0u8; limits::MOST_NODES];
+    let mut part = [0u16; limits::MOST_WORDS];
     let mut at = limits::HEAD_WORDS;
     let mut left = book[limits::TAUGHT_WORD];
     while 0 < left {
-        if !tally_order(book, at, places.k, section, starts, counts, marks, left) {
+        if !tally_order(
+            book,
+            at,
+            places.k,
+            section,
+            &mut spans,
+            &mut levels,
+            &mut part,
+            starts,
+            counts,
+            marks,
+            left,
+        ) {
             return false;
         }
         at = past(book, at);

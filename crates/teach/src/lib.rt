@@ -19,16 +19,18 @@ fn teach_order(book: &mut [u16], places: Places, order: &[u16]) -> Answer
     requires { ⌜ Holds (now book) places ⌝ }
     ensures { λ r. ⌜ outcome r (now (book .exit)) ≡ teachOf (now (book .entry)) (now (order .entry)) ⌝ }
 {
-    let mut levels = [0u8; limits::MOST_NODES];
-    let number = order::cause_into(order, &mut levels);
+    let mut spans = [0u16; limits::MOST_WORDS];
+    let number = order::cause_into(order, &mut spans);
     if number != numbers::DONE {
         return answered(number);
     }
     if book[limits::LIVE_WORD] == limits::GREATEST_COUNT {
         return answered(numbers::TOO_MANY); // one teaching more would pass 65,535
     }
+    let mut levels = [0u8; limits::MOST_NODES];
+    order::level_lines(order, &spans, &mut levels);
     let mut own = [0u16; own::OWN_WORDS];
-    let owns = own::list_own(order, &levels, places.k, &mut own);
+    let owns = own::list_own(order, &spans, &levels, places.k, &mut own);
     let weighed = amend::weigh_book(book, places, &own, owns);
     if weighed.overfull {
         return answered(numbers::TOO_MANY);
@@ -45,13 +47,15 @@ fn withdraw_order(book: &mut [u16], places: Places, order: &[u16]) -> Answer
     requires { ⌜ Holds (now book) places ⌝ }
     ensures { λ r. ⌜ outcome r (now (book .exit)) ≡ withdrawOf (now (book .entry)) (now (order .entry)) ⌝ }
 {
-    let mut levels = [0u8; limits::MOST_NODES];
-    let cause = order::cause_into(order, &mut levels);
+    let mut spans = [0u16; limits::MOST_WORDS];
+    let cause = order::cause_into(order, &mut spans);
     if cause != numbers::DONE {
         return answered(cause);
     }
+    let mut levels = [0u8; limits::MOST_NODES];
+    order::level_lines(order, &spans, &mut levels);
     let mut own = [0u16; own::OWN_WORDS];
-    let owns = own::list_own(order, &levels, places.k, &mut own);
+    let owns = own::list_own(order, &spans, &levels, places.k, &mut own);
     let taught = amend::weigh_section(book, Section::Taught, places, &own, owns);
     if 0 < taught.lacking {
         return answered(numbers::NOT_TAUGHT);

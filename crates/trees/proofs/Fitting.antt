@@ -1,11 +1,11 @@
--- Which words fit (specs/Fits.antt): what the lines of words say of it, that `fitsOf` is `Fits`, and that the parts of an order fit.
+-- Which words fit (specs/Fits.antt): what the tree of words says of it, that `fitsOf` is `Fits`, and that the parts of an order fit.
 -- Assumes nothing.
 use Prim.Native.Nat.{ℕ, _-_, _*_, _/_, _≤_, _<_}
 use mathlib.Core.Path.{_≡_, refl, ap, sym, subst, _∙_}
 use mathlib.Core.Bool.{Bool, true, false}
 use mathlib.Core.List.{List, [], Memᴰ·of-map}
 use native.Mathlib.Omega.{arith}
-use borrow.Author.Tests.{le-leb, lt-leb, leb-true}
+use borrow.Author.Tests.{le-leb, leb-true}
 use lib.Dec.{leb}
 use lib.ListN.{length}
 use Rattle.words.specs.Base.{_and_, within, keep, _∈_}
@@ -26,7 +26,7 @@ use Rattle.trees.proofs.Paper.{subtree-from, subtree-depth}
 use Rattle.trees.proofs.Orders.{size, words-read, read-words, tree-passes}
 use Rattle.trees.proofs.Causes.{Passed, Seen, stopped, passed, seen, order-passed}
 
--- ---- what the lines say
+-- ---- what the tree says
 
 -- The tree of an order that passes is the one that is read.
 pub passed-found : {s : List ℕ} {t : Tree} → Passed s t → treeOf s ≡ found t

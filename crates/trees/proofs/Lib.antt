@@ -8,6 +8,7 @@ pub mod LineParts
 pub mod Reading
 pub mod Rowing
 pub mod Spanning
+pub mod Stacking
 pub mod Waiting
 pub mod Orders
 pub mod Causes

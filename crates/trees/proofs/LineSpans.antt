@@ -4,12 +4,14 @@ use mathlib.Core.Path.{_≡_, refl, ap, sym, _∙_}
 use mathlib.Core.List.{List, [], _∷_, _++_, append-nil}
 use native.Mathlib.Nat.{zero-add, add-zero}
 use native.Mathlib.Omega.{arith}
+use lib.Dec.{leb}
 use lib.ListN.{length, take, drop, getD, length-append, length-drop, length-take}
 use lib.Seq.{drop-nil, drop-drop, getD-take, getD-drop}
 use Rattle.figures.specs.Limits.{greatest-depth}
 use Rattle.figures.specs.Numbers.{done}
 use Rattle.trees.specs.Trees.{Tree, node, Forest, bare, cons, words, depth, cut, subtrees, subtreesF}
 use Rattle.trees.specs.Reading.{Found, missing, found, byOrder, causeOf}
+use Rattle.trees.specs.Parts.{isLow}
 use Rattle.trees.specs.Standing.{treeFrom, cutOf}
 use Rattle.trees.specs.Levels.{treeLevels, levelsIn, LinesLevelled}
 use Rattle.trees.specs.Spans.{lines, linesF, spansFrom, spansIn, GoneOver}
@@ -78,13 +80,19 @@ module _ (os ss : List ℕ) (over : GoneOver os ss) where
   pub span-end : (line : ℕ) (s : Tree) → line < length os / 2 → treeFrom os (line * 2) ≡ found s → getD ss (line * 2) 0 * 2 ≡ line * 2 + length (words s)
   span-end line s h e = omega (arith, span-is line s h e .0, size s)
 
-  -- What is read of a line that stands at a word, counted from 1.
+  -- Whether it stands for a low part.
+  pub span-low : (k line : ℕ) (s : Tree) → line < length os / 2 → treeFrom os (line * 2) ≡ found s → leb (getD ss (line * 2 + 1) 0) (k - 2) ≡ isLow k s
+  unfolding isLow
+  span-low k line s h e = ap (λ (n : ℕ). leb n (k - 2)) (span-is line s h e .1)
+
+  -- What is read of a line that stands at a word.
   pub stands-span : (line at : ℕ) (h : HasLine os line at) → StandsAt os line at
-      → (getD ss ((line - 1) * 2) 0 * 2 ≡ at + length (words (h .spot .tree))) × (getD ss ((line - 1) * 2 + 1) 0 ≡ depth (h .spot .tree))
+      → (at / 2 < length os / 2) × (at / 2 * 2 ≡ at) × (getD ss (at / 2 * 2) 0 * 2 ≡ at + length (words (h .spot .tree))) × (getD ss (at / 2 * 2 + 1) 0 ≡ depth (h .spot .tree))
   stands-span line at h p =
-      let few : line - 1 < length os / 2 = omega (arith, p .some, p .has) in
-      let here : treeFrom os ((line - 1) * 2) ≡ found (h .spot .tree) = ap (treeFrom os) (sym (p .word)) ∙ from-spot os at _ (h .spot) in
-      (span-end (line - 1) (h .spot .tree) few here ∙ ap (λ (n : ℕ). n + length (words (h .spot .tree))) (sym (p .word)), span-is (line - 1) (h .spot .tree) few here .1)
+      let few : at / 2 < length os / 2 = omega (arith, p .some, p .has, p .word) in
+      let even : at / 2 * 2 ≡ at = omega (arith, p .word) in
+      let here : treeFrom os (at / 2 * 2) ≡ found (h .spot .tree) = ap (treeFrom os) even ∙ from-spot os at _ (h .spot) in
+      (few, even, span-end (at / 2) (h .spot .tree) few here ∙ ap (λ (n : ℕ). n + length (words (h .spot .tree))) even, span-is (at / 2) (h .spot .tree) few here .1)
 
 -- ---- the levels
 

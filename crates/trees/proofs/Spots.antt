@@ -31,6 +31,10 @@ two-words-a-line os t p = ap length (p .spelt) ∙ size t
 pub short-order : (os : List ℕ) (t : Tree) → Passed os t → length os ≤ most-words
 short-order os t p = omega (arith, two-words-a-line os t p, p .nodes)
 
+-- The same of words without a cause.
+pub passed-short : (os : List ℕ) → causeOf os ≡ done → length os ≤ most-words
+passed-short os e = let x = has-tree os e in short-order os (x .tree) (x .passes)
+
 -- Every line that an order has stands at its word.
 pub line-at : (os : List ℕ) (line : ℕ) → causeOf os ≡ done → line < length os / 2 → LineAt os line
 line-at os line e h =

@@ -1,59 +1,54 @@
+-- `cuts::cut_line` meets its contract, by whether the cut has room. Assumes nothing.
+use mathlib.Core.Path.{sym}
+use native.Mathlib.Omega.{arith}
 use borrow.Author.Needs.{needs}
+use Rattle.trees.proofs.Spots.{passed-short}
+use Rattle.trees.proofs.LineCuts.{line-short}
+use Rattle.trees.proofs.Writing.{no-output-room, has-room}
 use Rattle.cuts.proofs.cut_line.Statement.{statement}
 use Rattle.cuts.proofs.cut_line.Tie as tie
-use Rattle.cuts.proofs.cut_line.Reads as reads
-use Rattle.cuts.proofs.cut_line.Lts as lts
-use Rattle.cuts.proofs.put_line.Reads as put-line-reads
-use Rattle.figures.proofs.wrote.Reads as wrote-reads
-use Rattle.order.proofs.level_lines.Reads as level-lines-reads
 
--- src/lib.rt:125:38
 slice-aggregate-level-lines : tie.Need-slice-aggregate-level-lines
 slice-aggregate-level-lines c = search needs
 
--- src/lib.rt:125:5
 level-lines-requires : tie.Need-level-lines-requires
-level-lines-requires c κs = search needs
+level-lines-requires c κs = let p = c .before .before .before .before .pre in (p .0, omega (arith, passed-short _ (p .0 .sound)))
 
--- src/lib.rt:127:40
 slice-aggregate-put-line : tie.Need-slice-aggregate-put-line
 slice-aggregate-put-line c = search needs
 
--- src/lib.rt:127:58
 slice-aggregate-put-line-2 : tie.Need-slice-aggregate-put-line-2
 slice-aggregate-put-line-2 c = search needs
 
--- src/lib.rt:127:9
 put-line-requires : tie.Need-put-line-requires
-put-line-requires c κs = search needs
+put-line-requires c κs =
+    let s = c .before .before .before .before .before .before .before .before in
+    (s .pre .0, (c .before .before .before .level-lines .ensures .0, (s .pre .1, omega (arith, line-short _ _ (s .args .d) (s .pre .0 .sound) (s .pre .1)))))
 
--- src/lib.rt:129:9
 wrote-requires : tie.Need-wrote-requires
 wrote-requires c κs = search needs
 
--- src/lib.rt:129:9
 returns : tie.Need-returns
-returns c = search needs
+returns c = no-output-room _ _ _ (c .wrote .ensures) (omega (arith, c .before .before .before .put-line .ensures .0, c .before .if1 .taken))
 
--- src/lib.rt:131:28
 slice-aggregate-put-line-3 : tie.Need-slice-aggregate-put-line-3
 slice-aggregate-put-line-3 c = search needs
 
--- src/lib.rt:131:5
 put-line-requires-2 : tie.Need-put-line-requires-2
-put-line-requires-2 c κs = search needs
+put-line-requires-2 c κs =
+    let p = c .before .before .before .before .before .before .before .before .before .before .before .before .before .pre in
+    (p .0, (c .before .before .before .before .before .before .before .before .level-lines .ensures .0, (p .1, omega (arith, c .before .before .before .before .put-line .ensures .0, c .before .before .if1 .left))))
 
--- src/lib.rt:132:5
 wrote-requires-2 : tie.Need-wrote-requires-2
 wrote-requires-2 c κs = search needs
 
--- src/lib.rt:119:1
 same-length : tie.Need-same-length
 same-length c = search needs
 
--- src/lib.rt:119:1
 returns-2 : tie.Need-returns-2
-returns-2 c = search needs
+returns-2 c =
+    let w = c .before .before .before .before .before .before .before .before .put-line .ensures .0 in
+    has-room _ _ _ _ _ (c .wrote2 .ensures) (sym w) (c .before .before .before .before .before .before .if1 .left) (c .before .before .before .put-line2 .ensures .1)
 
 pub cut-line-spec : {M : Type 1} → statement M
 cut-line-spec =

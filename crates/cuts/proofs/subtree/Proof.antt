@@ -12,26 +12,27 @@ use Rattle.cuts.proofs.subtree.Statement.{statement}
 use Rattle.cuts.proofs.subtree.Tie as tie
 
 -- The line stands at the word.
-stands : (c : tie.After-at) → StandsAt (c .before .before .before .before .before .args .order .now) (c .before .before .before .before .before .args .line) (c .at .given .0 .0)
-stands c = stands-at _ _ _ (sym (c .before .before .find-line .ensures .0) ∙ c .at .given .1)
+stands : (c : tie.After-at) → StandsAt (c .before .before .before .before .before .before .args .order .now) (c .before .before .before .before .before .before .args .line) (c .at .given .0 .0)
+stands c = stands-at _ _ _ (sym (c .before .before .before .find-line .ensures .0) ∙ c .at .given .1)
 
 -- The order has the line.
-has : (c : tie.After-at) → HasLine (c .before .before .before .before .before .args .order .now) (c .before .before .before .before .before .args .line) (c .at .given .0 .0)
-has c = placed _ _ _ _ (c .before .before .find-line .ensures .0) (c .at .given .1)
+has : (c : tie.After-at) → HasLine (c .before .before .before .before .before .before .args .order .now) (c .before .before .before .before .before .before .args .line) (c .at .given .0 .0)
+has c = placed _ _ _ _ (c .before .before .before .find-line .ensures .0) (c .at .given .1)
 
--- It ends behind the words of its tree.
-ends : (c : tie.After-line-end) →
-    let h = has (c .before .before .before) in
-    c .line-end .result * 2 ≡ c .before .before .before .at .given .0 .0 + length (words (h .spot .tree))
+-- Its subtree ends behind the words of its tree.
+ends : (c : tie.After-line-end) → c .line-end .result * 2 ≡ c .before .before .before .at .given .0 .0 + length (words (has (c .before .before .before) .spot .tree))
 ends c =
-    let k = stands (c .before .before .before) in
-    ap (λ (n : ℕ). n * 2) (c .line-end .ensures) ∙ stands-span _ _ (c .before .before .before .before .before .find-line .ensures .1 .0 (k .passes)) _ _ (has (c .before .before .before)) k .0
+    let a = c .before .before .before in
+    ap (λ (n : ℕ). n * 2) (c .line-end .ensures) ∙ stands-span _ _ (a .before .before .before .find-line .ensures .1 .0 (stands a .passes)) _ _ (has a) (stands a) .2
 
 -- It ends within the order.
 within : (c : tie.After-line-end) →
     (c .before .before .before .at .given .0 .0 ≤ c .line-end .result * 2)
-    × (c .line-end .result * 2 ≤ length (c .before .before .before .before .before .before .before .before .args .order .now))
+    × (c .line-end .result * 2 ≤ length (c .before .before .before .before .before .before .before .before .before .args .order .now))
 within c = let k = stands (c .before .before .before) in subtree-within _ _ _ (has (c .before .before .before)) _ (omega arith) (ends c)
+
+slice-aggregate-find-line : tie.Need-slice-aggregate-find-line
+slice-aggregate-find-line c = search needs
 
 find-line-requires : tie.Need-find-line-requires
 find-line-requires c κs = search needs
@@ -63,14 +64,17 @@ part-result-end-2 c = search needs
 enum-known-at : tie.Need-enum-known-at
 enum-known-at c = search needs
 
-sub-line-end : tie.Need-sub-line-end
-sub-line-end c = let k = stands (c .before .before) in omega arith
+slice-aggregate-line-end : tie.Need-slice-aggregate-line-end
+slice-aggregate-line-end c = search needs
 
 line-end-requires : tie.Need-line-end-requires
 line-end-requires c κs =
-    let k = stands (c .before .before) in
-    let f = c .before .before .before .before .find-line .ensures .1 in
-    (k .passes, (f .0 (k .passes), (omega arith, f .1)))
+    let a = c .before .before in
+    let over = a .before .before .before .find-line .ensures .1 .0 (stands a .passes) in
+    omega (arith, stands-span _ _ over _ _ (has a) (stands a) .0, spans-room _ _ over)
+
+mul-end : tie.Need-mul-end
+mul-end c = let w = within c in omega arith
 
 mul-result : tie.Need-mul-result
 mul-result c = let k = stands (c .before .before .before) in omega (arith, has (c .before .before .before) .short)
@@ -85,10 +89,10 @@ part-result-end-3 : tie.Need-part-result-end-3
 part-result-end-3 c = let w = within c in omega arith
 
 returns : tie.Need-returns
-returns c = sym (subtree-refused _ _ _ (placed _ _ _ _ (c .before .before .before .find-line .ensures .0) (c .before .enum-told .given .1)))
+returns c = sym (subtree-refused _ _ _ (placed _ _ _ _ (c .before .before .before .before .find-line .ensures .0) (c .before .enum-told .given .1)))
 
 returns-2 : tie.Need-returns-2
-returns-2 c = sym (subtree-lacks _ _ (placed _ _ _ _ (c .before .before .before .find-line .ensures .0) (c .before .enum-told2 .given .1)))
+returns-2 c = sym (subtree-lacks _ _ (placed _ _ _ _ (c .before .before .before .before .find-line .ensures .0) (c .before .enum-told2 .given .1)))
 
 returns-3 : tie.Need-returns-3
 returns-3 c = sym (subtree-has _ _ _ (has (c .before .before .before .before)) _ (ends (c .before)))
@@ -97,6 +101,7 @@ pub subtree-spec : {M : Type 1} → statement M
 subtree-spec =
     tie.close
     (tie.spec
+    slice-aggregate-find-line
     find-line-requires
     enum-told
     sub-result
@@ -107,8 +112,9 @@ subtree-spec =
     part-result-start-2
     part-result-end-2
     enum-known-at
-    sub-line-end
+    slice-aggregate-line-end
     line-end-requires
+    mul-end
     mul-result
     sub-result-3
     part-result-start-3

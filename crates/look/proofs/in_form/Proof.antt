@@ -47,7 +47,7 @@ shallow c = omega (arith, head c .is, leb-true (getD (words c) 0 0) greatest-k (
 
 -- Where k became known, from where section R starts.
 abbrev to-k : tie.After-known-told2 → tie.After-known-told
-to-k c = c .before .before .before .before .before .before .before
+to-k c = c .before .before .before .before .before .before .before .before .before
 
 -- Where section R starts.
 abbrev tops : tie.After-known-told2 → ℕ
@@ -59,39 +59,39 @@ live c = c .before .tops .given .0 .1 .0
 
 -- Section T is in order.
 at-tops : (c : tie.After-known-told2) → Ran (words (to-k c)) Taught (tops c) (live c)
-at-tops c = section-found _ _ (head (to-k c)) Taught _ _ _ refl refl refl _ (c .before .before .before .pass .ensures) _ _ (c .before .tops .given .1)
+at-tops c = section-found _ _ (head (to-k c)) Taught _ _ _ refl refl refl _ (c .before .before .before .before .pass .ensures .0) _ _ (c .before .tops .given .1)
 
 -- Where section R was found, from where section L starts.
 abbrev to-tops : tie.After-known-told3 → tie.After-known-told2
-to-tops c = c .before .before .before .before .before
+to-tops c = c .before .before .before .before .before .before .before
 
 -- Section R is in order.
 at-lows : (c : tie.After-known-told3) → Ran (words (to-k (to-tops c))) Tops (c .before .lows .given .0 .0) (c .before .lows .given .0 .1 .0)
 at-lows c =
     let t = to-tops c in
-    section-found _ _ (head (to-k t)) Tops _ _ _ (at-tops t .next) refl (t .before .before .before .before .before .before .of-tops .ensures) _ (c .before .before .before .pass2 .ensures) _ _ (c .before .lows .given .1)
+    section-found _ _ (head (to-k t)) Tops _ _ _ (at-tops t .next) refl (t .before .before .before .before .before .before .before .before .of-tops .ensures) _ (c .before .before .before .before .pass2 .ensures .0) _ _ (c .before .lows .given .1)
 
 -- Where section L starts, from where section P starts.
 abbrev to-lows : tie.After-known-told4 → tie.After-known-told3
-to-lows c = c .before .before .before .before .before
+to-lows c = c .before .before .before .before .before .before .before
 
 -- Section L is in order.
 at-middles : (c : tie.After-known-told4) → Ran (words (to-k (to-tops (to-lows c)))) Lows (c .before .middles .given .0 .0) (c .before .middles .given .0 .1 .0)
 at-middles c =
     let l = to-lows c in
     let t = to-tops l in
-    section-found _ _ (head (to-k t)) Lows _ _ _ (at-lows l .next) refl (t .before .before .before .before .before .before .of-tops .ensures) _ (c .before .before .before .pass3 .ensures) _ _ (c .before .middles .given .1)
+    section-found _ _ (head (to-k t)) Lows _ _ _ (at-lows l .next) refl (t .before .before .before .before .before .before .before .before .of-tops .ensures) _ (c .before .before .before .before .pass3 .ensures .0) _ _ (c .before .middles .given .1)
 
 -- Where section P starts, from its end.
 abbrev to-middles : tie.After-known-told5 → tie.After-known-told4
-to-middles c = c .before .before .before .before .before
+to-middles c = c .before .before .before .before .before .before .before
 
 -- Section P is in order.
 at-end : (c : tie.After-known-told5) → Ran (words (to-k (to-tops (to-lows (to-middles c))))) Middles (c .before .used .given .0 .0) (c .before .used .given .0 .1 .0)
 at-end c =
     let m = to-middles c in
     let t = to-tops (to-lows m) in
-    section-found _ _ (head (to-k t)) Middles _ _ _ (at-middles m .next) (t .before .before .before .before .before .of-middles .ensures) (t .before .before .before .before .before .of-middles .ensures) _ (c .before .before .before .pass4 .ensures) _ _ (c .before .used .given .1)
+    section-found _ _ (head (to-k t)) Middles _ _ _ (at-middles m .next) (t .before .before .before .before .before .before .before .of-middles .ensures) (t .before .before .before .before .before .before .before .of-middles .ensures) _ (c .before .before .before .before .pass4 .ensures .0) _ _ (c .before .used .given .1)
 
 -- All four are.
 sections : (c : tie.After-known-told5) → Sections (words (to-k (to-tops (to-lows (to-middles c))))) (live (to-tops (to-lows (to-middles c)))) (tops (to-tops (to-lows (to-middles c)))) (to-lows (to-middles c) .before .lows .given .0 .0) (to-middles c .before .middles .given .0 .0) (c .before .used .given .0 .0)
@@ -138,6 +138,9 @@ of-middles-requires c κs = search needs
 shared-slice-read-pass : tie.Need-shared-slice-read-pass
 shared-slice-read-pass c = omega (arith, head (c .before .before .before) .long)
 
+slice-aggregate-pass : tie.Need-slice-aggregate-pass
+slice-aggregate-pass c = search needs
+
 pass-requires : tie.Need-pass-requires
 pass-requires c κs = search needs
 
@@ -148,13 +151,18 @@ enum-told-2 : tie.Need-enum-told-2
 enum-told-2 c = search needs
 
 returns-3 : tie.Need-returns-3
-returns-3 c = sym (no-section _ _ (head (c .before .before .before .before .before .before)) Taught _ _ _ refl refl refl _ (c .before .before .pass .ensures) (c .enum-told2 .given .1))
+returns-3 c = sym (no-section _ _ (head (c .before .before .before .before .before .before .before .before)) Taught _ _ _ refl refl refl _ (c .before .before .before .pass .ensures .0) (c .enum-told2 .given .1))
 
 shared-slice-read-pass-2 : tie.Need-shared-slice-read-pass-2
 shared-slice-read-pass-2 c = omega (arith, head (to-k (c .before)) .long)
 
+slice-aggregate-pass-2 : tie.Need-slice-aggregate-pass-2
+slice-aggregate-pass-2 c = search needs
+
 pass-requires-2 : tie.Need-pass-requires-2
-pass-requires-2 c κs = let k = to-k (c .before) in omega (arith, shallow k, c .before .before .before .before .before .before .before .of-tops .ensures)
+pass-requires-2 c κs =
+    let t = c .before .before in
+    (omega (arith, shallow (to-k t), t .before .before .before .before .before .before .before .before .of-tops .ensures), omega (arith, t .before .before .before .before .pass .ensures .1))
 
 enum-known-lows : tie.Need-enum-known-lows
 enum-known-lows c = search needs
@@ -164,16 +172,20 @@ enum-told-3 c = search needs
 
 returns-4 : tie.Need-returns-4
 returns-4 c =
-    let t = c .before .before .before .before in
-    sym (no-section _ _ (head (to-k t)) Tops _ _ _ (at-tops t .next) refl (t .before .before .before .before .before .before .of-tops .ensures) _ (c .before .before .pass2 .ensures) (c .enum-told3 .given .1))
+    let t = c .before .before .before .before .before .before in
+    sym (no-section _ _ (head (to-k t)) Tops _ _ _ (at-tops t .next) refl (t .before .before .before .before .before .before .before .before .of-tops .ensures) _ (c .before .before .before .pass2 .ensures .0) (c .enum-told3 .given .1))
 
 shared-slice-read-pass-3 : tie.Need-shared-slice-read-pass-3
 shared-slice-read-pass-3 c = omega (arith, head (to-k (to-tops (c .before))) .long)
 
+slice-aggregate-pass-3 : tie.Need-slice-aggregate-pass-3
+slice-aggregate-pass-3 c = search needs
+
 pass-requires-3 : tie.Need-pass-requires-3
 pass-requires-3 c κs =
-    let t = to-tops (c .before) in
-    omega (arith, shallow (to-k t), t .before .before .before .before .before .before .of-tops .ensures)
+    let l = c .before .before in
+    let t = to-tops l in
+    (omega (arith, shallow (to-k t), t .before .before .before .before .before .before .before .before .of-tops .ensures), omega (arith, l .before .before .before .before .pass2 .ensures .1, t .before .before .before .before .pass .ensures .1))
 
 enum-known-middles : tie.Need-enum-known-middles
 enum-known-middles c = search needs
@@ -183,17 +195,21 @@ enum-told-4 c = search needs
 
 returns-5 : tie.Need-returns-5
 returns-5 c =
-    let l = c .before .before .before .before in
+    let l = c .before .before .before .before .before .before in
     let t = to-tops l in
-    sym (no-section _ _ (head (to-k t)) Lows _ _ _ (at-lows l .next) refl (t .before .before .before .before .before .before .of-tops .ensures) _ (c .before .before .pass3 .ensures) (c .enum-told4 .given .1))
+    sym (no-section _ _ (head (to-k t)) Lows _ _ _ (at-lows l .next) refl (t .before .before .before .before .before .before .before .before .of-tops .ensures) _ (c .before .before .before .pass3 .ensures .0) (c .enum-told4 .given .1))
 
 shared-slice-read-pass-4 : tie.Need-shared-slice-read-pass-4
 shared-slice-read-pass-4 c = omega (arith, head (to-k (to-tops (to-lows (c .before)))) .long)
 
+slice-aggregate-pass-4 : tie.Need-slice-aggregate-pass-4
+slice-aggregate-pass-4 c = search needs
+
 pass-requires-4 : tie.Need-pass-requires-4
 pass-requires-4 c κs =
-    let t = to-tops (to-lows (c .before)) in
-    omega (arith, shallow (to-k t), t .before .before .before .before .before .of-middles .ensures)
+    let m = c .before .before in
+    let t = to-tops (to-lows m) in
+    (omega (arith, shallow (to-k t), t .before .before .before .before .before .before .before .of-middles .ensures), omega (arith, m .before .before .before .before .pass3 .ensures .1, to-lows m .before .before .before .before .pass2 .ensures .1, t .before .before .before .before .pass .ensures .1))
 
 enum-known-used : tie.Need-enum-known-used
 enum-known-used c = search needs
@@ -203,9 +219,9 @@ enum-told-5 c = search needs
 
 returns-6 : tie.Need-returns-6
 returns-6 c =
-    let m = c .before .before .before .before in
+    let m = c .before .before .before .before .before .before in
     let t = to-tops (to-lows m) in
-    sym (no-section _ _ (head (to-k t)) Middles _ _ _ (at-middles m .next) (t .before .before .before .before .before .of-middles .ensures) (t .before .before .before .before .before .of-middles .ensures) _ (c .before .before .pass4 .ensures) (c .enum-told5 .given .1))
+    sym (no-section _ _ (head (to-k t)) Middles _ _ _ (at-middles m .next) (t .before .before .before .before .before .before .before .of-middles .ensures) (t .before .before .before .before .before .before .before .of-middles .ensures) _ (c .before .before .before .pass4 .ensures .0) (c .enum-told5 .given .1))
 
 head-right-requires : tie.Need-head-right-requires
 head-right-requires c κs = head (to-k (to-tops (to-lows (to-middles c)))) .long
@@ -234,21 +250,25 @@ in-form-spec =
     of-tops-requires
     of-middles-requires
     shared-slice-read-pass
+    slice-aggregate-pass
     pass-requires
     enum-known-tops
     enum-told-2
     returns-3
     shared-slice-read-pass-2
+    slice-aggregate-pass-2
     pass-requires-2
     enum-known-lows
     enum-told-3
     returns-4
     shared-slice-read-pass-3
+    slice-aggregate-pass-3
     pass-requires-3
     enum-known-middles
     enum-told-4
     returns-5
     shared-slice-read-pass-4
+    slice-aggregate-pass-4
     pass-requires-4
     enum-known-used
     enum-told-5

@@ -12,27 +12,27 @@ use Rattle.book.proofs.Runs.{Told, told, not-told, all-passed, runs-out, uncoun
 use Rattle.look.proofs.pass.Statement.{statement}
 use Rattle.look.proofs.pass.Tie as tie
 
--- The key passed last lies in the book, the sum is small enough, and what is to be found is found of the entries left.
+-- The key passed last lies in the book, the sum is small enough, what is to be found is found of the entries left, and the stack is as long as it was.
 abbrev Inv-loop : tie.InvT-loop
-Inv-loop book from n least greatest at₀ left₀ sum₀ last₀ last-end₀ at left sum last last-end =
+Inv-loop book from n least greatest stack₀ at₀ left₀ sum₀ last₀ last-end₀ stack at left sum last last-end =
     (last ≤ last-end) × (last-end ≤ length book) × (left ≤ n) × (sum ≤ greatest-count * (n - left))
-    × (stretchOf book from n least greatest ≡ stretch least greatest (take (last-end - last) (drop last book)) at sum left (drop at book))
+    × (stretchOf book from n least greatest ≡ stretch least greatest (take (last-end - last) (drop last book)) at sum left (drop at book)) × (length stack ≡ length stack₀)
 
 -- The entries left.
 abbrev μ-loop : tie.MeasureT-loop
-μ-loop book from n least greatest at₀ left₀ sum₀ last₀ last-end₀ at left sum last last-end = left
+μ-loop book from n least greatest stack₀ at₀ left₀ sum₀ last₀ last-end₀ stack at left sum last last-end = left
 
 -- The words.
 abbrev book : tie.At-loop Inv-loop μ-loop → List ℕ
-book k = k .before .before .args .book .now
+book k = k .before .before .before .args .book .now
 
 -- The least depth.
 abbrev least : tie.At-loop Inv-loop μ-loop → ℕ
-least k = k .before .before .args .least
+least k = k .before .before .before .args .least
 
 -- The greatest depth.
 abbrev greatest : tie.At-loop Inv-loop μ-loop → ℕ
-greatest k = k .before .before .args .greatest
+greatest k = k .before .before .before .args .greatest
 
 -- The key of the entry passed last.
 abbrev last-key : tie.At-loop Inv-loop μ-loop → List ℕ
@@ -62,11 +62,11 @@ there c = told _ _ _ (c .before .before .before .whole-at .ensures) _ _ (c .befo
 
 -- Its count is a word.
 small : (c : tie.After-known-told Inv-loop μ-loop) → count c ≤ greatest-count
-small c = omega (arith, there c .counts, top c .before .shared-slice-known .given (top c .loop .at + 1))
+small c = omega (arith, there c .counts, top c .before .before .shared-slice-known .given (top c .loop .at + 1))
 
 loop-holds : tie.Need-loop-holds Inv-loop μ-loop
 unfolding stretchOf
-loop-holds c = (omega arith, omega arith, omega arith, omega arith, refl)
+loop-holds c = (omega arith, omega arith, omega arith, omega arith, refl, refl)
 
 whole-at-requires : tie.Need-whole-at-requires Inv-loop μ-loop
 whole-at-requires c κs = search needs
@@ -77,43 +77,25 @@ enum-known-end c = search needs
 enum-told : tie.Need-enum-told Inv-loop μ-loop
 enum-told c = search needs
 
+same-length : tie.Need-same-length Inv-loop μ-loop
+same-length c = search needs
+
 returns : tie.Need-returns Inv-loop μ-loop
 returns c =
     let k = c .before .before .before .before in
-    sym (k .loop .inv .4 ∙ runs-out (book k) (least k) (greatest k) (last-key k) (k .loop .at) (k .loop .sum) (k .loop .left) (c .before .before .before .loop-test .taken) (not-told _ _ _ (c .before .before .whole-at .ensures) (c .enum-told .given .1)))
+    (sym (k .loop .inv .4 ∙ runs-out (book k) (least k) (greatest k) (last-key k) (k .loop .at) (k .loop .sum) (k .loop .left) (c .before .before .before .loop-test .taken) (not-told _ _ _ (c .before .before .whole-at .ensures) (c .enum-told .given .1))), k .loop .inv .5)
 
 add-start : tie.Need-add-start Inv-loop μ-loop
 add-start c = let i = there c in omega (arith, i .ends, i .fits)
+
+same-length-2 : tie.Need-same-length-2 Inv-loop μ-loop
+same-length-2 c = search needs
 
 returns-2 : tie.Need-returns-2 Inv-loop μ-loop
 returns-2 c =
     let e = c .before in
     let k = top e in
-    sym (k .loop .inv .4 ∙ uncounted (book k) (least k) (greatest k) (last-key k) (k .loop .at) (k .loop .sum) (k .loop .left) (e .before .before .before .before .loop-test .taken) (end e) (count e) (there e) (c .if1 .taken))
-
-mul-fits : tie.Need-mul-fits Inv-loop μ-loop
-mul-fits c = let i = there (c .before) in omega (arith, i .ends, i .fits)
-
-sub-fits : tie.Need-sub-fits Inv-loop μ-loop
-sub-fits c = let i = there (c .before) in omega (arith, i .ends, i .fits)
-
-part-fits-start : tie.Need-part-fits-start Inv-loop μ-loop
-part-fits-start c = let i = there (c .before) in omega (arith, i .ends, i .fits)
-
-part-fits-end : tie.Need-part-fits-end Inv-loop μ-loop
-part-fits-end c = let i = there (c .before) in omega (arith, i .ends, i .fits)
-
-fits-requires : tie.Need-fits-requires Inv-loop μ-loop
-fits-requires c κs =
-    let e = c .before .before in
-    (even _ _ _ _ (there e), top e .before .before .pre)
-
-returns-3 : tie.Need-returns-3 Inv-loop μ-loop
-returns-3 c =
-    let f = c .before .before .before in
-    let e = f .before in
-    let k = top e in
-    sym (k .loop .inv .4 ∙ misfit (book k) (least k) (greatest k) (last-key k) (k .loop .at) (k .loop .sum) (k .loop .left) (e .before .before .before .before .loop-test .taken) (end e) (count e) (there e) (f .if1 .left) (small e) (sym (c .before .fits2 .ensures) ∙ not-true _ (c .if2 .taken)))
+    (sym (k .loop .inv .4 ∙ uncounted (book k) (least k) (greatest k) (last-key k) (k .loop .at) (k .loop .sum) (k .loop .left) (e .before .before .before .before .loop-test .taken) (end e) (count e) (there e) (c .if1 .taken)), k .loop .inv .5)
 
 mul-precedes : tie.Need-mul-precedes Inv-loop μ-loop
 mul-precedes c = search needs
@@ -128,30 +110,61 @@ part-precedes-end : tie.Need-part-precedes-end Inv-loop μ-loop
 part-precedes-end c = search needs
 
 mul-precedes-2 : tie.Need-mul-precedes-2 Inv-loop μ-loop
-mul-precedes-2 c = let i = there (c .before .before .before .before .before) in omega (arith, i .ends, i .fits)
+mul-precedes-2 c = let i = there (c .before .before) in omega (arith, i .ends, i .fits)
 
 sub-precedes-2 : tie.Need-sub-precedes-2 Inv-loop μ-loop
-sub-precedes-2 c = let i = there (c .before .before .before .before .before) in omega (arith, i .ends, i .fits)
+sub-precedes-2 c = let i = there (c .before .before) in omega (arith, i .ends, i .fits)
 
 part-precedes-start-2 : tie.Need-part-precedes-start-2 Inv-loop μ-loop
-part-precedes-start-2 c = let i = there (c .before .before .before .before .before) in omega (arith, i .ends, i .fits)
+part-precedes-start-2 c = let i = there (c .before .before) in omega (arith, i .ends, i .fits)
 
 part-precedes-end-2 : tie.Need-part-precedes-end-2 Inv-loop μ-loop
-part-precedes-end-2 c = let i = there (c .before .before .before .before .before) in omega (arith, i .ends, i .fits)
+part-precedes-end-2 c = let i = there (c .before .before) in omega (arith, i .ends, i .fits)
 
 precedes-requires : tie.Need-precedes-requires Inv-loop μ-loop
 precedes-requires c κs = search needs
 
+same-length-3 : tie.Need-same-length-3 Inv-loop μ-loop
+same-length-3 c = search needs
+
+returns-3 : tie.Need-returns-3 Inv-loop μ-loop
+returns-3 c =
+    let e = c .before .before .before .before .before in
+    let k = top e in
+    (sym (k .loop .inv .4 ∙ unsorted (book k) (least k) (greatest k) (last-key k) (k .loop .at) (k .loop .sum) (k .loop .left) (e .before .before .before .before .loop-test .taken) (end e) (count e) (there e) (sym (c .before .precedes .ensures) ∙ not-true _ (c .if2 .taken))), k .loop .inv .5)
+
+mul-fits : tie.Need-mul-fits Inv-loop μ-loop
+mul-fits c = let i = there (c .before .before .before .before .before) in omega (arith, i .ends, i .fits)
+
+sub-fits : tie.Need-sub-fits Inv-loop μ-loop
+sub-fits c = let i = there (c .before .before .before .before .before) in omega (arith, i .ends, i .fits)
+
+part-fits-start : tie.Need-part-fits-start Inv-loop μ-loop
+part-fits-start c = let i = there (c .before .before .before .before .before) in omega (arith, i .ends, i .fits)
+
+part-fits-end : tie.Need-part-fits-end Inv-loop μ-loop
+part-fits-end c = let i = there (c .before .before .before .before .before) in omega (arith, i .ends, i .fits)
+
+fits-requires : tie.Need-fits-requires Inv-loop μ-loop
+fits-requires c κs =
+    let e = c .before .before .before .before .before .before .before in
+    let k = top e in
+    let p = k .before .before .before .pre in
+    (even _ _ _ _ (there e), p .0, omega (arith, p .1, k .loop .inv .5))
+
+same-length-4 : tie.Need-same-length-4 Inv-loop μ-loop
+same-length-4 c = search needs
+
 returns-4 : tie.Need-returns-4 Inv-loop μ-loop
 returns-4 c =
-    let g = c .before .before .before .before in
-    let f = g .before .before .before in
-    let e = f .before in
+    let f = c .before .before .before in
+    let g = f .before .before .before in
+    let e = g .before .before .before .before .before in
     let k = top e in
-    sym (k .loop .inv .4 ∙ unsorted (book k) (least k) (greatest k) (last-key k) (k .loop .at) (k .loop .sum) (k .loop .left) (e .before .before .before .before .loop-test .taken) (end e) (count e) (there e) (f .if1 .left) (small e) (sym (g .before .fits2 .ensures) ∙ not-false _ (g .if2 .left)) (sym (c .before .precedes .ensures) ∙ not-true _ (c .if3 .taken)))
+    (sym (k .loop .inv .4 ∙ misfit (book k) (least k) (greatest k) (last-key k) (k .loop .at) (k .loop .sum) (k .loop .left) (e .before .before .before .before .loop-test .taken) (end e) (count e) (there e) (g .before .before .before .before .if1 .left) (small e) (sym (f .fits2 .ensures .0) ∙ not-true _ (c .if3 .taken))), f .fits2 .ensures .1 ∙ k .loop .inv .5)
 
 add-sum : tie.Need-add-sum Inv-loop μ-loop
-add-sum c = let s = small (c .before .before .before .before .before .before .before .before) in omega arith
+add-sum c = let s = small (c .before .before .before .before .before .before .before .before .before .before .before) in omega arith
 
 sub-left : tie.Need-sub-left Inv-loop μ-loop
 sub-left c = search needs
@@ -161,9 +174,9 @@ loop-less c = search needs
 
 loop-again : tie.Need-loop-again Inv-loop μ-loop
 loop-again c =
-    let g = c .before .before .before .before in
-    let f = g .before .before .before in
-    let e = f .before in
+    let f = c .before .before .before in
+    let g = f .before .before .before in
+    let e = g .before .before .before .before .before in
     let k = top e in
     let i = there e in
     let s = small e in (
@@ -171,13 +184,17 @@ loop-again c =
       i .fits,
       omega arith,
       omega arith,
-      k .loop .inv .4 ∙ goes-on (book k) (least k) (greatest k) (last-key k) (k .loop .at) (k .loop .sum) (k .loop .left) (e .before .before .before .before .loop-test .taken) (end e) (count e) i (f .if1 .left) s (sym (g .before .fits2 .ensures) ∙ not-false _ (g .if2 .left)) (sym (c .before .precedes .ensures) ∙ not-false _ (c .if3 .left)),
+      k .loop .inv .4 ∙ goes-on (book k) (least k) (greatest k) (last-key k) (k .loop .at) (k .loop .sum) (k .loop .left) (e .before .before .before .before .loop-test .taken) (end e) (count e) i (g .before .before .before .before .if1 .left) s (sym (f .fits2 .ensures .0) ∙ not-false _ (c .if3 .left)) (sym (g .before .precedes .ensures) ∙ not-false _ (g .if2 .left)),
+      f .fits2 .ensures .1 ∙ k .loop .inv .5,
     )
+
+same-length-5 : tie.Need-same-length-5 Inv-loop μ-loop
+same-length-5 c = search needs
 
 returns-5 : tie.Need-returns-5 Inv-loop μ-loop
 returns-5 c =
     let k = c .before in
-    sym (k .loop .inv .4 ∙ all-passed (least k) (greatest k) (last-key k) (k .loop .at) (k .loop .sum) (k .loop .left) (drop (k .loop .at) (book k)) (c .loop-test .left))
+    (sym (k .loop .inv .4 ∙ all-passed (least k) (greatest k) (last-key k) (k .loop .at) (k .loop .sum) (k .loop .left) (drop (k .loop .at) (book k)) (c .loop-test .left)), k .loop .inv .5)
 
 pub pass-spec : {M : Type 1} → statement M
 pass-spec =
@@ -189,15 +206,11 @@ pass-spec =
     whole-at-requires
     enum-known-end
     enum-told
+    same-length
     returns
     add-start
+    same-length-2
     returns-2
-    mul-fits
-    sub-fits
-    part-fits-start
-    part-fits-end
-    fits-requires
-    returns-3
     mul-precedes
     sub-precedes
     part-precedes-start
@@ -207,9 +220,18 @@ pass-spec =
     part-precedes-start-2
     part-precedes-end-2
     precedes-requires
+    same-length-3
+    returns-3
+    mul-fits
+    sub-fits
+    part-fits-start
+    part-fits-end
+    fits-requires
+    same-length-4
     returns-4
     add-sum
     sub-left
     loop-less
     loop-again
+    same-length-5
     returns-5)

@@ -2,7 +2,7 @@
 use native.Mathlib.Omega.{arith}
 use lib.ListN.{length-set}
 use borrow.Author.Needs.{needs}
-use Rattle.form.proofs.LineBytes.{six-stores}
+use Rattle.form.proofs.LineBytes.{first-digit, third-digit, last-digit, six-stores}
 use Rattle.print.proofs.put_code.Statement.{statement}
 use Rattle.print.proofs.put_code.Tie as tie
 
@@ -40,7 +40,9 @@ same-length : tie.Need-same-length
 same-length c = simp length-set
 
 returns : tie.Need-returns
-returns c = six-stores _ _ _ _ _ _ (c .before .before .before .before .before .pre) (c .before .before .before .digit-of .ensures) (c .before .before .digit-of2 .ensures) (c .before .digit-of3 .ensures) (c .digit-of4 .ensures)
+returns c =
+    let n = c .before .before .before .before .before .args .code in
+    six-stores _ _ _ _ _ _ (c .before .before .before .before .before .pre) (first-digit n _ (c .before .before .before .digit-of .ensures)) (c .before .before .digit-of2 .ensures) (third-digit n _ (c .before .digit-of3 .ensures)) (last-digit n _ (c .digit-of4 .ensures))
 
 pub put-code-spec : {M : Type 1} → statement M
 put-code-spec =

@@ -4,8 +4,9 @@ use mathlib.Core.Path.{_≡_, refl, _∙_}
 use native.Mathlib.Omega.{arith}
 use lib.ListN.{length, getD}
 use borrow.Author.Needs.{needs}
+use Rattle.trees.proofs.LineSpans.{levels-room, level-small}
 use Rattle.form.specs.Turns.{linesIn}
-use Rattle.print.proofs.Written.{Known, known, level-small, Put, put-none, PutNext, put-next, put-all}
+use Rattle.print.proofs.Written.{Known, known, Put, put-none, PutNext, put-next, put-all}
 use Rattle.form.proofs.LineBytes.{part-size}
 use Rattle.print.proofs.put_lines.Statement.{statement}
 use Rattle.print.proofs.put_lines.Tie as tie
@@ -18,24 +19,24 @@ abbrev μ-loop : tie.MeasureT-loop
 
 -- What a turn finds.
 found : (c : tie.In-loop Inv-loop μ-loop) →
-    let a = c .before .before .before .before .args in
+    let a = c .before .before .before .before .before .args in
     let l = c .before .loop in
     PutNext (linesIn (a .order .now)) (a .out .now) (l .out) (l .line) (l .at) (record { level = getD (a .levels .now) (l .line) 0; code = getD (a .order .now) (2 * l .line) 0 })
-found c = let p = c .before .before .before .before .pre in put-next _ _ (p .0) (p .1) _ _ _ _ (p .2) (c .before .loop .inv .0) (c .loop-test .taken) (c .before .loop .inv .1)
+found c = let p = c .before .before .before .before .before .pre in put-next _ _ (p .0) (p .1) _ _ _ _ (p .2) (c .before .loop .inv .0) (c .loop-test .taken) (c .before .loop .inv .1)
 
 -- The order has words for each line, and not too many.
-lines : (c : tie.In-loop Inv-loop μ-loop) → let s = c .before .before .before .before .args .order .now in Known s (linesIn s)
-lines c = known _ (c .before .before .before .before .pre .0)
+lines : (c : tie.In-loop Inv-loop μ-loop) → let s = c .before .before .before .before .before .args .order .now in Known s (linesIn s)
+lines c = known _ (c .before .before .before .before .before .pre .0)
 
 loop-holds : tie.Need-loop-holds Inv-loop μ-loop
 loop-holds c = (refl, put-none _ _)
 
-element-copy-out-level : tie.Need-element-copy-out-level Inv-loop μ-loop
-element-copy-out-level c = let k = lines c in omega arith
+shared-slice-read-level : tie.Need-shared-slice-read-level Inv-loop μ-loop
+shared-slice-read-level c = let p = c .before .before .before .before .before .before .pre in omega (arith, levels-room _ _ (p .0) (p .1))
 
 cast-level : tie.Need-cast-level Inv-loop μ-loop
 cast-level c =
-    let p = c .before .before .before .before .before .pre in
+    let p = c .before .before .before .before .before .before .pre in
     omega (arith, level-small _ _ (p .0) (p .1) _ (c .before .loop-test .taken))
 
 mul-code : tie.Need-mul-code Inv-loop μ-loop
@@ -60,7 +61,7 @@ put-line-requires : tie.Need-put-line-requires Inv-loop μ-loop
 put-line-requires c κs = let t = found (c .before .before .before) in let l = c .before .before .before .before .loop in omega (arith, t .room, part-size (l .at) (l .out))
 
 add-at : tie.Need-add-at Inv-loop μ-loop
-add-at c = let t = found (c .before .before .before .before .before .before) in omega (arith, t .room, c .before .before .put-line .ensures .0, c .before .before .before .before .before .before .before .before .before .before .good)
+add-at c = let t = found (c .before .before .before .before .before .before) in omega (arith, t .room, c .before .before .put-line .ensures .0, c .before .before .before .before .before .before .before .before .before .before .before .good)
 
 add-line : tie.Need-add-line Inv-loop μ-loop
 add-line c = let k = lines (c .before .before .before .before .before .before) in omega arith
@@ -75,7 +76,7 @@ same-length : tie.Need-same-length Inv-loop μ-loop
 same-length c = c .before .loop .inv .0
 
 returns : tie.Need-returns Inv-loop μ-loop
-returns c = put-all _ _ _ _ _ (c .before .before .before .before .pre .0) (c .loop-test .left) (c .before .loop .inv .1)
+returns c = put-all _ _ _ _ _ (c .before .before .before .before .before .pre .0) (c .loop-test .left) (c .before .loop .inv .1)
 
 pub put-lines-spec : {M : Type 1} → statement M
 put-lines-spec =
@@ -84,7 +85,7 @@ put-lines-spec =
     Inv-loop
     μ-loop
     loop-holds
-    element-copy-out-level
+    shared-slice-read-level
     cast-level
     mul-code
     mul-code-2

@@ -1,81 +1,36 @@
--- `print::text_size` meets its contract: the lines before are measured. Assumes nothing.
-use Prim.Native.Nat.{_-_, _*_, _≤_}
+-- `print::text_size` meets its contract: seven bytes for each line of an order less than ten deep, and those of the lines' levels otherwise. Assumes nothing.
 use native.Mathlib.Omega.{arith}
-use lib.ListN.{getD}
 use borrow.Author.Needs.{needs}
-use Rattle.form.specs.Turns.{linesIn}
-use Rattle.form.proofs.LineBytes.{level-most}
-use Rattle.print.proofs.Written.{Known, known, level-small, Measured, measured-none, measured-most, measured-next, measured-all}
+use Rattle.trees.proofs.LineSpans.{spans-room}
+use Rattle.print.proofs.Written.{some-words, text-shallow}
 use Rattle.print.proofs.text_size.Statement.{statement}
 use Rattle.print.proofs.text_size.Tie as tie
 
-abbrev Inv-loop : tie.InvT-loop
-Inv-loop order levels n line₀ bytes₀ line bytes = Measured (linesIn order) line bytes
+shared-slice-read-depth : tie.Need-shared-slice-read-depth
+shared-slice-read-depth c = let p = c .before .before .before .before .pre .0 in omega (arith, some-words _ (p .sound), spans-room _ _ p)
 
-abbrev μ-loop : tie.MeasureT-loop
-μ-loop order levels n line₀ bytes₀ line bytes = n - line
+add-result : tie.Need-add-result
+add-result c = search needs
 
--- What the call asks.
-asked : (c : tie.In-loop Inv-loop μ-loop) → let s = c .before .before .before .args .order .now in Known s (linesIn s)
-asked c = known _ (c .before .before .before .pre .0 .0)
+mul-result : tie.Need-mul-result
+mul-result c = search needs
 
--- A level takes at most two bytes.
-short : (c : tie.After-level-size Inv-loop μ-loop) → c .level-size .result ≤ 2
-short c =
-    let a = c .before .before .before .before .before .args in
-    omega (arith, c .level-size .ensures, level-most (getD (a .levels .now) (c .before .before .before .loop .line) 0))
+returns : tie.Need-returns
+returns c = text-shallow _ _ (c .before .before .before .before .before .pre .0) (c .if1 .taken)
 
--- The lines before take at most eight bytes each.
-few : (c : tie.In-loop Inv-loop μ-loop) → let l = c .before .loop in l .bytes ≤ 8 * l .line
-few c = measured-most _ _ _ (c .before .loop .inv)
+lines-size-requires : tie.Need-lines-size-requires
+lines-size-requires c κs = let p = c .before .before .before .before .before .pre in (p .0 .sound, p .1)
 
-loop-holds : tie.Need-loop-holds Inv-loop μ-loop
-loop-holds c = measured-none _
-
-element-copy-out-level : tie.Need-element-copy-out-level Inv-loop μ-loop
-element-copy-out-level c = let k = asked c in omega arith
-
-cast-level : tie.Need-cast-level Inv-loop μ-loop
-cast-level c =
-    let p = c .before .before .before .before .pre .0 in
-    omega (arith, level-small _ _ (p .0) (p .1) _ (c .before .loop-test .taken))
-
-level-size-requires : tie.Need-level-size-requires Inv-loop μ-loop
-level-size-requires c κs = search needs
-
-add-bytes : tie.Need-add-bytes Inv-loop μ-loop
-add-bytes c = omega (arith, short c)
-
-add-bytes-2 : tie.Need-add-bytes-2 Inv-loop μ-loop
-add-bytes-2 c = let k = asked (c .before .before) in omega (arith, few (c .before .before), short c)
-
-add-line : tie.Need-add-line Inv-loop μ-loop
-add-line c = let k = asked (c .before .before) in omega arith
-
-loop-less : tie.Need-loop-less Inv-loop μ-loop
-loop-less c = search needs
-
-loop-again : tie.Need-loop-again Inv-loop μ-loop
-loop-again c =
-    let p = c .before .before .before .before .before .pre .0 in
-    measured-next _ _ (p .0) (p .1) _ _ _ (c .before .before .loop-test .taken) (c .level-size .ensures) (c .before .before .before .loop .inv)
-
-returns : tie.Need-returns Inv-loop μ-loop
-returns c = measured-all _ _ _ (c .before .before .before .pre .0 .0) (c .loop-test .left) (c .before .loop .inv)
+returns-2 : tie.Need-returns-2
+returns-2 c = search needs
 
 pub text-size-spec : {M : Type 1} → statement M
 text-size-spec =
     tie.close
     (tie.spec
-    Inv-loop
-    μ-loop
-    loop-holds
-    element-copy-out-level
-    cast-level
-    level-size-requires
-    add-bytes
-    add-bytes-2
-    add-line
-    loop-less
-    loop-again
-    returns)
+    shared-slice-read-depth
+    add-result
+    mul-result
+    returns
+    lines-size-requires
+    returns-2)

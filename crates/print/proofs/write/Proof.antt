@@ -1,25 +1,25 @@
 -- `print::write` meets its contract: the cause refuses, or the bytes of the lines have room, or not. Assumes nothing.
 use mathlib.Core.Path.{_≡_, sym, _∙_}
 use native.Mathlib.Omega.{arith}
-use lib.ListN.{length, take}
 use borrow.Author.Needs.{needs}
 use Rattle.figures.specs.Numbers.{done}
 use Rattle.trees.specs.Reading.{causeOf}
-use Rattle.trees.proofs.Cuts.{no-output-room, has-room}
-use Rattle.form.specs.Turns.{linesIn, levelsOf}
-use Rattle.print.proofs.Written.{levels-listed, write-refused, write-lines}
+use Rattle.trees.specs.Spans.{GoneOver}
+use Rattle.trees.proofs.Writing.{no-output-room, has-room}
+use Rattle.print.proofs.Written.{known, write-refused, write-lines}
 use Rattle.print.proofs.write.Statement.{statement}
 use Rattle.print.proofs.write.Tie as tie
 
 -- The order passes.
-fine : (c : tie.Else1) → causeOf (c .before .before .before .before .before .args .order .now) ≡ done
-fine c = sym (c .before .cause-into .ensures .0) ∙ c .if1 .left
+fine : (c : tie.Else1) → causeOf (c .before .before .before .before .before .before .args .order .now) ≡ done
+fine c = sym (c .before .before .cause-into .ensures .0) ∙ c .if1 .left
 
--- The levels of its lines are known.
-levelled : (c : tie.Else1) →
-    let s = c .before .before .before .before .before .args .order .now in
-    take (length (linesIn s)) (c .before .cause-into .last .1 .0) ≡ levelsOf (linesIn s)
-levelled c = levels-listed _ _ (fine c) (c .before .cause-into .ensures .1 .0 (fine c))
+-- The spans of its lines are known.
+gone-over : (c : tie.Else1) → GoneOver (c .before .before .before .before .before .before .args .order .now) (c .before .before .cause-into .last .1 .0)
+gone-over c = c .before .before .cause-into .ensures .1 .0 (fine c)
+
+slice-aggregate-cause-into : tie.Need-slice-aggregate-cause-into
+slice-aggregate-cause-into c = search needs
 
 cause-into-requires : tie.Need-cause-into-requires
 cause-into-requires c κs = search needs
@@ -28,19 +28,37 @@ wrote-requires : tie.Need-wrote-requires
 wrote-requires c κs = search needs
 
 returns : tie.Need-returns
-returns c = write-refused _ _ _ _ (c .before .before .cause-into .ensures .0) (c .before .if1 .taken) (c .wrote .ensures)
+returns c = write-refused _ _ _ _ (c .before .before .before .cause-into .ensures .0) (c .before .if1 .taken) (c .wrote .ensures)
+
+slice-aggregate-level-lines : tie.Need-slice-aggregate-level-lines
+slice-aggregate-level-lines c = search needs
+
+slice-aggregate-level-lines-2 : tie.Need-slice-aggregate-level-lines-2
+slice-aggregate-level-lines-2 c = search needs
+
+level-lines-requires : tie.Need-level-lines-requires
+level-lines-requires c κs = let k = known _ (fine (c .before .before)) in (gone-over (c .before .before), omega (arith, k .twice, k .few))
+
+slice-aggregate-text-size : tie.Need-slice-aggregate-text-size
+slice-aggregate-text-size c = search needs
+
+slice-aggregate-text-size-2 : tie.Need-slice-aggregate-text-size-2
+slice-aggregate-text-size-2 c = search needs
 
 text-size-requires : tie.Need-text-size-requires
-text-size-requires c κs = ((fine (c .before), levelled (c .before)), c .before .before .cause-into .ensures .1 .1)
+text-size-requires c κs = (gone-over (c .before .before .before .before .before .before), c .before .before .before .level-lines .ensures .0)
 
 wrote-requires-2 : tie.Need-wrote-requires-2
 wrote-requires-2 c κs = search needs
 
 returns-2 : tie.Need-returns-2
-returns-2 c = no-output-room _ _ _ (c .wrote2 .ensures) (omega arith) ∙ sym (write-lines _ _ (fine (c .before .before .before .before)))
+returns-2 c = no-output-room _ _ _ (c .wrote2 .ensures) (omega arith) ∙ sym (write-lines _ _ (fine (c .before .before .before .before .before .before .before .before .before)))
+
+slice-aggregate-put-lines : tie.Need-slice-aggregate-put-lines
+slice-aggregate-put-lines c = search needs
 
 put-lines-requires : tie.Need-put-lines-requires
-put-lines-requires c κs = let e = c .before .before .before .before .before in (fine e, levelled e, omega arith)
+put-lines-requires c κs = (fine (c .before .before .before .before .before .before .before .before .before .before), c .before .before .before .before .before .before .before .level-lines .ensures .0, omega arith)
 
 wrote-requires-3 : tie.Need-wrote-requires-3
 wrote-requires-3 c κs = search needs
@@ -52,18 +70,25 @@ returns-3 : tie.Need-returns-3
 returns-3 c =
     let t = c .before .before .before .before .before .before .before in
     has-room _ _ _ _ _ (c .wrote3 .ensures) (sym (t .text-size .ensures)) (c .before .before .before .before .before .before .if2 .left) (c .before .before .before .put-lines .ensures)
-    ∙ sym (write-lines _ _ (fine (t .before .before)))
+    ∙ sym (write-lines _ _ (fine (t .before .before .before .before .before .before .before)))
 
 pub write-spec : {M : Type 1} → statement M
 write-spec =
     tie.close
     (tie.spec
+    slice-aggregate-cause-into
     cause-into-requires
     wrote-requires
     returns
+    slice-aggregate-level-lines
+    slice-aggregate-level-lines-2
+    level-lines-requires
+    slice-aggregate-text-size
+    slice-aggregate-text-size-2
     text-size-requires
     wrote-requires-2
     returns-2
+    slice-aggregate-put-lines
     put-lines-requires
     wrote-requires-3
     same-length
