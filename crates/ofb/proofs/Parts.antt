@@ -14,7 +14,7 @@ use Rattle.trees.specs.Reading.{Found, missing, found, byFound, byOrder}
 use Rattle.trees.specs.Answers.{treeAt, lineOf, subtreeOf}
 use Rattle.trees.proofs.Causes.{Passed, Seen, stopped, passed, seen}
 use Rattle.trees.proofs.Lines.{subtree-part}
-use Rattle.trees.proofs.Walks.{two-words}
+use Rattle.trees.proofs.Orders.{two-words}
 use Rattle.trees.proofs.Spots.{short-order}
 use Rattle.trees.proofs.Answers.{subtree-refused}
 use Rattle.ofb.specs.Interface.{partInC}

@@ -18,7 +18,7 @@ use Rattle.trees.specs.Causes.{Cause}
 use Rattle.trees.specs.Fits.{IsOrder}
 use Rattle.trees.specs.Parts.{isLow, middle, partOf}
 use Rattle.trees.specs.Answers.{checkOf, lineOf, subtreeOf, Writing, writing, refuse, write, cutIntoOf, PartWriting, partWriting, noPart, ofKind, partIntoOf}
-use Rattle.trees.specs.Walks.{placeOf}
+use Rattle.trees.specs.Standing.{placeOf}
 use Rattle.trees.specs.declared.Kind.the-variants.{Low, Middle}
 use Rattle.trees.specs.declared.Place.the-variants.{Lacking, At}
 use Rattle.trees.proofs.Orders.{size}

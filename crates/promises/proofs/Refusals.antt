@@ -16,7 +16,7 @@ use Rattle.trees.specs.Trees.{Tree, words, cut, subtrees}
 use Rattle.trees.specs.Reading.{Found, missing, found, byFound, Order, refused, order, byOrder, orderOf}
 use Rattle.trees.specs.Parts.{partOf}
 use Rattle.trees.specs.Answers.{lineOf, Writing, writing, refuse, write, cutIntoOf, PartWriting, partWriting, noPart, ofKind, partIntoOf}
-use Rattle.trees.proofs.Cuts.{no-output-room, has-room}
+use Rattle.trees.proofs.Writing.{no-output-room, has-room}
 use Rattle.form.specs.Text.{textOf}
 use Rattle.form.specs.Reading.{Form, fault, form, byForm, formOf, wordsOf, readOf}
 use Rattle.form.specs.Writing.{writeOf}

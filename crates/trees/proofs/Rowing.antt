@@ -4,9 +4,9 @@ use mathlib.Core.Path.{_≡_, refl, sym, ap, subst, _∙_}
 use mathlib.Core.Bool.{Bool, true, false}
 use mathlib.Core.List.{List, [], _∷_, _++_, append-assoc, append-nil}
 use native.Mathlib.Omega.{arith}
-use borrow.Author.Tests.{le-leb, leb-true}
+use borrow.Author.Tests.{le-leb, lt-leb, leb-true, leb-false}
 use lib.Dec.{leb}
-use lib.ListN.{length, drop}
+use lib.ListN.{length, drop, getD}
 use Rattle.words.specs.Base.{_and_, if_then_else_}
 use Rattle.words.proofs.Tests.{and-left, and-right}
 use Rattle.figures.specs.Nodes.{soundNode}
@@ -15,6 +15,7 @@ use Rattle.trees.specs.Trees.{Tree, node, Forest, bare, cons, count, wor
 use Rattle.trees.specs.Reading.{firstTrees, laterTrees, Found, missing, found, treeOf}
 use Rattle.trees.proofs.Reading.{join, node-ok, count-take}
 use Rattle.trees.proofs.Orders.{words-read, read-words}
+use Rattle.trees.proofs.Writing.{two}
 use Rattle.trees.specs.Spans.{Rowed, faulty, rowed, nodeBefore, rowOf}
 
 -- ---- what is read is what `words` writes
@@ -137,3 +138,17 @@ faulty-before (suc i) (c ∷ n ∷ ws) h e =
     no-row : (b : Bool) → nodeBefore b c n faulty ≡ faulty
     no-row true = refl
     no-row false = refl
+
+-- ---- one node
+
+-- The words from a node on are its two and those behind it.
+pub node-words : (os : List ℕ) (here at : ℕ) → here + 2 ≡ at → at ≤ length os → drop here os ≡ getD os here 0 ∷ getD os (here + 1) 0 ∷ drop at os
+node-words os here at e h = two os here (omega arith) ∙ ap (λ (n : ℕ). getD os here 0 ∷ getD os (here + 1) 0 ∷ drop n os) e
+
+-- One less of both compares alike.
+pub leb-less : (a b : ℕ) → leb (suc a) (suc b) ≡ leb a b
+leb-less a b = go (leb a b) refl
+  where
+    go : (x : Bool) → leb a b ≡ x → leb (suc a) (suc b) ≡ leb a b
+    go true e = le-leb (suc a) (suc b) (omega (arith, leb-true a b e)) ∙ sym e
+    go false e = lt-leb (suc a) (suc b) (omega (arith, leb-false a b e)) ∙ sym e

@@ -1,6 +1,6 @@
 -- A row of trees gone over by the spans of its subtrees: what is left after each child, and what all lines say of the tree that words are. Assumes nothing.
 use Prim.Native.Nat.{ℕ, zero, suc, _+_, _*_, _-_, _/_, _≤_, _<_, max}
-use mathlib.Core.Path.{_≡_, refl, sym, ap, _∙_}
+use mathlib.Core.Path.{_≡_, refl, sym, ap, ap₂, _∙_}
 use mathlib.Core.Bool.{Bool, true, false}
 use mathlib.Core.List.{List, [], _∷_, _++_, append-nil}
 use native.Mathlib.Omega.{arith}
@@ -18,7 +18,7 @@ use Rattle.trees.specs.Reading.{firstTrees, laterTrees, Found, missing, 
 use Rattle.trees.specs.Spans.{lines, linesF, spansFrom, spansIn, GoneOver, Rowed, faulty, rowed, nodeBefore, rowOf, SpansAre, spannedBy, measuredOf}
 use Rattle.trees.proofs.Orders.{FoundDeep, words-read}
 use Rattle.trees.proofs.Causes.{has-tree}
-use Rattle.trees.proofs.Rowing.{subtrees-split, tree-row, row-tree, row-missing, faulty-before}
+use Rattle.trees.proofs.Rowing.{node-words, leb-less, subtrees-split, tree-row, row-tree, row-missing, faulty-before}
 use Rattle.trees.specs.declared.Spanned.{Spanned}
 use Rattle.trees.specs.declared.Spanned.the-variants.{Lacking, To}
 use Rattle.trees.specs.declared.Measured.the-variants.{Broken, Deep}
@@ -87,14 +87,6 @@ behind-first i t f =
 
 -- ---- the loop over a node's children
 
--- One less of both compares alike.
-leb-shift : (a b c d : ℕ) → a ≡ suc c → b ≡ suc d → leb a b ≡ leb c d
-leb-shift a b c d p q = go (leb c d) refl
-  where
-    go : (x : Bool) → leb c d ≡ x → leb a b ≡ leb c d
-    go true e = le-leb a b (omega (arith, leb-true c d e)) ∙ sym e
-    go false e = lt-leb a b (omega (arith, leb-false c d e)) ∙ sym e
-
 -- The deepest of three, whichever two are taken first.
 max-again : (a b c d : ℕ) → max a (max (suc b) c) ≡ d → max (max a (suc b)) c ≡ d
 max-again a b c d h = omega arith
@@ -148,7 +140,7 @@ module _ (os ss : List ℕ) (from children : ℕ) (even : 2 * (length os / 2) �
               is = o .is;
               rest = f;
               here = here′;
-              enough = o .enough ∙ leb-shift left (count (o .rest)) (left - 1) (count f) (omega arith) counts;
+              enough = o .enough ∙ ap₂ leb (el′) counts ∙ leb-less l (count f) ∙ ap (λ (n : ℕ). leb n (count f)) (sym le);
               deep = λ h. rw (le, d) (max-again depth₀ (depth t) (depthF (firstTrees l f)) _ (rw (el′, e) at (o .deep (omega (arith, counts)))));
               far = λ h. rw le (omega (arith, n, ap (λ (g : Forest). linesF (firstTrees left g)) e, ap (λ (k : ℕ). linesF (firstTrees k (cons t f))) el′, o .far (omega (arith, counts))));
               ends = omega (arith, n);
@@ -192,10 +184,7 @@ back-start os ss even room short =
 
 -- The words from a line on are its two and those behind it.
 two-words : (os : List ℕ) (at : ℕ) → 2 * at + 2 ≤ length os → drop (2 * at) os ≡ getD os (2 * at) 0 ∷ getD os (2 * at + 1) 0 ∷ drop (2 * (at + 1)) os
-two-words os at h =
-    let e : suc (suc (2 * at)) ≡ 2 * (at + 1) = omega arith in
-    let f : suc (2 * at) ≡ 2 * at + 1 = omega arith in
-    drop-cons os (2 * at) 0 (omega arith) ∙ ap (λ (l : List ℕ). getD os (2 * at) 0 ∷ l) (drop-cons os (suc (2 * at)) 0 (omega arith) ∙ rw (e, f) refl)
+two-words os at h = node-words os (2 * at) (2 * (at + 1)) (omega arith) (omega arith)
 
 -- What a node comes to.
 abbrev end-of : Spanned → ℕ

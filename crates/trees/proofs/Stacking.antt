@@ -7,7 +7,7 @@ use native.Mathlib.Omega.{arith}
 use borrow.Author.Tests.{le-leb, lt-leb, leb-true, leb-false}
 use lib.Dec.{leb}
 use lib.ListN.{length, take, drop, getD, set, length-set, length-append, length-drop, drop-of-length-le}
-use lib.Seq.{take-take, take-at, getD-at, getD-take, drop-cons, take-suc-set}
+use lib.Seq.{take-take, take-at, getD-at, getD-take, take-suc-set}
 use Rattle.words.specs.Base.{if_then_else_}
 use Rattle.figures.specs.Nodes.{soundNode}
 use Rattle.figures.specs.Limits.{most-words}
@@ -17,7 +17,7 @@ use Rattle.trees.specs.Spans.{Rowed, faulty, rowed, nodeBefore, rowOf, m
 use Rattle.trees.specs.declared.Measured.the-variants.{Broken, Deep}
 use Rattle.trees.specs.declared.Popped.{Popped}
 use Rattle.trees.specs.declared.Popped.the-variants.{Short, Left}
-use Rattle.trees.proofs.Rowing.{row-tree, row-missing, faulty-before}
+use Rattle.trees.proofs.Rowing.{row-tree, row-missing, faulty-before, node-words, leb-less}
 
 -- ---- what taking children from a stack leaves
 
@@ -35,14 +35,6 @@ first-off t f many ss m e =
       sym (getD-take (suc many) ss many 0 (omega arith)) ∙ ap (λ (l : List ℕ). getD l many 0) e ∙ getD-at (stackOf f) (depth t) [] 0 many n,
       sym (take-take many (suc many) ss (omega arith)) ∙ ap (take many) e ∙ take-at (stackOf f) (depth t ∷ []) many n,
     )
-
--- One less of both compares alike.
-leb-suc : (a b : ℕ) → leb (suc a) (suc b) ≡ leb a b
-leb-suc a b = go (leb a b) refl
-  where
-    go : (x : Bool) → leb a b ≡ x → leb (suc a) (suc b) ≡ leb a b
-    go true e = le-leb (suc a) (suc b) (omega (arith, leb-true a b e)) ∙ sym e
-    go false e = lt-leb (suc a) (suc b) (omega (arith, leb-false a b e)) ∙ sym e
 
 -- What a turn does: none is left to take, or the stack is too short, or a word is taken from it.
 pub all-popped : (left rest deep : ℕ) (ss : List ℕ) → left ≡ 0 → poppedBy left rest deep ss ≡ Left rest deep
@@ -83,7 +75,7 @@ taken (suc n) (cons t f) (suc many) deep ss m e =
     let a : max (max deep (suc (depth t))) (depthF (firstTrees n f)) ≡ max deep (max (suc (depth t)) (depthF (firstTrees n f))) = omega arith in
     let b : count f - n ≡ suc (count f) - suc n = omega arith in
     let r : poppedBy n many (max deep (suc (depth t))) ss ≡ takenBy n (max deep (suc (depth t))) f = taken n f many (max deep (suc (depth t))) ss k (o .1) in
-    rw (leb-suc n (count f), ← b, ← a) (ap (λ (d : ℕ). poppedBy n many (max deep (suc d)) ss) (o .0) ∙ r)
+    rw (leb-less n (count f), ← b, ← a) (ap (λ (d : ℕ). poppedBy n many (max deep (suc d)) ss) (o .0) ∙ r)
 
 -- What is left of the stack is that of the trees behind.
 left-over : (n : ℕ) (f : Forest) (many : ℕ) (ss : List ℕ) → many ≡ count f → take many ss ≡ stackOf f → n ≤ many → (many - n ≡ count (laterTrees n f)) × (take (many - n) ss ≡ stackOf (laterTrees n f))
@@ -175,13 +167,6 @@ row-of os ss₀ ss at many b = go (rowOf (drop at os)) refl (b .are) (row-small 
 pub stacked-few : (os ss₀ ss : List ℕ) (at many : ℕ) → Stacked os ss₀ ss at many → many ≤ length ss
 stacked-few os ss₀ ss at many b = let o = row-of os ss₀ ss at many b in omega (arith, o .counted, o .few, b .room, b .even)
 
--- The words from a node on are its two and those behind it.
-two-words : (os : List ℕ) (at here : ℕ) → here + 2 ≡ at → at ≤ length os → drop here os ≡ getD os here 0 ∷ getD os (here + 1) 0 ∷ drop at os
-two-words os at here e h =
-    let a : suc (suc here) ≡ at = omega arith in
-    let b : suc here ≡ here + 1 = omega arith in
-    drop-cons os here 0 (omega arith) ∙ ap (λ (l : List ℕ). getD os here 0 ∷ l) (drop-cons os (suc here) 0 (omega arith) ∙ rw (a, b) refl)
-
 -- What is taken.
 abbrev many-of : Popped → ℕ
 many-of Short = 0
@@ -237,7 +222,7 @@ module _ (os ss₀ ss : List ℕ) (at many : ℕ) (b : Stacked os ss₀ ss at ma
     -- The row from the node on, by the row behind it.
     row-here : rowOf (drop here os) ≡ nodeBefore (soundNode c n) c n (rowOf (drop at os))
     unfolding rowOf
-    row-here = ap rowOf (two-words os at here (omega (arith, b .paired)) (b .low)) ∙ rw (code, children) refl
+    row-here = ap rowOf (node-words os here at (omega (arith, b .paired)) (b .low)) ∙ rw (code, children) refl
 
     -- A fault here is one of the whole.
     fault-here : rowOf (drop here os) ≡ faulty → Broken ≡ measuredOf (treeOf os)

@@ -3,7 +3,7 @@ use mathlib.Core.Path.{sym, ap, _∙_}
 use native.Mathlib.Omega.{arith}
 use borrow.Author.Needs.{needs}
 use Rattle.figures.specs.declared.Answer.{Answer}
-use Rattle.trees.proofs.Cuts.{no-output-room, has-room}
+use Rattle.trees.proofs.Writing.{no-output-room, has-room}
 use Rattle.files.proofs.Writing.{Agreed, checked-agreed, agreed-file, refused-file, Telling, telling, file-over}
 use Rattle.store.proofs.write.Statement.{statement}
 use Rattle.store.proofs.write.Tie as tie
