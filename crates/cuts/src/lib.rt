@@ -1,7 +1,7 @@
 // The subtree of a line of an order, as that part of its words, and its cut, written to a lent slice. Assumes nothing beyond the `requires` of an
 // inner function.
 ghost use mathlib.Core.Path.{_≡_};
-ghost use Prim.Native.Nat.{_+_, _*_, _/_, _≤_, _<_, _^_};
+ghost use Prim.Native.Nat.{_+_, _*_, _/_, _≤_, _<_};
 ghost use lib.ListN.{length, getD};
 ghost use lib.Dec.{leb};
 ghost use Rattle.words.specs.Base.{over, if_then_else_};

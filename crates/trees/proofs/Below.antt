@@ -1,16 +1,14 @@
 -- What stands strictly below a tree's line follows it in the list of an order's subtrees, before all that stands elsewhere, and so do its words. Assumes
 -- nothing.
-use Prim.Native.Nat.{ℕ, _+_, _*_, _/_, _<_}
+use Prim.Native.Nat.{ℕ, _+_, _<_}
 use mathlib.Core.Path.{_≡_, refl, ap, sym, _∙_}
 use mathlib.Core.List.{List, [], _∷_, _++_, append-assoc, append-nil}
 use native.Mathlib.Omega.{arith}
 use lib.ListN.{length, take, drop, length-append, take-append-drop}
 use Rattle.words.specs.Base.{_∈_}
-use Rattle.trees.specs.Trees.{Tree, node, Forest, bare, cons, words, subtrees, subtreesF, below}
+use Rattle.trees.specs.Trees.{Tree, node, Forest, bare, cons, subtrees, subtreesF, below}
 use Rattle.trees.specs.Reading.{found}
 use Rattle.trees.specs.Answers.{treeAt}
-use Rattle.trees.proofs.Orders.{size}
-use Rattle.trees.proofs.Causes.{Passed}
 use Rattle.trees.proofs.Lines.{at-left, at-behind, place-within, tree-next}
 use Rattle.trees.proofs.LineParts.{at-in, in-at}
 

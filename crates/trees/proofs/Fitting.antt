@@ -8,7 +8,7 @@ use native.Mathlib.Omega.{arith}
 use borrow.Author.Tests.{le-leb, leb-true}
 use lib.Dec.{leb}
 use lib.ListN.{length}
-use Rattle.words.specs.Base.{_and_, within, keep, _∈_}
+use Rattle.words.specs.Base.{within, keep, _∈_}
 use Rattle.words.specs.Compare.{compareOf}
 use Rattle.words.specs.declared.Compared.the-variants.{Lower}
 use Rattle.words.proofs.Tests.{no-test, and-left, and-right, and-both, fails-right}

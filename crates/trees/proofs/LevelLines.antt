@@ -10,9 +10,9 @@ use lib.Seq.{drop-drop, drop-at, getD-at, getD-drop, getD-take, getD-set-same, g
 use Rattle.figures.specs.Limits.{greatest-depth}
 use Rattle.figures.specs.Numbers.{done}
 use Rattle.trees.specs.Trees.{Tree, node, Forest, bare, cons, count, words, subtrees, subtreesF}
-use Rattle.trees.specs.Reading.{order, orderOf, byOrder, causeOf}
+use Rattle.trees.specs.Reading.{causeOf}
 use Rattle.trees.specs.Levels.{treeLevels, levelsIn, LinesLevelled}
-use Rattle.trees.specs.Spans.{lines, linesF, spansFrom, spansIn, GoneOver, RowAt, hopped}
+use Rattle.trees.specs.Spans.{lines, linesF, spansFrom, GoneOver, RowAt, hopped}
 use Rattle.trees.proofs.Causes.{has-tree}
 use Rattle.trees.proofs.Spots.{two-words-a-line}
 use Rattle.trees.proofs.Spanning.{spans-long, spans-append, lines-subtrees, linesF-subtrees, some-line, spans-of}

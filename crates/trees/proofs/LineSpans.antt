@@ -1,24 +1,24 @@
 -- A line of an order that was gone over: what the scratch says of its subtree, and what waits from the line on. Assumes nothing.
 use Prim.Native.Nat.{ℕ, zero, suc, _+_, _-_, _*_, _/_, _≤_, _<_}
 use mathlib.Core.Path.{_≡_, refl, ap, sym, _∙_}
-use mathlib.Core.List.{List, [], _∷_, _++_, append-nil}
+use mathlib.Core.List.{List, [], _∷_, append-nil}
 use native.Mathlib.Nat.{zero-add, add-zero}
 use native.Mathlib.Omega.{arith}
 use lib.Dec.{leb}
-use lib.ListN.{length, take, drop, getD, length-append, length-drop, length-take}
+use lib.ListN.{length, drop, getD, length-drop, length-take}
 use lib.Seq.{drop-nil, drop-drop, getD-take, getD-drop}
 use Rattle.figures.specs.Limits.{greatest-depth}
 use Rattle.figures.specs.Numbers.{done}
-use Rattle.trees.specs.Trees.{Tree, node, Forest, bare, cons, words, depth, cut, subtrees, subtreesF}
-use Rattle.trees.specs.Reading.{Found, missing, found, byOrder, causeOf}
+use Rattle.trees.specs.Trees.{Tree, node, Forest, words, depth, cut, subtrees}
+use Rattle.trees.specs.Reading.{found, causeOf}
 use Rattle.trees.specs.Parts.{isLow}
 use Rattle.trees.specs.Standing.{treeFrom, cutOf}
 use Rattle.trees.specs.Levels.{treeLevels, levelsIn, LinesLevelled}
-use Rattle.trees.specs.Spans.{lines, linesF, spansFrom, spansIn, GoneOver}
+use Rattle.trees.specs.Spans.{lines, spansFrom, spansIn, GoneOver}
 use Rattle.trees.specs.Answers.{treeAt}
 use Rattle.trees.proofs.Orders.{size}
 use Rattle.trees.proofs.Causes.{Passed, has-tree}
-use Rattle.trees.proofs.Lines.{Spot, line-spot, from-spot, cut-spot, next-tree, HasLine, StandsAt}
+use Rattle.trees.proofs.Lines.{line-spot, from-spot, cut-spot, next-tree, HasLine, StandsAt}
 use Rattle.trees.proofs.Spots.{two-words-a-line}
 use Rattle.trees.proofs.Spanning.{spans-long, lines-subtrees, spans-of}
 use Rattle.trees.proofs.Levels.{levels-count, level-within, levels-of}

@@ -11,7 +11,7 @@ use lib.Seq.{drop-append-add}
 use Rattle.words.specs.Base.{if_then_else_}
 use Rattle.figures.specs.Limits.{most-words}
 use Rattle.figures.specs.Numbers.{done}
-use Rattle.trees.specs.Trees.{Tree, node, Forest, bare, cons, count, words, wordsF, depth, cut, Good, GoodF, subtrees, subtreesF}
+use Rattle.trees.specs.Trees.{Tree, node, Forest, bare, cons, count, words, wordsF, cut, Good, GoodF, subtrees, subtreesF}
 use Rattle.trees.specs.Reading.{byFound, Found, missing, found, refused, order, byOrder, orderOf, causeOf}
 use Rattle.trees.specs.Standing.{firstTree, treeFrom, cutOf, linePlace, placeOf}
 use Rattle.trees.specs.Answers.{treeAt, lineOf}

@@ -1,5 +1,5 @@
 -- The row of trees that words spell from their last node on is what `words` writes, and says which tree words are. Assumes nothing.
-use Prim.Native.Nat.{ℕ, zero, suc, _+_, _*_, _-_, _≤_, _<_}
+use Prim.Native.Nat.{ℕ, zero, suc, _+_, _*_, _-_, _≤_}
 use mathlib.Core.Path.{_≡_, refl, sym, ap, subst, _∙_}
 use mathlib.Core.Bool.{Bool, true, false}
 use mathlib.Core.List.{List, [], _∷_, _++_, append-assoc, append-nil}
@@ -10,7 +10,7 @@ use lib.ListN.{length, drop, getD}
 use Rattle.words.specs.Base.{_and_, if_then_else_}
 use Rattle.words.proofs.Tests.{and-left, and-right}
 use Rattle.figures.specs.Nodes.{soundNode}
-use Rattle.figures.specs.Limits.{least-code, greatest-code, most-children}
+use Rattle.figures.specs.Limits.{least-code, greatest-code}
 use Rattle.trees.specs.Trees.{Tree, node, Forest, bare, cons, count, words, wordsF, subtrees, subtreesF, Good, GoodF}
 use Rattle.trees.specs.Reading.{firstTrees, laterTrees, Found, missing, found, treeOf}
 use Rattle.trees.proofs.Reading.{join, node-ok, count-take}

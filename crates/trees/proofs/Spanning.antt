@@ -5,10 +5,10 @@ use mathlib.Core.Bool.{Bool, true, false}
 use mathlib.Core.List.{List, [], _∷_, _++_, append-nil}
 use native.Mathlib.Omega.{arith}
 use native.Mathlib.Nat.{zero-max, add-zero}
-use borrow.Author.Tests.{le-leb, lt-leb, leb-true, leb-false}
+use borrow.Author.Tests.{le-leb, lt-leb}
 use lib.Dec.{leb}
 use lib.ListN.{length, take, drop, getD, set, length-set, length-append, length-drop, length-take, drop-of-length-le}
-use lib.Seq.{drop-drop, drop-append-seam, drop-cons, getD-drop, getD-take, take-set-lt, drop-set-add}
+use lib.Seq.{drop-drop, drop-append-seam, getD-drop, getD-take, take-set-lt, drop-set-add}
 use Rattle.words.specs.Base.{if_then_else_}
 use Rattle.figures.specs.Limits.{most-words}
 use Rattle.figures.specs.Nodes.{soundNode}

@@ -1,10 +1,8 @@
 -- Trees of an order that are still to be gone over, line after line, each with the level of its top: their words, subtrees and levels, and what they are once
 -- the first of them is opened, so that its children wait in its place. Assumes nothing.
-use Prim.Native.Nat.{ℕ, suc, _+_}
+use Prim.Native.Nat.{ℕ, suc}
 use mathlib.Core.Path.{_≡_, refl, ap, sym, _∙_}
 use mathlib.Core.List.{List, [], _∷_, _++_, append-assoc}
-use native.Mathlib.Omega.{arith}
-use lib.ListN.{length, length-append}
 use Rattle.trees.specs.Trees.{Tree, node, Forest, bare, cons, count, words, wordsF, subtrees, subtreesF}
 use Rattle.trees.specs.Levels.{treeLevels, rowLevels}
 

@@ -1,7 +1,6 @@
 -- `cuts::cut_into` meets its contract, by where the line stands. Assumes nothing.
 use Prim.Native.Nat.{ℕ}
 use mathlib.Core.Path.{ap, sym, _∙_}
-use native.Mathlib.Omega.{arith}
 use borrow.Author.Needs.{needs}
 use Rattle.figures.specs.declared.Written.{Written}
 use Rattle.trees.specs.Standing.{cutOf}

@@ -1,14 +1,12 @@
 -- `cuts::put_line` meets its contract. The loop's invariant: the cut is written up to a line, and what waits from there on is left. Assumes nothing.
-use mathlib.Core.Path.{_≡_, refl, ap, sym, subst, _∙_}
-use Prim.Native.Nat.{ℕ, _+_, _-_, _*_}
+use mathlib.Core.Path.{subst, _∙_}
+use Prim.Native.Nat.{ℕ, _-_}
 use native.Mathlib.Omega.{arith}
-use native.Mathlib.Nat.{add-zero}
-use lib.ListN.{length, getD, length-set}
-use lib.Seq.{getD-drop}
+use lib.ListN.{getD, length-set}
 use borrow.Author.Needs.{needs}
 use Rattle.trees.specs.Levels.{LinesLevelled}
 use Rattle.trees.specs.Spans.{GoneOver}
-use Rattle.trees.proofs.LineSpans.{LineOpen, line-open, line-starts, spans-room, levels-room}
+use Rattle.trees.proofs.LineSpans.{line-open, line-starts, spans-room, levels-room}
 use Rattle.trees.proofs.Putting.{Putting, Turning, put-start, put-length, put-done, turning}
 use Rattle.cuts.proofs.put_line.Statement.{statement}
 use Rattle.cuts.proofs.put_line.Tie as tie

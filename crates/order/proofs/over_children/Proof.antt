@@ -1,8 +1,8 @@
 -- `order::over_children` meets its contract: before each turn the spans from `at` on are those of the trees that are left. Assumes nothing.
-use Prim.Native.Nat.{suc, _+_, _*_, _-_, _/_, _≤_, max}
+use Prim.Native.Nat.{_*_, _/_, _≤_}
 use mathlib.Core.Path.{_≡_, refl, sym}
 use native.Mathlib.Omega.{arith}
-use lib.ListN.{length, getD}
+use lib.ListN.{length}
 use borrow.Author.Needs.{needs}
 use Rattle.figures.specs.Limits.{most-words}
 use Rattle.trees.proofs.Spanning.{Over, over-start, over-next, over-lacking, over-all}
