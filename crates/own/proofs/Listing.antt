@@ -7,11 +7,11 @@ use mathlib.Core.List.{List, [], _∷_, map, append-nil}
 use native.Mathlib.Omega.{arith}
 use borrow.Author.Tests.{leb-true, leb-false, le-leb, lt-leb}
 use lib.Dec.{leb}
-use lib.ListN.{length, take, drop, replicate, length-append, length-drop, length-replicate, drop-of-length-le}
+use lib.ListN.{length, getD, take, drop, replicate, length-append, length-drop, length-replicate, drop-of-length-le}
 use lib.Seq.{drop-append-seam, take-at, take-length}
 use Rattle.words.specs.Base.{if_then_else_, over, keep, sameWords}
 use Rattle.words.proofs.Tests.{no-test}
-use Rattle.figures.specs.Limits.{least-k}
+use Rattle.figures.specs.Limits.{least-k, most-words}
 use Rattle.figures.specs.Numbers.{done}
 use Rattle.section.specs.Entries.{Entry, counted, entryWords, sectionWords, Even, width, firstEntry, entries, span, has, Sorted, add}
 use Rattle.changes.specs.Editing.{addOnce, Laid, padded, relaid, Edited}
@@ -23,21 +23,20 @@ use Rattle.section.proofs.Sorting.{sorted-add, add-commutes}
 use Rattle.changes.proofs.Once.{once-has, once-lacks, sorted-add-once, has-once}
 use Rattle.trees.specs.Trees.{Tree, words, depth, cut, subtrees}
 use Rattle.trees.specs.Parts.{isLow, isMiddle, middle, lows, middles, sameTree, eachOnce, lowParts, middleParts}
-use Rattle.trees.specs.Reading.{byOrder, causeOf}
-use Rattle.trees.specs.Walks.{cutOf, partAtOf}
+use Rattle.trees.specs.Reading.{found, byOrder, causeOf}
+use Rattle.trees.specs.Standing.{treeFrom, cutOf}
+use Rattle.trees.specs.Spans.{GoneOver}
 use Rattle.trees.specs.Answers.{treeAt}
-use Rattle.trees.specs.declared.PartAt.{PartAt}
-use Rattle.trees.specs.declared.PartAt.the-variants.{NoPart, LowTo, MiddleTo}
 use Rattle.trees.proofs.Unique.{tree-same}
 use Rattle.trees.proofs.Orders.{size}
 use Rattle.trees.proofs.Causes.{Passed, has-tree}
-use Rattle.trees.proofs.Lines.{Spot, line-spot, tree-next, cut-spot}
-use Rattle.trees.proofs.Spots.{two-words-a-line, short-order, PartIs, part-told}
-use Rattle.trees.proofs.LineCuts.{line-short}
+use Rattle.trees.proofs.Lines.{Spot, line-spot, tree-next, from-spot, cut-spot}
+use Rattle.trees.proofs.LineSpans.{span-low}
+use Rattle.trees.proofs.Spots.{two-words-a-line, short-order, cut-short}
 use Rattle.trees.proofs.Cutting.{cut-shallow}
 use Rattle.book.specs.Taught.{addEach}
 use Rattle.book.proofs.Taught.{sorted-each}
-use Rattle.own.specs.Own.{entry-words, occurring, partsOnce, eachWords, partWords, listOf, lowAt}
+use Rattle.own.specs.Own.{entry-words, occurring, partsOnce, eachWords, partWords, listOf}
 
 -- ---- trees entered once
 
@@ -303,11 +302,13 @@ told-other true false e f = no-test (sym f)
 told-other false true e f = no-test f
 told-other false false e f = no-test (sym e)
 
--- What a part tells of the tree that stands there.
-low-told : (k at : ℕ) (s : Tree) (v : PartAt) → PartIs k at s v → lowAt v ≡ isLow k s
-low-told k at s NoPart p = absurd p
-low-told k at s (LowTo e) p = sym (p .0)
-low-told k at s (MiddleTo e c) p = sym (p .0)
+-- An answer tells whether a line stands for a low part: whether the tree that stands there is low.
+abbrev pub TellsLow : Bool → ℕ → List ℕ → ℕ → Type 0
+TellsLow b k os line = (s : Tree) → treeFrom os (line * 2) ≡ found s → b ≡ isLow k s
+
+-- What the spans say of a line of an order tells it.
+pub span-tells : (b : Bool) (k : ℕ) (os ss : List ℕ) (line : ℕ) → GoneOver os ss → line < length os / 2 → b ≡ leb (getD ss (line * 2 + 1) 0) (k - 2) → TellsLow b k os line
+span-tells b k os ss line over more is s here = is ∙ span-low os ss over k line s more here
 
 module _ (low : Bool) (k : ℕ) (os : List ℕ) (t : Tree) (line : ℕ) (listed : List Entry) (g : Gone low k os t line listed) (more : line < length os / 2) where
   -- The line's subtree stands at its word.
@@ -318,17 +319,19 @@ module _ (low : Bool) (k : ℕ) (os : List ℕ) (t : Tree) (line : ℕ) (listed 
   next : drop line (subtrees t) ≡ spot .tree ∷ drop (line + 1) (subtrees t)
   next = tree-next (subtrees t) line (spot .tree) (spot .is)
 
-  -- Its kind is what stands at its word.
-  kind-here : (b : Bool) → b ≡ lowAt (partAtOf os (line * 2) k) → isLow k (spot .tree) ≡ b
-  kind-here b is =
-      let short = short-order os t (g .passes) in
-      sym (is ∙ low-told k (line * 2) (spot .tree) (partAtOf os (line * 2) k) (part-told os (line * 2) _ spot k (partAtOf os (line * 2) k) (partAtOf os (line * 2) k) short refl refl))
+  -- Its kind is what is told of the line.
+  kind-here : (b : Bool) → TellsLow b k os line → isLow k (spot .tree) ≡ b
+  kind-here b is = sym (is (spot .tree) (from-spot os (line * 2) _ spot))
 
-  -- Its cut has two words a node.
+  -- Its cut has at most 128 words.
+  cut-few : (d : ℕ) → length (cutOf os (line * 2) d) ≤ most-words
+  cut-few d = cut-short os (line * 2) _ spot d (short-order os t (g .passes))
+
+  -- It has two words a node.
   cut-even : (d : ℕ) → 2 * (length (cutOf os (line * 2) d) / 2) ≡ length (cutOf os (line * 2) d)
   cut-even d = rw (cut-spot os (line * 2) _ spot d) (omega (arith, size (cut (spot .tree) d)))
 
-  module _ (b : Bool) (least : least-k ≤ k) (is : b ≡ lowAt (partAtOf os (line * 2) k)) where
+  module _ (b : Bool) (least : least-k ≤ k) (is : TellsLow b k os line) where
     -- A line of the other kind stands for none of the parts left.
     parts-past : Bool·beq b low ≡ false → partsIn low k (drop line (subtrees t)) ≡ partsIn low k (drop (line + 1) (subtrees t))
     parts-past other =
@@ -412,7 +415,7 @@ pub list-end : (low : Bool) (k : ℕ) (os out₀ out entry : List ℕ) (line use
 list-end low k os out₀ out entry line used many st past = gone-all low k os (st .tree) line (st .listed) (st .gone) past
 
 module _ (low : Bool) (k : ℕ) (os out₀ out entry : List ℕ) (line used many : ℕ) (st : Listing low k os out₀ out entry line used many) (more : line < length os / 2)
-    (b : Bool) (least : least-k ≤ k) (is : b ≡ lowAt (partAtOf os (line * 2) k)) where
+    (b : Bool) (least : least-k ≤ k) (is : TellsLow b k os line) where
   -- A line of the other kind leaves the list as it is.
   pub line-passed : Bool·beq b low ≡ false → Listing low k os out₀ out entry (line + 1) used many
   line-passed other =
@@ -488,5 +491,5 @@ module _ (low : Bool) (k : ℕ) (os out₀ out entry : List ℕ) (line used many
             uses = after .1;
             counts = after .2;
             room = omega (arith, after .1, more-words, part-room, st .uses, st .long, long);
-            spare = ap length wrote ∙ simp (length-append, length-drop) (omega (arith, line-short os (st .tree) (st .gone .passes) line d more, st .spare));
+            spare = ap length wrote ∙ simp (length-append, length-drop) (omega (arith, cut-few low k os (st .tree) line (st .listed) (st .gone) more d, st .spare));
           }

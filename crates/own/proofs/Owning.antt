@@ -19,7 +19,7 @@ use Rattle.changes.proofs.Relaying.{drop-zeros}
 use Rattle.changes.proofs.Once.{sorted-add-once}
 use Rattle.trees.specs.Trees.{Tree, words, cut, subtrees}
 use Rattle.trees.specs.Reading.{found, byOrder, causeOf}
-use Rattle.trees.specs.Walks.{cutOf}
+use Rattle.trees.specs.Standing.{cutOf}
 use Rattle.trees.specs.Parts.{isLow, top}
 use Rattle.trees.proofs.Orders.{size, some-lines}
 use Rattle.trees.proofs.Causes.{Passed, has-tree}
@@ -84,7 +84,7 @@ module _ (os : List ℕ) (is : causeOf os ≡ done) where
 
   -- A cut of it has at most 128 words.
   pub whole-short : (d : ℕ) → length (cutOf os 0 d) ≤ most-words
-  whole-short d = let x = has-tree os is in line-short os (x .tree) (x .passes) 0 d first-line
+  whole-short d = line-short os 0 d is first-line
 
   module _ (k : ℕ) (least : least-k ≤ k) where
     -- The list of a kind takes an entry's words for each part of the kind at most.

@@ -9,8 +9,6 @@ use Rattle.changes.specs.declared.Size.{Size}
 use Rattle.trees.specs.Trees.{Tree, words}
 use Rattle.trees.specs.Reading.{byOrder, orderOf}
 use Rattle.trees.specs.Parts.{lows, middles, lowParts, middleParts}
-use Rattle.trees.specs.declared.PartAt.{PartAt}
-use Rattle.trees.specs.declared.PartAt.the-variants.{NoPart, LowTo, MiddleTo}
 use Rattle.book.specs.Book.{Book}
 use Rattle.book.specs.Taught.{emptyBook, addEach, bookOf}
 
@@ -61,9 +59,3 @@ listOf low k os = byOrder (orderOf os) (λ n. []) (λ t. addEach 1 (partsOnce lo
 -- How many words and entries a list has.
 abbrev pub sizeOf : List Entry → Size
 sizeOf es = record { used = length (sectionWords es); many = length es }
-
--- Whether what stands at a word is a low part.
-abbrev pub lowAt : PartAt → Bool
-lowAt NoPart = false
-lowAt (LowTo e) = true
-lowAt (MiddleTo e c) = false

@@ -1,19 +1,19 @@
 -- A line of an order that was gone over: what the scratch says of its subtree, and what waits from the line on. Assumes nothing.
 use Prim.Native.Nat.{ℕ, zero, suc, _+_, _-_, _*_, _/_, _≤_, _<_}
 use mathlib.Core.Path.{_≡_, refl, ap, sym, _∙_}
-use mathlib.Core.List.{List, [], _∷_, append-nil}
+use mathlib.Core.List.{List, [], _∷_}
 use native.Mathlib.Nat.{zero-add, add-zero}
 use native.Mathlib.Omega.{arith}
 use lib.Dec.{leb}
-use lib.ListN.{length, drop, getD, length-drop, length-take}
-use lib.Seq.{drop-nil, drop-drop, getD-take, getD-drop}
+use lib.ListN.{length, drop, getD, length-take}
+use lib.Seq.{drop-nil, getD-take, getD-drop}
 use Rattle.figures.specs.Limits.{greatest-depth}
 use Rattle.figures.specs.Numbers.{done}
 use Rattle.trees.specs.Trees.{Tree, node, Forest, words, depth, cut, subtrees}
 use Rattle.trees.specs.Reading.{found, causeOf}
 use Rattle.trees.specs.Parts.{isLow}
 use Rattle.trees.specs.Standing.{treeFrom, cutOf}
-use Rattle.trees.specs.Levels.{treeLevels, levelsIn, LinesLevelled}
+use Rattle.trees.specs.Levels.{levelsIn, LinesLevelled}
 use Rattle.trees.specs.Spans.{lines, spansFrom, spansIn, GoneOver}
 use Rattle.trees.specs.Answers.{treeAt}
 use Rattle.trees.proofs.Orders.{size}
@@ -22,7 +22,7 @@ use Rattle.trees.proofs.Lines.{line-spot, from-spot, cut-spot, next-tre
 use Rattle.trees.proofs.Spots.{two-words-a-line}
 use Rattle.trees.proofs.Spanning.{spans-long, lines-subtrees, spans-of}
 use Rattle.trees.proofs.Levels.{levels-count, level-within, levels-of}
-use Rattle.trees.proofs.Waiting.{Waiting, all-done, waits, opened, wordsW, subtreesW, levelsW, open-words, open-subtrees, open-levels}
+use Rattle.trees.proofs.Waiting.{Waiting, waits, wordsW, subtreesW, levelsW, open-subtrees, open-levels, waiting-at}
 
 -- ---- the spans
 
@@ -120,41 +120,6 @@ module _ (os ls : List ℕ) (sound : causeOf os ≡ done) (levelled : LinesLevel
 
 -- ---- what waits
 
--- What waits from a line of a tree on.
-record WaitingAt (t : Tree) (i : ℕ) : Type 0 where
-  trees : Waiting
-  words-are : drop (i * 2) (words t) ≡ wordsW trees
-  subtrees-are : drop i (subtrees t) ≡ subtreesW trees
-  levels-are : drop i (treeLevels t 0) ≡ levelsW trees
-
--- From the next line on.
-waiting-next : (t : Tree) (i : ℕ) → i < length (subtrees t) → WaitingAt t i → WaitingAt t (suc i)
-unfolding subtreesW
-waiting-next t i h w = go (w .trees) refl
-  where
-    go : (v : Waiting) → w .trees ≡ v → WaitingAt t (suc i)
-    go all-done e = absurd (omega (arith, length-drop i (subtrees t), ap length (w .subtrees-are), ap (λ (v : Waiting). length (subtreesW v)) e))
-    go (waits (node c f) l v) e =
-        let a : suc i * 2 ≡ i * 2 + 2 = omega arith in
-        let b : suc i ≡ i + 1 = omega arith in
-        record {
-          trees = opened f (suc l) v;
-          words-are = ap (λ (n : ℕ). drop n (words t)) a ∙ sym (drop-drop 2 (i * 2) (words t)) ∙ ap (drop 2) (w .words-are ∙ ap wordsW e ∙ open-words c f l v);
-          subtrees-are = ap (λ (n : ℕ). drop n (subtrees t)) b ∙ sym (drop-drop 1 i (subtrees t)) ∙ ap (drop 1) (w .subtrees-are ∙ ap subtreesW e ∙ open-subtrees c f l v);
-          levels-are = ap (λ (n : ℕ). drop n (treeLevels t 0)) b ∙ sym (drop-drop 1 i (treeLevels t 0)) ∙ ap (drop 1) (w .levels-are ∙ ap levelsW e ∙ open-levels c f l v);
-        }
-
--- From any line on.
-waiting-at : (t : Tree) (i : ℕ) → i ≤ length (subtrees t) → WaitingAt t i
-unfolding wordsW subtreesW levelsW
-waiting-at t zero h = record {
-  trees = waits t 0 all-done;
-  words-are = sym (append-nil (words t));
-  subtrees-are = sym (append-nil (subtrees t));
-  levels-are = sym (append-nil (treeLevels t 0));
-}
-waiting-at t (suc i) h = waiting-next t i (omega arith) (waiting-at t i (omega arith))
-
 -- A line of an order: its node, its level, and what waits behind its subtree; by the order's words, spans and levels.
 pub record LineOpen (os : List ℕ) (line : ℕ) : Type 0 where
   pub code : ℕ
@@ -168,38 +133,26 @@ pub record LineOpen (os : List ℕ) (line : ℕ) : Type 0 where
 
 -- Every line that an order has.
 pub line-open : (os : List ℕ) (line : ℕ) → causeOf os ≡ done → line < length os / 2 → LineOpen os line
-unfolding subtreesW
-line-open os line e h = go (w .trees) refl
-  where
-    t : Tree
-    t = has-tree os e .tree
-
-    p : Passed os t
-    p = has-tree os e .passes
-
-    few : line < length (subtrees t)
-    few = omega (arith, two-words-a-line os t p)
-
-    w : WaitingAt t line
-    w = waiting-at t line (omega (arith, few))
-
-    go : (v : Waiting) → w .trees ≡ v → LineOpen os line
-    go all-done q = absurd (omega (arith, few, length-drop line (subtrees t), ap length (w .subtrees-are), ap (λ (v : Waiting). length (subtreesW v)) q))
-    go (waits (node c f) l v) q =
-        let here : drop line (subtrees t) ≡ node c f ∷ subtreesW (opened f (suc l) v) = w .subtrees-are ∙ ap subtreesW q ∙ open-subtrees c f l v in
-        let s = line-spot os t line p few in
-        let both : found (s .tree) ≡ found (node c f) = sym (s .is) ∙ next-tree (subtrees t) line (node c f) (subtreesW (opened f (suc l) v)) here in
-        let is : s .tree ≡ node c f = cc in
-        record {
-          code = c;
-          row = f;
-          level = l;
-          others = v;
-          words-are = ap (drop (line * 2)) (p .spelt) ∙ w .words-are ∙ ap wordsW q;
-          spans-are = ap (drop (line * 2)) (spans-of os t (p .is)) ∙ spans-behind line 0 (subtrees t) ∙ ap (λ (n : ℕ). spansFrom n (drop line (subtrees t))) (zero-add line) ∙ ap (spansFrom line) (w .subtrees-are ∙ ap subtreesW q);
-          levels-are = ap (drop line) (levels-of os t (p .is)) ∙ w .levels-are ∙ ap levelsW q;
-          cut-is = λ d. cut-spot os (line * 2) _ s d ∙ ap (λ (u : Tree). words (cut u d)) is;
-        }
+line-open os line e h =
+    let t = has-tree os e .tree in
+    let p = has-tree os e .passes in
+    let few : line < length (subtrees t) = omega (arith, two-words-a-line os t p) in
+    let w = waiting-at t line few in
+    let s = line-spot os t line p few in
+    let u : Tree = node (w .code) (w .row) in
+    let both : found (s .tree) ≡ found u =
+    sym (s .is) ∙ next-tree (subtrees t) line u _ (w .subtrees-are ∙ open-subtrees (w .code) (w .row) (w .level) (w .others)) in
+    let is : s .tree ≡ u = cc in
+    record {
+      code = w .code;
+      row = w .row;
+      level = w .level;
+      others = w .others;
+      words-are = ap (drop (line * 2)) (p .spelt) ∙ w .words-are;
+      spans-are = ap (drop (line * 2)) (spans-of os t (p .is)) ∙ spans-behind line 0 (subtrees t) ∙ ap (λ (n : ℕ). spansFrom n (drop line (subtrees t))) (zero-add line) ∙ ap (spansFrom line) (w .subtrees-are);
+      levels-are = ap (drop line) (levels-of os t (p .is)) ∙ w .levels-are;
+      cut-is = λ d. cut-spot os (line * 2) _ s d ∙ ap (λ (v : Tree). words (cut v d)) is;
+    }
 
 -- The word at a place is the first of those from there on.
 first : (l : List ℕ) (n : ℕ) (ws : List ℕ) → drop n l ≡ ws → getD l n 0 ≡ getD ws 0 0

@@ -1,17 +1,16 @@
 -- Lines and words: the subtree of line i + 1 stands at word 2 i. Assumes nothing.
 use mathlib.Core.Path.{_≡_, refl, ap, sym, subst, _∙_}
-use mathlib.Core.List.{List, [], _∷_, _++_, append-assoc, append-nil}
+use mathlib.Core.List.{List, [], _∷_, _++_}
 use Prim.Native.Nat.{ℕ, zero, suc, _+_, _-_, _*_, _/_, _≤_, _<_}
 use native.Mathlib.Decide.{decLt}
 use native.Mathlib.Numerals.{add-one}
 use native.Mathlib.Omega.{arith}
 use borrow.Author.Tests.{lt-ltb, le-ltb}
-use lib.ListN.{length, drop, length-append, drop-of-length-le}
-use lib.Seq.{drop-append-add}
+use lib.ListN.{length, drop, drop-of-length-le}
 use Rattle.words.specs.Base.{if_then_else_}
 use Rattle.figures.specs.Limits.{most-words}
 use Rattle.figures.specs.Numbers.{done}
-use Rattle.trees.specs.Trees.{Tree, node, Forest, bare, cons, count, words, wordsF, cut, Good, GoodF, subtrees, subtreesF}
+use Rattle.trees.specs.Trees.{Tree, node, words, cut, Good, subtrees}
 use Rattle.trees.specs.Reading.{byFound, Found, missing, found, refused, order, byOrder, orderOf, causeOf}
 use Rattle.trees.specs.Standing.{firstTree, treeFrom, cutOf, linePlace, placeOf}
 use Rattle.trees.specs.Answers.{treeAt, lineOf}
@@ -19,6 +18,9 @@ use Rattle.trees.specs.declared.Place.{Place}
 use Rattle.trees.specs.declared.Place.the-variants.{Refused, Lacking, At}
 use Rattle.trees.proofs.Reading.{not-found, complete, reads-none}
 use Rattle.trees.proofs.Orders.{size}
+use Rattle.trees.proofs.Cutting.{subtree-good}
+use Rattle.trees.proofs.LineParts.{at-in}
+use Rattle.trees.proofs.Waiting.{wordsW, waiting-at, open-subtrees}
 use Rattle.trees.proofs.Causes.{Passed, Seen, stopped, passed, seen, refused-by}
 
 -- ---- a place in a list of trees
@@ -86,56 +88,20 @@ pub record Spot (s : List ℕ) (at : ℕ) (x : Found) : Type 0 where
 pick : {A : Type 0} (i n : ℕ) → (i < n → A) → (n ≤ i → A) → A
 pick i n f g = elim (decLt i n) [ yes h ↦ f h | no h ↦ g (omega arith) ]
 
--- A spot among the children is one of the node, two words on.
-spot-down : (c k i : ℕ) (s : List ℕ) (u : Tree) (us : List Tree) → Spot s (i * 2) (treeAt us i) → Spot (c ∷ k ∷ s) (suc i * 2) (treeAt (u ∷ us) (suc i))
-unfolding treeAt
-spot-down c k i s u us p = record {
-  tree = p .tree;
-  after = p .after;
-  good = p .good;
-  here = let z : suc i * 2 ≡ suc (suc (i * 2)) = omega arith in rw z (p .here);
-  is = p .is;
-}
-
--- A spot in the first of two runs of words is one of both.
-spot-left : (i : ℕ) (xs ys s : List ℕ) (us vs : List Tree) → i < length us → Spot (xs ++ (ys ++ s)) (i * 2) (treeAt us i) → Spot ((xs ++ ys) ++ s) (i * 2) (treeAt (us ++ vs) i)
-spot-left i xs ys s us vs l p = record {
-  tree = p .tree;
-  after = p .after;
-  good = p .good;
-  here = rw append-assoc (p .here);
-  is = at-left us vs i l ∙ p .is;
-}
-
--- A spot in the second of two runs of words is one of both, past the first.
-spot-right : (i : ℕ) (xs ys s : List ℕ) (us vs : List Tree) → length us ≤ i → length xs ≡ length us * 2 → Spot (ys ++ s) ((i - length us) * 2) (treeAt vs (i - length us)) → Spot ((xs ++ ys) ++ s) (i * 2) (treeAt (us ++ vs) i)
-spot-right i xs ys s us vs l e p = record {
-  tree = p .tree;
-  after = p .after;
-  good = p .good;
-  here = let z : i * 2 ≡ length xs + (i - length us) * 2 = omega arith in rw (append-assoc, z, drop-append-add xs (ys ++ s) ((i - length us) * 2)) (p .here);
-  is = at-right us vs i l ∙ p .is;
-}
-
--- Each subtree has its spot in the words.
-mutual
-  unfolding words subtrees Good treeAt
-
-  spot : (t : Tree) → Good t → (s : List ℕ) (i : ℕ) → i < length (subtrees t) → Spot (words t ++ s) (i * 2) (treeAt (subtrees t) i)
-  spot (node c f) g s zero h = record { tree = node c f; after = s; good = g; here = refl; is = refl }
-  spot (node c f) g s (suc i) h = spot-down c (count f) i (wordsF f ++ s) (node c f) (subtreesF f) (spotF f (g .1) s i (omega arith))
-
-  spotF : (f : Forest) → GoodF f → (s : List ℕ) (i : ℕ) → i < length (subtreesF f) → Spot (wordsF f ++ s) (i * 2) (treeAt (subtreesF f) i)
-  spotF bare g s i h = absurd (omega arith)
-  spotF (cons t f) g s i h = pick i (length (subtrees t))
-      (λ l. spot-left i (words t) (wordsF f) s (subtrees t) (subtreesF f) l (spot t (g .0) (wordsF f ++ s) i l))
-      (λ l. spot-right i (words t) (wordsF f) s (subtrees t) (subtreesF f) l (size t)
-      (spotF f (g .1) s (i - length (subtrees t)) (omega (arith, length-append (subtrees t) (subtreesF f)))))
-
 -- The subtree of each line of an order has its spot in the order's words.
 pub line-spot : (s : List ℕ) (t : Tree) (i : ℕ) → Passed s t → i < length (subtrees t) → Spot s (i * 2) (treeAt (subtrees t) i)
+unfolding wordsW
 line-spot s t i p h =
-    subst (λ (w : List ℕ). Spot w (i * 2) (treeAt (subtrees t) i)) (append-nil (words t) ∙ sym (p .spelt)) (spot t (p .good) [] i h)
+    let w = waiting-at t i h in
+    let u : Tree = node (w .code) (w .row) in
+    let is : treeAt (subtrees t) i ≡ found u = next-tree (subtrees t) i u _ (w .subtrees-are ∙ open-subtrees (w .code) (w .row) (w .level) (w .others)) in
+    record {
+      tree = u;
+      after = wordsW (w .others);
+      good = subtree-good t (at-in (subtrees t) i is) (p .good);
+      here = ap (drop (i * 2)) (p .spelt) ∙ w .words-are;
+      is = is;
+    }
 
 -- "A subtree is a contiguous part of the order's words": the subtree of line i + 1 is the words from word 2 i on.
 pub subtree-part : (s : List ℕ) (t u : Tree) (i : ℕ) → Passed s t → lineOf (suc i) (subtrees t) ≡ found u → (after : List ℕ) × (drop (i * 2) s ≡ words u ++ after)

@@ -10,26 +10,35 @@ use borrow.Author.Needs.{needs}
 use Rattle.section.specs.Entries.{Entry, sectionWords}
 use Rattle.changes.specs.Editing.{padded}
 use Rattle.changes.specs.declared.Size.{Size}
+use Rattle.trees.proofs.LineSpans.{spans-room}
 use Rattle.trees.proofs.LineCuts.{line-short}
 use Rattle.own.specs.Own.{sizeOf}
-use Rattle.own.proofs.Listing.{Listing, list-start, list-end, listing-named, line-passed, enter-ready, line-entered}
+use Rattle.own.proofs.Listing.{TellsLow, span-tells, Listing, list-start, list-end, listing-named, line-passed, enter-ready, line-entered}
 use Rattle.own.proofs.list_parts.Statement.{statement}
 use Rattle.own.proofs.list_parts.Tie as tie
 
 -- The parts listed, and those of the lines left, come to all parts.
 abbrev Inv-loop : tie.InvT-loop
-Inv-loop order levels k low out₀ entry₀ lines line₀ used₀ many₀ out entry line used many =
+Inv-loop order spans levels k low out₀ entry₀ lines line₀ used₀ many₀ out entry line used many =
     Listing low (k .k) order out₀ out entry line used many
 
 -- The lines left.
 abbrev μ-loop : tie.MeasureT-loop
-μ-loop order levels k low out₀ entry₀ lines line₀ used₀ many₀ out entry line used many = lines - line
+μ-loop order spans levels k low out₀ entry₀ lines line₀ used₀ many₀ out entry line used many = lines - line
+
+-- What the function was called with, seen from the loop.
+abbrev called : tie.In-loop Inv-loop μ-loop → tie.Start Inv-loop μ-loop
+called l = l .before .before .before .before .before .before
+
+-- What is told of a line.
+tells : (i : tie.After-is-low Inv-loop μ-loop) → let b = called (i .before) in TellsLow (i .is-low .result) (b .args .k .k) (b .args .order .now) (i .before .before .loop .line)
+tells i = span-tells _ _ _ _ _ (called (i .before) .pre .1 .0) (i .before .loop-test .taken) (i .is-low .ensures)
 
 loop-holds : tie.Need-loop-holds Inv-loop μ-loop
-loop-holds c = let b = c .before .before in list-start _ _ _ _ _ (b .pre .1 .0) (b .pre .1 .1 .1 .0) (b .pre .1 .1 .1 .1) refl
+loop-holds c = let b = c .before .before .before .before in list-start _ _ _ _ _ (b .pre .1 .0 .sound) (b .pre .1 .1 .1 .0) (b .pre .1 .1 .1 .1) refl
 
 is-low-requires : tie.Need-is-low-requires Inv-loop μ-loop
-is-low-requires c κs = let b = c .before .before .before .before in (b .pre .1 .0, (b .pre .1 .1 .0, c .loop-test .taken))
+is-low-requires c κs = omega (arith, c .loop-test .taken, spans-room _ _ (called c .pre .1 .0))
 
 of-middles-requires : tie.Need-of-middles-requires Inv-loop μ-loop
 of-middles-requires c κs = search needs
@@ -40,7 +49,7 @@ slice-aggregate-write-entry c = search needs
 write-entry-requires : tie.Need-write-entry-requires Inv-loop μ-loop
 write-entry-requires c κs =
     let l = c .before .before .before .before in
-    let b = l .before .before .before .before in
+    let b = called l in
     (b .pre .1 .0, (b .pre .1 .1 .0, (l .loop-test .taken, omega (arith, l .before .loop .inv .spare))))
 
 sub-enter-once : tie.Need-sub-enter-once Inv-loop μ-loop
@@ -53,14 +62,14 @@ part-enter-once-end : tie.Need-part-enter-once-end Inv-loop μ-loop
 part-enter-once-end c =
     let w = c .before .before .before in
     let l = w .before .before .before .before .before in
-    omega (arith, w .write-entry .ensures .0, line-short _ _ (l .before .loop .inv .gone .passes) _ (w .before .before .of-middles .result) (l .loop-test .taken))
+    omega (arith, w .write-entry .ensures .0, line-short _ _ (w .before .before .of-middles .result) (called l .pre .1 .0 .sound) (l .loop-test .taken))
 
 enter-once-requires : tie.Need-enter-once-requires Inv-loop μ-loop
 enter-once-requires c κs =
     let w = c .before .before .before .before in
     let i = w .before .before .before .before in
     let l = i .before in
-    enter-ready _ _ _ _ _ _ _ _ _ (l .before .loop .inv) (l .loop-test .taken) _ (l .before .before .before .before .pre .0) (i .is-low .ensures) (w .before .before .before .if1 .taken) _ _ _ (w .before .before .of-middles .ensures) (w .write-entry .ensures .0) (w .write-entry .ensures .1)
+    enter-ready _ _ _ _ _ _ _ _ _ (l .before .loop .inv) (l .loop-test .taken) _ (called l .pre .0) (tells i) (w .before .before .before .if1 .taken) _ _ _ (w .before .before .of-middles .ensures) (w .write-entry .ensures .0) (w .write-entry .ensures .1)
 
 add-line : tie.Need-add-line Inv-loop μ-loop
 add-line c = search needs
@@ -73,12 +82,12 @@ loop-again c =
     let i = c .before in
     let l = i .before in
     let st = l .before .loop .inv in
-    let least = l .before .before .before .before .pre .0 in
+    let least = called l .pre .0 in
     ⊎-elim
     (λ w.
     listing-named _ _ _ _ _ _ _ _ _ _ _ _ _ (w .11) (w .12) (w .13) (w .14)
-    (line-entered _ _ _ _ _ _ _ _ _ st (l .loop-test .taken) _ least (i .is-low .ensures) (w .0 .taken) _ _ _ (w .1 .ensures) (w .3 .ensures .0) (w .3 .ensures .1) _ _ (w .8 .ensures)))
-    (λ w. listing-named _ _ _ _ _ _ _ _ _ _ _ _ _ (w .1) (w .2) (w .3) (w .4) (line-passed _ _ _ _ _ _ _ _ _ st (l .loop-test .taken) _ least (i .is-low .ensures) (w .0 .left)))
+    (line-entered _ _ _ _ _ _ _ _ _ st (l .loop-test .taken) _ least (tells i) (w .0 .taken) _ _ _ (w .1 .ensures) (w .3 .ensures .0) (w .3 .ensures .1) _ _ (w .8 .ensures)))
+    (λ w. listing-named _ _ _ _ _ _ _ _ _ _ _ _ _ (w .1) (w .2) (w .3) (w .4) (line-passed _ _ _ _ _ _ _ _ _ st (l .loop-test .taken) _ least (tells i) (w .0 .left)))
     (c .if1 .came)
 
 same-length : tie.Need-same-length Inv-loop μ-loop
@@ -92,7 +101,7 @@ returns : tie.Need-returns Inv-loop μ-loop
 returns c =
     let st = c .before .loop .inv in
     let is = list-end _ _ _ _ _ _ _ _ _ st (c .loop-test .left) in
-    (sized _ _ _ _ (st .uses) (st .counts) is, st .words ∙ ap (λ (es : List Entry). padded (length (c .before .before .before .before .args .out .now)) (sectionWords es)) is)
+    (sized _ _ _ _ (st .uses) (st .counts) is, st .words ∙ ap (λ (es : List Entry). padded (length (c .before .before .before .before .before .before .args .out .now)) (sectionWords es)) is)
 
 pub list-parts-spec : {M : Type 1} → statement M
 list-parts-spec =

@@ -9,10 +9,9 @@ use borrow.Author.Needs.{needs}
 use Rattle.words.specs.Base.{over}
 use Rattle.figures.specs.Limits.{most-words}
 use Rattle.section.specs.Entries.{counted, entryWords}
-use Rattle.trees.specs.Walks.{cutOf}
-use Rattle.trees.proofs.Causes.{has-tree}
-use Rattle.trees.proofs.Cuts.{set-two, part-back}
-use Rattle.trees.proofs.LineCuts.{line-room, line-count}
+use Rattle.trees.specs.Standing.{cutOf}
+use Rattle.trees.proofs.LineCuts.{line-short}
+use Rattle.trees.proofs.Writing.{set-two, part-back}
 use Rattle.own.proofs.write_entry.Statement.{statement}
 use Rattle.own.proofs.write_entry.Tie as tie
 
@@ -28,11 +27,13 @@ entry-over w l last fits is =
     let past : 2 + length w ≡ length (entryWords (counted w 1)) = omega arith in
     rw (new, set-two ((take 2 l ++ w) ++ drop (2 + length w) l) (length w / 2) 1 long, rest, past) refl
 
--- The cut's length is what was written, and it is short.
-count-is : (c : tie.After-put-line) →
-    let b = c .before .before .before .before in
-    (c .put-line .result .count ≡ length (cutOf (b .args .order .now) (b .args .line * 2) (b .args .d))) × (c .put-line .result .count ≤ most-words)
-count-is c = let b = c .before .before .before .before in line-count _ _ (has-tree _ (b .pre .0) .passes) _ _ (b .pre .1 .1 .0) _ (c .put-line .ensures .0)
+-- What the function was called with, seen from where the cut is written.
+abbrev called : tie.After-put-line → tie.Start
+called c = c .before .before .before .before .before .before
+
+-- The cut is short.
+count-short : (c : tie.After-put-line) → c .put-line .result ≤ most-words
+count-short c = let b = called c in omega (arith, c .put-line .ensures .0, line-short _ _ (b .args .d) (b .pre .0 .sound) (b .pre .1 .1 .0))
 
 sub-put-line : tie.Need-sub-put-line
 sub-put-line c = search needs
@@ -45,11 +46,11 @@ part-put-line-end c = search needs
 
 put-line-requires : tie.Need-put-line-requires
 put-line-requires c κs =
-    let b = c .before .before .before in
-    (b .pre .0, (b .pre .1 .0 .0, (b .pre .1 .1 .0, (b .pre .1 .0 .1, line-room _ _ (has-tree _ (b .pre .0) .passes) _ _ (b .pre .1 .1 .0) _ (simp (length-take, length-drop) (omega (arith, b .pre .1 .1 .1)))))))
+    let b = c .before .before .before .before .before in
+    (b .pre .0, (b .pre .1 .0, (b .pre .1 .1 .0, simp (length-take, length-drop) (omega (arith, line-short _ _ (b .args .d) (b .pre .0 .sound) (b .pre .1 .1 .0), b .pre .1 .1 .1)))))
 
 cast-out : tie.Need-cast-out
-cast-out c = omega (arith, count-is (c .before .before) .1)
+cast-out c = omega (arith, count-short (c .before .before))
 
 slice-write-out : tie.Need-slice-write-out
 slice-write-out c = search needs
@@ -58,18 +59,18 @@ same-length : tie.Need-same-length
 same-length c = search needs
 
 slice-write-out-2 : tie.Need-slice-write-out-2
-slice-write-out-2 c = simp length-set (omega (arith, simp length-set at (same-length c), c .before .before .before .before .before .before .pre .1 .1 .1))
+slice-write-out-2 c = simp length-set (omega (arith, simp length-set at (same-length c), called (c .before .before) .pre .1 .1 .1))
 
 add-result : tie.Need-add-result
-add-result c = omega (arith, count-is (c .before .before) .1)
+add-result c = omega (arith, count-short (c .before .before))
 
 returns : tie.Need-returns
 returns c =
-    let b = c .before .before .before .before .before .before in
+    let p = c .before .before in
+    let b = called p in
     let w = cutOf (b .args .order .now) (b .args .line * 2) (b .args .d) in
-    let n = count-is (c .before .before) in
-    let is : c .before .before .put-line .result .count ≡ length w = n .0 in
-    (rw is refl, rw is (entry-over w (b .args .out .now) _ (omega (arith, n .0, n .1, b .pre .1 .1 .1)) (c .before .before .put-line .ensures .1)))
+    let is : p .put-line .result ≡ length w = p .put-line .ensures .0 in
+    (rw is refl, rw is (entry-over w (b .args .out .now) _ (omega (arith, is, count-short p, b .pre .1 .1 .1)) (p .put-line .ensures .1)))
 
 pub write-entry-spec : {M : Type 1} → statement M
 write-entry-spec =

@@ -1,11 +1,11 @@
 -- `teach::teach_order` meets its contract, by the tests that it makes in turn. Assumes nothing.
 use mathlib.Core.Path.{_≡_, refl, sym, ap, _∙_}
+use native.Mathlib.Omega.{arith}
 use borrow.Author.Needs.{needs}
-use lib.ListN.{length}
-use Rattle.figures.specs.Limits.{most-nodes}
 use Rattle.figures.specs.Numbers.{done}
 use Rattle.trees.specs.Reading.{causeOf}
-use Rattle.trees.specs.Levels.{LinesLevelled}
+use Rattle.trees.specs.Spans.{GoneOver}
+use Rattle.trees.proofs.Spots.{passed-short}
 use Rattle.book.specs.Holding.{Holds}
 use Rattle.own.specs.Own.{own-words}
 use Rattle.amend.specs.declared.BookWeighed.{BookWeighed}
@@ -14,20 +14,21 @@ use Rattle.teach.proofs.teach_order.Statement.{statement}
 use Rattle.teach.proofs.teach_order.Tie as tie
 
 -- Past the first test the words are an order.
-ordered : (c : tie.Else1) → causeOf (c .before .before .before .before .before .args .order .now) ≡ done
-ordered c = sym (c .before .cause-into .ensures .0) ∙ c .if1 .left
+ordered : (c : tie.Else1) → causeOf (c .before .before .before .before .before .before .args .order .now) ≡ done
+ordered c = sym (c .before .before .cause-into .ensures .0) ∙ c .if1 .left
 
--- The levels of its lines are listed then.
-levelled : (c : tie.Else1) →
-    let levels = c .before .cause-into .last .1 .0 in
-    LinesLevelled (c .before .before .before .before .before .args .order .now) levels × (length levels ≡ most-nodes)
-levelled c = let a = c .before .cause-into in (a .ensures .1 .0 (ordered c), a .ensures .1 .1)
+-- The spans of its lines stand in the scratch then.
+gone : (c : tie.Else1) → GoneOver (c .before .before .before .before .before .before .args .order .now) (c .before .before .cause-into .last .1 .0)
+gone c = c .before .before .cause-into .ensures .1 .0 (ordered c)
 
 -- Past the listing its own book stands in its slice.
-listed : (c : tie.After-list-own) → Holds (c .list-own .last .1 .1 .1 .0) (c .list-own .result)
+listed : (c : tie.After-list-own) → Holds (c .list-own .last .1 .1 .1 .1 .0) (c .list-own .result)
 listed c =
-    let o = c .before .before .before .before .before in
-    own-holds _ _ _ (o .before .before .before .before .before .pre) (ordered o) _ _ (c .list-own .ensures .0) (c .list-own .ensures .1)
+    let o = c .before .before .before .before .before .before .before .before .before .before in
+    own-holds _ _ _ (o .before .before .before .before .before .before .pre) (ordered o) _ _ (c .list-own .ensures .0) (c .list-own .ensures .1)
+
+slice-aggregate-cause-into : tie.Need-slice-aggregate-cause-into
+slice-aggregate-cause-into c = search needs
 
 cause-into-requires : tie.Need-cause-into-requires
 cause-into-requires c κs = search needs
@@ -37,8 +38,8 @@ answered-requires c κs = search needs
 
 returns : tie.Need-returns
 returns c =
-    let s = c .before .before .before .before .before .before in
-    told _ _ _ (c .answered .ensures) ∙ teach-refused _ _ _ (s .pre) _ (c .before .before .cause-into .ensures .0) (c .before .if1 .taken)
+    let s = c .before .before .before .before .before .before .before in
+    told _ _ _ (c .answered .ensures) ∙ teach-refused _ _ _ (s .pre) _ (c .before .before .before .cause-into .ensures .0) (c .before .if1 .taken)
 
 slice-read-if2 : tie.Need-slice-read-if2
 slice-read-if2 c = search needs
@@ -49,16 +50,31 @@ answered-requires-2 c κs = search needs
 returns-2 : tie.Need-returns-2
 returns-2 c =
     let o = c .before .before .before in
-    told _ _ _ (c .answered2 .ensures) ∙ teach-full _ _ _ (o .before .before .before .before .before .pre) (ordered o) (c .before .if2 .taken)
+    told _ _ _ (c .answered2 .ensures) ∙ teach-full _ _ _ (o .before .before .before .before .before .before .pre) (ordered o) (c .before .if2 .taken)
+
+slice-aggregate-level-lines : tie.Need-slice-aggregate-level-lines
+slice-aggregate-level-lines c = search needs
+
+slice-aggregate-level-lines-2 : tie.Need-slice-aggregate-level-lines-2
+slice-aggregate-level-lines-2 c = search needs
+
+level-lines-requires : tie.Need-level-lines-requires
+level-lines-requires c κs = let o = c .before .before .before .before in (gone o, omega (arith, passed-short _ (ordered o)))
 
 slice-aggregate-list-own : tie.Need-slice-aggregate-list-own
 slice-aggregate-list-own c = search needs
 
+slice-aggregate-list-own-2 : tie.Need-slice-aggregate-list-own-2
+slice-aggregate-list-own-2 c = search needs
+
+slice-aggregate-list-own-3 : tie.Need-slice-aggregate-list-own-3
+slice-aggregate-list-own-3 c = search needs
+
 list-own-requires : tie.Need-list-own-requires
 list-own-requires c κs =
-    let o = c .before .before .before .before in
-    let s = o .before .before .before .before .before in
-    (allowed _ _ (s .pre), (ordered o, (levelled o, (all-zeros own-words, refl))))
+    let o = c .before .before .before .before .before .before .before .before .before in
+    let s = o .before .before .before .before .before .before in
+    (allowed _ _ (s .pre), (gone o, (c .before .before .before .before .level-lines .ensures .0, (all-zeros own-words, refl))))
 
 slice-aggregate-weigh-book : tie.Need-slice-aggregate-weigh-book
 slice-aggregate-weigh-book c = search needs
@@ -66,7 +82,7 @@ slice-aggregate-weigh-book c = search needs
 weigh-book-requires : tie.Need-weigh-book-requires
 weigh-book-requires c κs =
     let l = c .before .before .before in
-    (l .before .before .before .before .before .before .before .before .before .before .pre, listed l)
+    (l .before .before .before .before .before .before .before .before .before .before .before .before .before .before .before .before .pre, listed l)
 
 answered-requires-3 : tie.Need-answered-requires-3
 answered-requires-3 c κs = search needs
@@ -78,14 +94,14 @@ returns-3 : tie.Need-returns-3
 returns-3 c =
     let w = c .before .before in
     let l = w .before .before .before .before in
-    let o = l .before .before .before .before .before in
-    let s = o .before .before .before .before .before in
+    let o = l .before .before .before .before .before .before .before .before .before .before in
+    let s = o .before .before .before .before .before .before in
     told _ _ _ (c .answered3 .ensures)
     ∙ teach-overfull _ _ _ (s .pre) (ordered o) _ _ (l .list-own .ensures .0) (l .list-own .ensures .1) _ (w .weigh-book .ensures) (c .before .if3 .taken)
 
 sub-if4 : tie.Need-sub-if4
 sub-if4 c =
-    let s = c .before .before .before .before .before .before .before .before .before .before .before .before .before .before .before .before in
+    let s = c .before .before .before .before .before .before .before .before .before .before .before .before .before .before .before .before .before .before .before .before .before .before in
     used-room _ _ (s .pre)
 
 answered-requires-4 : tie.Need-answered-requires-4
@@ -99,10 +115,10 @@ returns-4 c =
     let r = c .before .before .before .before in
     let w = r .before in
     let l = w .before .before .before .before in
-    let o = l .before .before .before .before .before in
-    let s = o .before .before .before .before .before in
+    let o = l .before .before .before .before .before .before .before .before .before .before in
+    let s = o .before .before .before .before .before .before in
     told _ _ _ (c .answered4 .ensures)
-    ∙ teach-crowded _ _ _ (s .pre) (ordered o) _ _ (l .list-own .ensures .0) (l .list-own .ensures .1) _ (w .weigh-book .ensures) (l .before .before .before .if2 .left) (r .if3 .left) (c .before .if4 .taken)
+    ∙ teach-crowded _ _ _ (s .pre) (ordered o) _ _ (l .list-own .ensures .0) (l .list-own .ensures .1) _ (w .weigh-book .ensures) (l .before .before .before .before .before .before .before .before .if2 .left) (r .if3 .left) (c .before .if4 .taken)
 
 slice-aggregate-change-book : tie.Need-slice-aggregate-change-book
 slice-aggregate-change-book c = search needs
@@ -112,9 +128,9 @@ change-book-requires c κs =
     let r = c .before .before .before .before .before in
     let w = r .before in
     let l = w .before .before .before .before in
-    let o = l .before .before .before .before .before in
-    let s = o .before .before .before .before .before in
-    let ready = teach-ready _ _ _ (s .pre) (ordered o) _ _ (l .list-own .ensures .0) (l .list-own .ensures .1) _ (w .weigh-book .ensures) (l .before .before .before .if2 .left) (r .if3 .left) (c .before .before .if4 .left) in
+    let o = l .before .before .before .before .before .before .before .before .before .before in
+    let s = o .before .before .before .before .before .before in
+    let ready = teach-ready _ _ _ (s .pre) (ordered o) _ _ (l .list-own .ensures .0) (l .list-own .ensures .1) _ (w .weigh-book .ensures) (l .before .before .before .before .before .before .before .before .if2 .left) (r .if3 .left) (c .before .before .if4 .left) in
     (s .pre, (listed l, (ready, ap (λ (x : BookWeighed). x .each) (w .weigh-book .ensures))))
 
 answered-requires-5 : tie.Need-answered-requires-5
@@ -130,22 +146,28 @@ returns-5 c =
     let r = f .before .before .before in
     let w = r .before in
     let l = w .before .before .before .before in
-    let o = l .before .before .before .before .before in
-    let s = o .before .before .before .before .before in
+    let o = l .before .before .before .before .before .before .before .before .before .before in
+    let s = o .before .before .before .before .before .before in
     told _ _ _ (c .answered5 .ensures)
-    ∙ teach-done _ _ _ (s .pre) (ordered o) _ _ (l .list-own .ensures .0) (l .list-own .ensures .1) _ (w .weigh-book .ensures) (l .before .before .before .if2 .left) (r .if3 .left) (f .if4 .left) _ (g .change-book .ensures)
+    ∙ teach-done _ _ _ (s .pre) (ordered o) _ _ (l .list-own .ensures .0) (l .list-own .ensures .1) _ (w .weigh-book .ensures) (l .before .before .before .before .before .before .before .before .if2 .left) (r .if3 .left) (f .if4 .left) _ (g .change-book .ensures)
 
 pub teach-order-spec : {M : Type 1} → statement M
 teach-order-spec =
     tie.close
     (tie.spec
+    slice-aggregate-cause-into
     cause-into-requires
     answered-requires
     returns
     slice-read-if2
     answered-requires-2
     returns-2
+    slice-aggregate-level-lines
+    slice-aggregate-level-lines-2
+    level-lines-requires
     slice-aggregate-list-own
+    slice-aggregate-list-own-2
+    slice-aggregate-list-own-3
     list-own-requires
     slice-aggregate-weigh-book
     weigh-book-requires
