@@ -16,10 +16,10 @@ use Rattle.tally.specs.Tallying.{soughtIn, hasAll, onEach, tallied, marked, Few
 use Rattle.tally.proofs.Tallies.{length-each, each-none, tallied-more, once-more, all-known, one-unknown}
 use Rattle.trees.specs.Trees.{Tree}
 use Rattle.trees.specs.Reading.{causeOf}
-use Rattle.trees.specs.Walks.{cutOf, partAtOf}
+use Rattle.trees.specs.Standing.{cutOf}
 use Rattle.trees.proofs.Causes.{has-tree}
-use Rattle.own.specs.Own.{listOf, lowAt}
-use Rattle.own.proofs.Listing.{Gone, gone-none, gone-all, gone-has, gone-passed, gone-entered, partHere}
+use Rattle.own.specs.Own.{listOf}
+use Rattle.own.proofs.Listing.{Gone, gone-none, gone-all, gone-has, gone-passed, TellsLow, gone-entered, partHere}
 
 -- ---- one key
 
@@ -102,7 +102,7 @@ module _ (low : Bool) (k : ℕ) (os : List ℕ) (es : List Entry) (turn n : ℕ)
           noted = λ e. st .marks ∙ ap (λ (ps : List Entry). marked turn ps es ms₀) all;
         }
 
-    module _ (more : line < length os / 2) (b : Bool) (least : least-k ≤ k) (is : b ≡ lowAt (partAtOf os (line * 2) k)) where
+    module _ (more : line < length os / 2) (b : Bool) (least : least-k ≤ k) (is : TellsLow b k os line) where
       -- A line of the other kind tallies nothing.
       pub turn-passed : Bool·beq b low ≡ false → Turning low k os es turn n cs₀ ms₀ cs ms (line + 1)
       turn-passed other = record {

@@ -4,17 +4,19 @@ use mathlib.Core.Path.{_≡_, refl, ap, sym, subst, _∙_}
 use mathlib.Core.Bool.{Bool, true, false}
 use mathlib.Core.List.{List, [], _∷_, _++_, append-assoc, append-nil}
 use native.Mathlib.Omega.{arith}
-use lib.ListN.{length, drop, length-append}
+use lib.ListN.{length, drop, getD, length-append}
 use lib.Seq.{take-append-seam, drop-append-seam, drop-drop}
 use Rattle.words.specs.Base.{if_then_else_, _and_}
 use Rattle.figures.specs.Numbers.{done}
 use Rattle.trees.specs.Trees.{Tree, node, Forest, bare, cons, subtrees, subtreesF}
-use Rattle.trees.specs.Reading.{byOrder, causeOf}
-use Rattle.trees.specs.Walks.{walkOf, endOf}
+use Rattle.trees.specs.Reading.{found, byOrder, causeOf}
+use Rattle.trees.specs.Standing.{treeFrom}
+use Rattle.trees.specs.Spans.{GoneOver}
 use Rattle.trees.proofs.Causes.{Passed, has-tree}
-use Rattle.trees.proofs.Lines.{next-tree}
+use Rattle.trees.proofs.Lines.{next-tree, place-within, line-spot, from-spot}
 use Rattle.trees.proofs.Spots.{two-words-a-line}
-use Rattle.trees.proofs.Below.{Follows, follows-row, line-ends}
+use Rattle.trees.proofs.Below.{Follows, follows-row}
+use Rattle.trees.proofs.LineSpans.{span-is}
 use Rattle.book.specs.Book.{Book}
 use Rattle.verdicts.specs.Judging.{knows, knowsEach, Doubt, no-doubt, doubt, leastToFix}
 use Rattle.verdicts.specs.Seeking.{unknownLine, unknownWithin, doubtLine, lineToFix}
@@ -110,7 +112,7 @@ module _ (b : Book) (os : List ℕ) (line from to r : ℕ) (D : Down b os line f
   pub record Next : Type 0 where
     pub after : from < r
     pub has : r ≤ to
-    pub down : (end : ℕ) → end ≡ endOf (walkOf os ((r - 1) * 2) 0) → Down b os r r (end / 2) × (end / 2 ≤ to)
+    pub down : (ss : List ℕ) (end : ℕ) → GoneOver os ss → end ≡ getD ss ((r - 1) * 2) 0 → Down b os r r end × (end ≤ to)
 
   -- The first unknown line of the row, with the lines before it, those strictly below it, and those behind these.
   module _ (us : List Tree) (s : Tree) (vs : List Tree) (at : r ≡ suc from + length us) (split : subtreesF (D .row) ≡ us ++ (s ∷ vs))
@@ -136,13 +138,17 @@ module _ (b : Book) (os : List ℕ) (line from to r : ℕ) (D : Down b os line f
         ∙ ap (λ (l : List Tree). l ++ D .rest) (F .here) ∙ append-assoc (subtreesF (F .row)) (F .rest) (D .rest)
 
     -- Its subtree ends behind the lines strictly below it.
-    ends : (end : ℕ) → end ≡ endOf (walkOf os ((r - 1) * 2) 0) → end / 2 ≡ r + length (subtreesF (F .row))
+    ends : (ss : List ℕ) (end : ℕ) → GoneOver os ss → end ≡ getD ss ((r - 1) * 2) 0 → end ≡ r + length (subtreesF (F .row))
     unfolding subtrees
-    ends end e =
-        let i : (r - 1) * 2 ≡ (from + length us) * 2 = omega (arith, at) in
-        let it = next-tree (subtrees (D .tree)) (from + length us) s (vs ++ D .rest) from-it in
-        let past : end / 2 ≡ endOf (walkOf os ((from + length us) * 2) 0) / 2 = ap (λ (n : ℕ). n / 2) (e ∙ ap (λ (j : ℕ). endOf (walkOf os j 0)) i) in
-        omega (arith, past, line-ends os (D .tree) s (from + length us) (D .passes) it, ap (λ (u : Tree). length (subtrees u)) (F .is), at)
+    ends ss end G e =
+        let i : r - 1 ≡ from + length us = omega (arith, at) in
+        let t = D .tree in
+        let it = next-tree (subtrees t) (from + length us) s (vs ++ D .rest) from-it in
+        let few = place-within (subtrees t) (from + length us) s it in
+        let q = line-spot os t (from + length us) (D .passes) few in
+        let here : treeFrom os ((from + length us) * 2) ≡ found s = from-spot os ((from + length us) * 2) _ q ∙ sym (q .is) ∙ it in
+        let past = span-is os ss G (from + length us) s (omega (arith, few, two-words-a-line os t (D .passes))) here .0 in
+        omega (arith, e ∙ ap (λ (j : ℕ). getD ss (j * 2) 0) i ∙ past, ap (λ (u : Tree). length (subtrees u)) (F .is), at)
 
     -- The one to fix is one strictly below it, or else it.
     fix-it : knowsEach b us ≡ true → knows b s ≡ false → lineToFix b os ≡ orLine r (leastToFix b (suc r) (subtreesF (F .row)))
@@ -162,18 +168,18 @@ module _ (b : Book) (os : List ℕ) (line from to r : ℕ) (D : Down b os line f
     next f g = record {
       after = omega (arith, at);
       has = omega (arith, at, many, D .long);
-      down = λ end e. (
+      down = λ ss end G e. (
         record {
           tree = D .tree;
           passes = D .passes;
           row = F .row;
           rest = F .rest ++ D .rest;
           here = behind-it;
-          long = ends end e;
-          within = omega (arith, ends end e, at, many, D .long, D .within);
+          long = ends ss end G e;
+          within = omega (arith, ends ss end G e, at, many, D .long, D .within);
           fix = fix-it f g;
         },
-        omega (arith, ends end e, at, many, D .long),
+        omega (arith, ends ss end G e, at, many, D .long),
       );
     }
 

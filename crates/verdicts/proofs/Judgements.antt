@@ -16,7 +16,7 @@ use Rattle.trees.specs.Trees.{Tree, words, subtrees}
 use Rattle.trees.specs.Reading.{found, order, byFound, byOrder, orderOf, causeOf}
 use Rattle.trees.specs.Causes.{Cause}
 use Rattle.trees.specs.Parts.{top}
-use Rattle.trees.specs.Walks.{treeFrom}
+use Rattle.trees.specs.Standing.{treeFrom}
 use Rattle.trees.proofs.Causes.{Passed, has-tree, cause-is, cause-refuses}
 use Rattle.trees.proofs.Lines.{place-within, line-spot, from-spot}
 use Rattle.book.specs.Book.{Book}

@@ -1,26 +1,27 @@
 -- What the code seeks for a line is the part of its subtree, in the words of its section. Assumes nothing.
-use Prim.Native.Nat.{ℕ, _-_, _*_}
+use Prim.Native.Nat.{ℕ, _+_, _-_, _*_, _/_, _≤_, _<_}
 use mathlib.Core.Path.{_≡_, ap, sym, _∙_}
-use mathlib.Core.Bool.{true, false}
+use mathlib.Core.Bool.{Bool, true, false}
 use mathlib.Core.List.{List}
-use native.Mathlib.Nat.{sub-zero}
 use native.Mathlib.Omega.{arith}
+use lib.Dec.{leb}
 use lib.ListN.{length, getD, length-append}
-use lib.Seq.{take-append-seam}
 use Rattle.words.specs.Base.{if_then_else_, over}
 use Rattle.trees.specs.Trees.{Tree, words}
+use Rattle.trees.specs.Reading.{found}
 use Rattle.trees.specs.Parts.{isLow, middle, partOf}
-use Rattle.trees.specs.Walks.{cutOf, partAtOf}
-use Rattle.trees.specs.declared.PartAt.{PartAt}
-use Rattle.trees.specs.declared.PartAt.the-variants.{NoPart, LowTo, MiddleTo}
+use Rattle.trees.specs.Standing.{treeFrom, cutOf}
+use Rattle.trees.specs.Spans.{GoneOver}
 use Rattle.trees.proofs.Lines.{from-spot, cut-spot}
+use Rattle.trees.proofs.LineCuts.{line-lent}
+use Rattle.trees.proofs.LineSpans.{span-end, span-low}
 use Rattle.book.specs.Book.{sectionOf}
 use Rattle.book.specs.Decoding.{bookIn}
 use Rattle.book.specs.declared.Places.{Places}
 use Rattle.book.specs.declared.Section.the-variants.{Lows, Middles}
 use Rattle.book.specs.Holding.{Holds}
 use Rattle.verdicts.specs.Seeking.{Seeks}
-use Rattle.trees.proofs.Spots.{LineAt, short-order, part-told, spot-within, spot-words}
+use Rattle.trees.proofs.Spots.{LineAt, spot-within, spot-words}
 
 -- The part of a low subtree is the subtree.
 low-tree : (k : ℕ) (s : Tree) → isLow k s ≡ true → partOf k s .tree ≡ s
@@ -32,49 +33,62 @@ middle-tree : (k : ℕ) (s : Tree) → isLow k s ≡ false → partOf k s .tree 
 unfolding partOf if_then_else_
 middle-tree k s e = rw e
 
--- A line of an order, and a book in form.
-module _ (ws os : List ℕ) (p : Places) (line : ℕ) (H : Holds ws p) (c : LineAt os line) (w : PartAt) (is : w ≡ partAtOf os (line * 2) (p .k .k)) where
-  -- There is a part.
-  pub some-part : {A : Type 0} → w ≡ NoPart → A
-  some-part e = absurd (part-told os (line * 2) _ (c .spot) (p .k .k) w NoPart (short-order os (c .order) (c .passes)) is e)
+-- A line of an order that was gone over, and a book in form.
+module _ (ws os ss : List ℕ) (p : Places) (line : ℕ) (H : Holds ws p) (G : GoneOver os ss) (c : LineAt os line) where
+  -- The order has the line.
+  has-line : line < length os / 2
+  has-line = omega (arith, c .lies)
+
+  -- The tree of the line.
+  here-is : treeFrom os (line * 2) ≡ found (c .spot .tree)
+  here-is = from-spot os (line * 2) _ (c .spot)
+
+  -- Its words end where the line past its subtree begins.
+  ends : getD ss (line * 2) 0 * 2 ≡ line * 2 + length (words (c .spot .tree))
+  ends = span-end os ss G line (c .spot .tree) has-line here-is
+
+  -- That is within the order.
+  pub end-within : getD ss (line * 2) 0 * 2 ≤ length os
+  end-within = omega (arith, ends, c .lies, spot-within os (line * 2) _ (c .spot) (omega (arith, c .lies)))
+
+  -- What is read of its depth tells whether it stands for a low part.
+  low-is : (x : Bool) → leb (getD ss (line * 2 + 1) 0) (p .k .k - 2) ≡ x → isLow (bookIn ws .k) (c .spot .tree) ≡ x
+  low-is x e = rw (← H .depth) (sym (span-low os ss G (p .k .k) line (c .spot .tree) has-line here-is) ∙ e)
 
   -- A low part is sought in L, where it lies in the order.
-  pub seeks-low : (e n : ℕ) (cut : List ℕ) → w ≡ LowTo e → n ≡ getD ws 5 0
+  pub seeks-low : (e n : ℕ) (cut : List ℕ) → leb (getD ss (line * 2 + 1) 0) (p .k .k - 2) ≡ true → e ≡ getD ss (line * 2) 0 * 2 → n ≡ getD ws 5 0
       → Seeks (bookIn ws) ws os (line * 2) cut (record { low = true; from = line * 2; to = e; at = p .lows; many = n })
   unfolding sectionOf
-  seeks-low e n cut f m =
+  seeks-low e n cut f g m =
       let s = c .spot .tree in
-      let t = part-told os (line * 2) _ (c .spot) (p .k .k) w (LowTo e) (short-order os (c .order) (c .passes)) is f in
-      let low : isLow (bookIn ws .k) s ≡ true = rw (← H .depth) (t .0) in
+      let low = low-is true f in
       let S = H .section Lows in
       record {
         tree = s;
-        here = from-spot os (line * 2) _ (c .spot);
+        here = here-is;
         kind = sym low;
-        key = spot-words os (line * 2) _ (c .spot) e (t .1) ∙ ap words (sym (low-tree (bookIn ws .k) s low));
-        forward = omega (arith, t .1);
-        lies = omega (arith, t .1, c .lies, spot-within os (line * 2) _ (c .spot) (omega (arith, c .lies)));
+        key = spot-words os (line * 2) _ (c .spot) e (g ∙ ends) ∙ ap words (sym (low-tree (bookIn ws .k) s low));
+        forward = omega (arith, g, ends);
+        lies = omega (arith, g, end-within);
         among = rw m (S .are);
         sorted = rw m (rw (S .are) (S .sorted));
         within = rw m (S .within);
       }
 
   -- A middle part is sought in P, from the words of its cut.
-  pub seeks-middle : (e a n d : ℕ) (old cut : List ℕ) → w ≡ MiddleTo e a → n ≡ getD ws 6 0 → d ≡ p .k .k - 1 → cut ≡ over (cutOf os (line * 2) d) old
-      → Seeks (bookIn ws) ws os (line * 2) cut (record { low = false; from = 0; to = a; at = p .middles; many = n })
+  pub seeks-middle : (a n d : ℕ) (old cut : List ℕ) → leb (getD ss (line * 2 + 1) 0) (p .k .k - 2) ≡ false → n ≡ getD ws 6 0 → d ≡ p .k .k - 1 → a ≡ length (cutOf os (line * 2) d)
+      → cut ≡ over (cutOf os (line * 2) d) old → Seeks (bookIn ws) ws os (line * 2) cut (record { low = false; from = 0; to = a; at = p .middles; many = n })
   unfolding sectionOf middle
-  seeks-middle e a n d old cut f m g o =
+  seeks-middle a n d old cut f m g long o =
       let s = c .spot .tree in
-      let t = part-told os (line * 2) _ (c .spot) (p .k .k) w (MiddleTo e a) (short-order os (c .order) (c .passes)) is f in
-      let low : isLow (bookIn ws .k) s ≡ false = rw (← H .depth) (t .0) in
+      let low = low-is false f in
       let S = H .section Middles in
       let new : cutOf os (line * 2) d ≡ words (middle (p .k .k) s) = cut-spot os (line * 2) _ (c .spot) d ∙ rw g in
-      let long : a ≡ length (cutOf os (line * 2) d) = t .1 ∙ sym (ap length new) in
       record {
         tree = s;
-        here = from-spot os (line * 2) _ (c .spot);
+        here = here-is;
         kind = sym low;
-        key = rw (sub-zero, o, long, take-append-seam (cutOf os (line * 2) d)) (new ∙ rw (H .depth) (ap words (sym (middle-tree (bookIn ws .k) s low))));
+        key = line-lent (cutOf os (line * 2) d) old cut a long o ∙ new ∙ rw (H .depth) (ap words (sym (middle-tree (bookIn ws .k) s low)));
         forward = omega arith;
         lies = rw (o, long) (simp length-append (omega arith));
         among = rw m (S .are);

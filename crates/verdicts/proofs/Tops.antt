@@ -1,23 +1,21 @@
 -- The order's top, written to a scratch and looked up in R. Assumes nothing.
-use Prim.Native.Nat.{ℕ, _-_, _/_, _<_, _≤_}
+use Prim.Native.Nat.{ℕ, _-_, _/_, _<_}
 use mathlib.Core.Path.{_≡_, _∙_}
 use mathlib.Core.List.{List}
 use native.Mathlib.Omega.{arith}
 use lib.ListN.{length, getD, take, drop}
 use Rattle.words.specs.Base.{over}
-use Rattle.figures.specs.Limits.{most-words}
 use Rattle.section.specs.Entries.{entries, look}
 use Rattle.section.specs.Near.{nearIn}
 use Rattle.section.proofs.Near.{near-is}
 use Rattle.trees.specs.Trees.{Tree, words}
 use Rattle.trees.specs.Reading.{byOrder, found}
 use Rattle.trees.specs.Parts.{top}
-use Rattle.trees.specs.Walks.{walkOf, cutOf, laidOf}
-use Rattle.trees.specs.declared.Laid.{Laid}
+use Rattle.trees.specs.Standing.{cutOf}
 use Rattle.trees.proofs.Causes.{Passed}
 use Rattle.trees.proofs.Orders.{some-lines}
 use Rattle.trees.proofs.Lines.{cut-spot}
-use Rattle.trees.proofs.LineCuts.{line-count, line-lent}
+use Rattle.trees.proofs.LineCuts.{line-lent}
 use Rattle.book.specs.Book.{sectionOf}
 use Rattle.book.specs.Decoding.{bookIn}
 use Rattle.book.specs.Holding.{Holds}
@@ -27,20 +25,16 @@ use Rattle.verdicts.specs.Seeking.{topNear}
 use Rattle.verdicts.specs.Expecting.{nearTop}
 use Rattle.trees.proofs.Spots.{two-words-a-line, top-spot}
 
--- The order's tree, and a depth to cut it at.
-module _ (os : List ℕ) (t : Tree) (p : Passed os t) (d : ℕ) where
+-- The order's tree.
+module _ (os : List ℕ) (t : Tree) (p : Passed os t) where
   -- The order has a first line.
-  first : 0 < length os / 2
-  first = omega (arith, two-words-a-line os t p, some-lines t)
-
-  -- The cut that is written has at most 128 words.
-  pub top-count : (r : Laid) → r ≡ laidOf (walkOf os 0 d) → r .count ≤ most-words
-  top-count r e = line-count os t p 0 d first r e .1
+  pub first-line : 0 < length os / 2
+  first-line = omega (arith, two-words-a-line os t p, some-lines t)
 
   -- Cut at k-2, the words that were written are those of the top.
-  pub top-key : (k : ℕ) (r : Laid) (old cut : List ℕ) → d ≡ k - 2 → r ≡ laidOf (walkOf os 0 d) → cut ≡ over (cutOf os 0 d) old → take (r .count - 0) (drop 0 cut) ≡ words (top k t)
+  pub top-key : (d k n : ℕ) (old cut : List ℕ) → d ≡ k - 2 → n ≡ length (cutOf os 0 d) → cut ≡ over (cutOf os 0 d) old → take (n - 0) (drop 0 cut) ≡ words (top k t)
   unfolding top
-  top-key k r old cut e f g = line-lent os t p 0 d first r f old cut g ∙ cut-spot os 0 (found t) (top-spot os t p) d ∙ rw e
+  top-key d k n old cut e f g = line-lent (cutOf os 0 d) old cut n f g ∙ cut-spot os 0 (found t) (top-spot os t p) d ∙ rw e
 
 -- What a search for the top among the entries of R says of its neighbours.
 pub top-found : (ws os : List ℕ) (p : Places) (t : Tree) → Holds ws p → Passed os t → (key : List ℕ) (n : ℕ) → key ≡ words (top (p .k .k) t) → n ≡ getD ws 4 0

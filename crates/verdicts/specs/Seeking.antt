@@ -13,7 +13,7 @@ use Rattle.section.specs.declared.Neighbours.{Neighbours}
 use Rattle.trees.specs.Trees.{Tree, words, subtrees}
 use Rattle.trees.specs.Reading.{found, byFound, byOrder, orderOf}
 use Rattle.trees.specs.Parts.{isLow, partOf}
-use Rattle.trees.specs.Walks.{treeFrom}
+use Rattle.trees.specs.Standing.{treeFrom}
 use Rattle.book.specs.Book.{Book}
 use Rattle.verdicts.specs.Judging.{knows, Doubt, no-doubt, doubt, leastToFix, verdictOn}
 use Rattle.verdicts.specs.Expecting.{nearTop, expectedOn}

@@ -1,30 +1,36 @@
 -- `judge::top_near` meets its contract: the words sought in R are those of the order's top. Assumes nothing.
-use Prim.Native.Nat.{_-_}
+use Prim.Native.Nat.{ℕ, _-_, _≤_}
 use mathlib.Core.Path.{_≡_, refl, ap, _∙_}
 use native.Mathlib.Omega.{arith}
 use borrow.Author.Needs.{needs}
-use lib.ListN.{take, drop}
+use lib.ListN.{length, take, drop}
 use Rattle.figures.specs.Limits.{most-words}
 use Rattle.section.specs.Near.{nearIn}
 use Rattle.trees.specs.Trees.{words}
 use Rattle.trees.specs.Parts.{top}
+use Rattle.trees.specs.Standing.{cutOf}
 use Rattle.trees.proofs.Causes.{HasTree, has-tree}
 use Rattle.book.specs.declared.Section.the-variants.{Tops}
-use Rattle.verdicts.proofs.Tops.{top-count, top-key, top-found}
-use Rattle.trees.proofs.Orders.{some-lines}
-use Rattle.trees.proofs.Spots.{two-words-a-line, top-room}
+use Rattle.verdicts.proofs.Tops.{first-line, top-key, top-found}
+use Rattle.trees.proofs.LineCuts.{line-short}
 use Rattle.judge.proofs.top_near.Statement.{statement}
 use Rattle.judge.proofs.top_near.Tie as tie
 
 -- The order's tree.
 tree : (s : tie.Start) → HasTree (s .args .order .now)
-tree s = has-tree _ (s .pre .1 .0)
+tree s = has-tree _ (s .pre .1 .0 .sound)
+
+-- Its cut has at most 128 words.
+short : (s : tie.Start) (d : ℕ) → length (cutOf (s .args .order .now) 0 d) ≤ most-words
+short s d = line-short _ 0 d (s .pre .1 .0 .sound) (first-line _ (tree s .tree) (tree s .passes))
 
 -- The words that were written are those of the top.
-key : (c : tie.After-cut2) → let s = c .before .before .before .before .before .before in take (c .before .put-line .result .count - 0) (drop 0 (c .before .put-line .last .1 .1 .1 .1 .0)) ≡ words (top (s .args .places .k .k) (tree s .tree))
+key : (c : tie.After-cut2) → let s = c .before .before .before .before .before .before .before .before in take (c .before .put-line .result - 0) (drop 0 (c .before .put-line .last .1 .1 .1 .1 .1 .0)) ≡ words (top (s .args .places .k .k) (tree s .tree))
 key c =
-    let s = c .before .before .before .before .before .before in
-    top-key _ _ (tree s .passes) (c .before .before .before .of-tops .result) _ _ _ _ (c .before .before .before .of-tops .ensures) (c .before .put-line .ensures .0) (c .before .put-line .ensures .1)
+    let s = c .before .before .before .before .before .before .before .before in
+    let m = c .before .before .before .of-tops in
+    let w = c .before .put-line in
+    top-key _ _ (tree s .passes) (m .result) _ _ _ _ (m .ensures) (w .ensures .0) (w .ensures .1)
 
 of-tops-requires : tie.Need-of-tops-requires
 of-tops-requires c κs = search needs
@@ -34,16 +40,14 @@ slice-aggregate-put-line c = search needs
 
 put-line-requires : tie.Need-put-line-requires
 put-line-requires c κs =
-    let s = c .before .before .before .before in
-    let t = tree s in
-    let room = top-room _ (t .tree) (t .passes) (c .before .of-tops .result) most-words (omega arith) in
-    (s .pre .1 .0, (s .pre .1 .1 .0, (omega (arith, two-words-a-line _ _ (t .passes), some-lines (t .tree)), (s .pre .1 .1 .1, room))))
+    let s = c .before .before .before .before .before .before in
+    (s .pre .1 .0, (s .pre .1 .1, (first-line _ (tree s .tree) (tree s .passes), short s (c .before .of-tops .result))))
 
 shared-slice-read-many : tie.Need-shared-slice-read-many
-shared-slice-read-many c = omega (arith, (c .before .before .before .before .before .before .before) .pre .0 .long)
+shared-slice-read-many c = omega (arith, c .before .before .before .before .before .before .before .before .before .pre .0 .long)
 
 cast-many : tie.Need-cast-many
-cast-many c = omega (arith, c .shared-slice-known3 .given 4)
+cast-many c = omega (arith, c .shared-slice-known5 .given 4)
 
 sub-find : tie.Need-sub-find
 sub-find c = search needs
@@ -54,19 +58,17 @@ part-find-start c = search needs
 part-find-end : tie.Need-part-find-end
 part-find-end c =
     let p = c .before .before .before in
-    let d = p .before .before in
-    let t = tree (d .before .before .before) in
-    omega (arith, p .put-line .kept .1 .1 .1 .1 .0, top-count _ (t .tree) (t .passes) (d .of-tops .result) _ (p .put-line .ensures .0))
+    omega (arith, p .put-line .kept .1 .1 .1 .1 .1 .0, p .put-line .ensures .0, short (p .before .before .before .before .before .before .before) (p .before .before .of-tops .result))
 
 find-requires : tie.Need-find-requires
-find-requires c κs = (c .before .before .before .before .before .before .before .before .before) .pre .0 .section Tops .within
+find-requires c κs = c .before .before .before .before .before .before .before .before .before .before .before .pre .0 .section Tops .within
 
 around-requires : tie.Need-around-requires
 around-requires c κs = search needs
 
 returns : tie.Need-returns
 returns c =
-    let s = c .before .before .before .before .before .before .before .before .before .before .before in
+    let s = c .before .before .before .before .before .before .before .before .before .before .before .before .before in
     c .around .ensures ∙ ap nearIn (c .before .find .ensures)
     ∙ top-found _ _ _ _ (s .pre .0) (tree s .passes) _ _ (key (c .before .before .before .before .before)) refl
 

@@ -7,34 +7,33 @@ use lib.ListN.{length, take, drop}
 use borrow.Author.Needs.{needs}
 use Rattle.section.specs.Entries.{has}
 use Rattle.tally.specs.Tallying.{listed, soughtIn, Few, talliedOnce, markedOnce}
-use Rattle.trees.specs.Walks.{cutOf}
-use Rattle.trees.proofs.Causes.{has-tree}
-use Rattle.trees.proofs.LineCuts.{line-room, line-count, line-lent}
+use Rattle.trees.specs.Standing.{cutOf}
+use Rattle.trees.proofs.LineCuts.{line-short, line-lent}
 use Rattle.recount.proofs.tally_cut.Statement.{statement}
 use Rattle.recount.proofs.tally_cut.Tie as tie
 
 -- What the function was called with, seen from where the cut is written.
 abbrev called : tie.After-put-line → tie.Start
-called w = w .before .before .before .before .before .before .before .before
+called w = w .before .before .before .before .before .before .before .before .before .before
 
 -- The scratch with the cut.
 abbrev scratch : tie.After-put-line → List ℕ
-scratch w = w .put-line .last .1 .1 .1 .1 .0
+scratch w = w .put-line .last .1 .1 .1 .1 .1 .0
 
 -- The words told are those of the cut.
-lent : (w : tie.After-put-line) → let x = called w .args in take (w .put-line .result .count - 0) (drop 0 (scratch w)) ≡ cutOf (x .order .now) (x .line * 2) (x .d)
-lent w = let b = called w in line-lent _ _ (has-tree _ (b .pre .0) .passes) _ _ (b .pre .1 .1 .0) _ (w .put-line .ensures .0) _ _ (w .put-line .ensures .1)
+lent : (w : tie.After-put-line) → let x = called w .args in take (w .put-line .result - 0) (drop 0 (scratch w)) ≡ cutOf (x .order .now) (x .line * 2) (x .d)
+lent w = line-lent _ _ _ _ (w .put-line .ensures .0) (w .put-line .ensures .1)
 
 -- The scratch has room for them.
-count-fits : (w : tie.After-put-line) → w .put-line .result .count ≤ length (scratch w)
+count-fits : (w : tie.After-put-line) → w .put-line .result ≤ length (scratch w)
 count-fits w =
     let b = called w in
-    omega (arith, line-count _ _ (has-tree _ (b .pre .0) .passes) _ _ (b .pre .1 .1 .0) _ (w .put-line .ensures .0) .1, w .put-line .kept .1 .1 .1 .1 .0, b .pre .1 .1 .1 .0)
+    omega (arith, w .put-line .ensures .0, line-short _ _ (b .args .d) (b .pre .0 .sound) (b .pre .1 .1 .0), w .put-line .kept .1 .1 .1 .1 .1 .0, b .pre .1 .1 .1 .0)
 
 put-line-requires : tie.Need-put-line-requires
 put-line-requires c κs =
-    let b = c .before .before .before .before .before .before .before in
-    (b .pre .0, (b .pre .1 .0 .0, (b .pre .1 .1 .0, (b .pre .1 .0 .1, line-room _ _ (has-tree _ (b .pre .0) .passes) _ _ (b .pre .1 .1 .0) _ (b .pre .1 .1 .1 .0)))))
+    let b = c .before .before .before .before .before .before .before .before .before in
+    (b .pre .0, (b .pre .1 .0, (b .pre .1 .1 .0, omega (arith, line-short _ _ (b .args .d) (b .pre .0 .sound) (b .pre .1 .1 .0), b .pre .1 .1 .1 .0))))
 
 sub-tally-once : tie.Need-sub-tally-once
 sub-tally-once c = search needs
@@ -50,7 +49,7 @@ tally-once-requires c κs =
     let w = c .before .before .before .before .before .before in
     let b = called w in
     let x = b .args in
-    let few : Few (talliedOnce (x .turn .by) (x .turn .number) (soughtIn (take (w .put-line .result .count - 0) (drop 0 (scratch w))) (listed (x .starts .now) (x .book .now))) (x .marks .now) (x .counts .now)) =
+    let few : Few (talliedOnce (x .turn .by) (x .turn .number) (soughtIn (take (w .put-line .result - 0) (drop 0 (scratch w))) (listed (x .starts .now) (x .book .now))) (x .marks .now) (x .counts .now)) =
     subst (λ (z : List ℕ). Few (talliedOnce (x .turn .by) (x .turn .number) (soughtIn z (listed (x .starts .now) (x .book .now))) (x .marks .now) (x .counts .now))) (sym (lent w)) (b .pre .1 .1 .1 .1 .1 .1) in
     (b .pre .1 .1 .1 .1 .0, (b .pre .1 .1 .1 .1 .1 .0, few))
 

@@ -8,12 +8,12 @@ use native.Mathlib.Omega.{arith}
 use lib.ListN.{length, getD, take, drop}
 use lib.Seq.{drop-drop, getD-drop}
 use borrow.Author.Needs.{needs}
-use Rattle.figures.specs.Limits.{most-nodes}
 use Rattle.figures.specs.Numbers.{done}
 use Rattle.section.specs.Entries.{width, firstEntry}
 use Rattle.tally.specs.Tallying.{listed, Ready, Taken}
 use Rattle.trees.specs.Reading.{causeOf}
-use Rattle.trees.specs.Levels.{LinesLevelled}
+use Rattle.trees.specs.Spans.{GoneOver}
+use Rattle.trees.proofs.Spots.{passed-short}
 use Rattle.recount.specs.Tallies.{partsIn}
 use Rattle.recount.proofs.tally_order.Statement.{statement}
 use Rattle.recount.proofs.tally_order.Tie as tie
@@ -40,18 +40,33 @@ ends-at book at = rw (getD-drop, add-zero) (omega arith)
 room : (b : tie.Start) → b .args .at + 2 + 2 * getD (b .args .book .now) (b .args .at) 0 ≤ length (b .args .book .now)
 room b = omega (arith, ends-at (b .args .book .now) (b .args .at), b .pre .0 .0)
 
--- The words up to the entry's end are an order.
-ordered : (c : tie.After-past) → let b = c .before .before .before .before .before in
-    causeOf (take (c .past .result - (b .args .at + 2)) (drop (b .args .at + 2) (b .args .book .now))) ≡ done
-ordered c = let b = c .before .before .before .before .before in ap causeOf (key-at (b .args .book .now) (b .args .at) _ (c .past .ensures)) ∙ b .pre .0 .1
+-- What the function was called with, seen from where the entry's end is known.
+abbrev called : tie.After-past → tie.Start
+called p = p .before .before .before .before .before .before .before .before
 
--- The levels of its lines are listed then.
-levelled : (c : tie.After-cause-into) →
-    let p = c .before .before .before .before in
-    let b = p .before .before .before .before .before in
-    let levels = c .cause-into .last .1 .0 in
-    LinesLevelled (take (p .past .result - (b .args .at + 2)) (drop (b .args .at + 2) (b .args .book .now))) levels × (length levels ≡ most-nodes)
-levelled c = let a = c .cause-into in (a .ensures .1 .0 (ordered (c .before .before .before .before)), a .ensures .1 .1)
+-- The words up to the entry's end.
+abbrev lent : tie.After-past → List ℕ
+lent p = let x = called p .args in take (p .past .result - (x .at + 2)) (drop (x .at + 2) (x .book .now))
+
+-- They lie within the book.
+lent-within : (p : tie.After-past) → p .past .result ≤ length (called p .args .book .now)
+lent-within p = omega (arith, p .past .ensures, room (called p))
+
+-- They are an order.
+ordered : (p : tie.After-past) → causeOf (lent p) ≡ done
+ordered p = let b = called p in ap causeOf (key-at (b .args .book .now) (b .args .at) _ (p .past .ensures)) ∙ b .pre .0 .1
+
+-- The entry's end, seen from where the order is gone over.
+abbrev ended : tie.After-cause-into → tie.After-past
+ended c = c .before .before .before .before
+
+-- The order is gone over then.
+gone-over : (c : tie.After-cause-into) → GoneOver (lent (ended c)) (c .cause-into .last .1 .0)
+gone-over c = c .cause-into .ensures .1 .0 (ordered (ended c))
+
+-- Where the order is gone over, seen from where its lines have levels.
+abbrev spanned : tie.After-level-lines → tie.After-cause-into
+spanned c = c .before .before .before .before .before .before
 
 -- What a turn says of an order with these words, which counts so often.
 module _ (b : tie.Start) where
@@ -64,29 +79,28 @@ module _ (b : tie.Start) where
   TakenFor cs ms r by os = Taken (b .args .turn) by (partsIn (b .args .section) (b .args .k .k) os) (listed (b .args .starts .now) (b .args .book .now)) (b .args .counts .now) (b .args .marks .now) cs ms r
 
 -- What is said of the entry's key and count is said of the words up to its end and of the word before them.
-entry-lent : (Q : ℕ → List ℕ → Type 0) (c : tie.After-past) → let b = c .before .before .before .before .before in let e = firstEntry (drop (b .args .at) (b .args .book .now)) in
-    Q (e .count) (e .key) → Q (getD (b .args .book .now) (b .args .at + 1) 0) (take (c .past .result - (b .args .at + 2)) (drop (b .args .at + 2) (b .args .book .now)))
-entry-lent Q c q =
-    let b = c .before .before .before .before .before in
-    let os = take (c .past .result - (b .args .at + 2)) (drop (b .args .at + 2) (b .args .book .now)) in
+entry-lent : (Q : ℕ → List ℕ → Type 0) (p : tie.After-past) → let b = called p in let e = firstEntry (drop (b .args .at) (b .args .book .now)) in
+    Q (e .count) (e .key) → Q (getD (b .args .book .now) (b .args .at + 1) 0) (lent p)
+entry-lent Q p q =
+    let b = called p in
     let e = firstEntry (drop (b .args .at) (b .args .book .now)) in
-    subst (λ (n : ℕ). Q n os) (sym (count-at (b .args .book .now) (b .args .at)))
-    (subst (Q (e .count)) (sym (key-at (b .args .book .now) (b .args .at) _ (c .past .ensures))) q)
+    subst (λ (n : ℕ). Q n (lent p)) (sym (count-at (b .args .book .now) (b .args .at)))
+    (subst (Q (e .count)) (sym (key-at (b .args .book .now) (b .args .at) _ (p .past .ensures))) q)
 
 -- The other way round.
-lent-entry : (Q : ℕ → List ℕ → Type 0) (c : tie.After-past) → let b = c .before .before .before .before .before in let e = firstEntry (drop (b .args .at) (b .args .book .now)) in
-    Q (getD (b .args .book .now) (b .args .at + 1) 0) (take (c .past .result - (b .args .at + 2)) (drop (b .args .at + 2) (b .args .book .now))) → Q (e .count) (e .key)
-lent-entry Q c q =
-    let b = c .before .before .before .before .before in
+lent-entry : (Q : ℕ → List ℕ → Type 0) (p : tie.After-past) → let b = called p in let e = firstEntry (drop (b .args .at) (b .args .book .now)) in
+    Q (getD (b .args .book .now) (b .args .at + 1) 0) (lent p) → Q (e .count) (e .key)
+lent-entry Q p q =
+    let b = called p in
     let e = firstEntry (drop (b .args .at) (b .args .book .now)) in
     subst (λ (n : ℕ). Q n (e .key)) (count-at (b .args .book .now) (b .args .at))
-    (subst (Q (getD (b .args .book .now) (b .args .at + 1) 0)) (key-at (b .args .book .now) (b .args .at) _ (c .past .ensures)) q)
+    (subst (Q (getD (b .args .book .now) (b .args .at + 1) 0)) (key-at (b .args .book .now) (b .args .at) _ (p .past .ensures)) q)
 
 add-start : tie.Need-add-start
 add-start c = search needs
 
 past-requires : tie.Need-past-requires
-past-requires c κs = room (c .before .before .before .before)
+past-requires c κs = room (c .before .before .before .before .before .before .before)
 
 add-by : tie.Need-add-by
 add-by c = search needs
@@ -107,10 +121,28 @@ part-cause-into-start : tie.Need-part-cause-into-start
 part-cause-into-start c = search needs
 
 part-cause-into-end : tie.Need-part-cause-into-end
-part-cause-into-end c = omega (arith, c .before .past .ensures, room (c .before .before .before .before .before .before))
+part-cause-into-end c = lent-within (c .before)
 
 cause-into-requires : tie.Need-cause-into-requires
 cause-into-requires c κs = search needs
+
+mul-level-lines : tie.Need-mul-level-lines
+mul-level-lines c = search needs
+
+sub-level-lines : tie.Need-sub-level-lines
+sub-level-lines c = search needs
+
+part-level-lines-start : tie.Need-part-level-lines-start
+part-level-lines-start c = search needs
+
+part-level-lines-end : tie.Need-part-level-lines-end
+part-level-lines-end c = lent-within (ended (c .before .before))
+
+level-lines-requires : tie.Need-level-lines-requires
+level-lines-requires c κs =
+    let a = c .before .before .before .before .before in
+    let b = called (ended a) in
+    (gone-over a, omega (arith, passed-short _ (ordered (ended a)), b .pre .1 .1 .0 .1))
 
 mul-tally-section : tie.Need-mul-tally-section
 mul-tally-section c = search needs
@@ -122,17 +154,14 @@ part-tally-section-start : tie.Need-part-tally-section-start
 part-tally-section-start c = search needs
 
 part-tally-section-end : tie.Need-part-tally-section-end
-part-tally-section-end c = let p = c .before .before .before .before in omega (arith, p .past .ensures, room (p .before .before .before .before .before))
-
-slice-aggregate-tally-section : tie.Need-slice-aggregate-tally-section
-slice-aggregate-tally-section c = search needs
+part-tally-section-end c = lent-within (ended (spanned (c .before .before)))
 
 tally-section-requires : tie.Need-tally-section-requires
 tally-section-requires c κs =
-    let a = c .before .before .before .before .before in
-    let p = a .before .before .before .before in
-    let b = p .before .before .before .before .before in
-    (b .pre .1 .0, (ordered p, (levelled a, (omega arith, (b .pre .1 .1 .0, entry-lent (ReadyFor b) p (b .pre .1 .1 .1))))))
+    let l = c .before .before .before .before .before .before .before .before in
+    let a = spanned l in
+    let b = called (ended a) in
+    (b .pre .1 .0, (gone-over a, (l .level-lines .ensures .0, (b .pre .1 .1 .0 .2, (b .pre .1 .1 .1 .0, entry-lent (ReadyFor b) (ended a) (b .pre .1 .1 .1 .1))))))
 
 same-length : tie.Need-same-length
 same-length c = search needs
@@ -140,12 +169,20 @@ same-length c = search needs
 same-length-2 : tie.Need-same-length-2
 same-length-2 c = search needs
 
+same-length-3 : tie.Need-same-length-3
+same-length-3 c = search needs
+
+same-length-4 : tie.Need-same-length-4
+same-length-4 c = search needs
+
+same-length-5 : tie.Need-same-length-5
+same-length-5 c = search needs
+
 returns : tie.Need-returns
 returns c =
-    let t = c .before .before .before .before .before in
-    let p = t .before .before .before .before .before .before .before .before .before .before in
-    let b = p .before .before .before .before .before in
-    lent-entry (TakenFor b _ _ _) p (t .tally-section .ensures)
+    let t = c .before .before .before .before .before .before in
+    let p = ended (spanned (t .before .before .before .before .before .before .before .before .before)) in
+    lent-entry (TakenFor (called p) _ _ _) p (t .tally-section .ensures)
 
 pub tally-order-spec : {M : Type 1} → statement M
 tally-order-spec =
@@ -161,12 +198,19 @@ tally-order-spec =
     part-cause-into-start
     part-cause-into-end
     cause-into-requires
+    mul-level-lines
+    sub-level-lines
+    part-level-lines-start
+    part-level-lines-end
+    level-lines-requires
     mul-tally-section
     sub-tally-section
     part-tally-section-start
     part-tally-section-end
-    slice-aggregate-tally-section
     tally-section-requires
     same-length
     same-length-2
+    same-length-3
+    same-length-4
+    same-length-5
     returns)

@@ -9,7 +9,7 @@ use Rattle.figures.specs.Limits.{greatest-depth}
 use Rattle.section.specs.Entries.{Entry, counted}
 use Rattle.tally.specs.Tallying.{listed, Ready, Taken}
 use Rattle.tally.proofs.Starts.{length-listed}
-use Rattle.trees.specs.Walks.{cutOf}
+use Rattle.trees.specs.Standing.{cutOf}
 use Rattle.book.specs.Book.{Book, sectionOf}
 use Rattle.book.specs.declared.Section.{Section}
 use Rattle.book.specs.declared.Section.the-variants.{Taught, Tops, Lows, Middles}
@@ -38,7 +38,7 @@ counts-in Middles b = listOf false (b .args .k .k) (b .args .order .now)
 -- The section that is asked for has what is counted in it.
 section-is : (b : tie.Start) (s : Section) → b .args .section ≡ s → counts-in s b ≡ sectionOf (b .args .section) (ownOf (b .args .k .k) (b .args .order .now))
 unfolding sectionOf
-section-is b s told = is s ∙ sym (ap₂ sectionOf told (own-is (b .args .order .now) (b .pre .1 .0) (b .args .k .k) (b .pre .0)))
+section-is b s told = is s ∙ sym (ap₂ sectionOf told (own-is (b .args .order .now) (b .pre .1 .0 .sound) (b .args .k .k) (b .pre .0)))
   where
     is : (s : Section) → counts-in s b ≡ sectionOf s (own b)
     is Taught = refl
@@ -81,9 +81,9 @@ enum-told c = search needs
 tally-cut-requires : tie.Need-tally-cut-requires
 tally-cut-requires c κs =
     let e = c .before .before .before in
-    let b = e .before .before .before .before .before .before .before .before in
+    let b = e .before .before .before .before .before .before .before .before .before .before in
     let few = key-few _ _ _ _ _ _ (b .pre .1 .1 .1 .1 .0 .sorted) (ready-in b Taught (e .enum-told .given .1)) in
-    (b .pre .1 .0, (b .pre .1 .1 .0, (first-line _ (b .pre .1 .0), (b .pre .1 .1 .1 .0, (b .pre .1 .1 .1 .1 .0, (long b, few))))))
+    (b .pre .1 .0, (b .pre .1 .1 .0, (first-line _ (b .pre .1 .0 .sound), (b .pre .1 .1 .1 .0, (b .pre .1 .1 .1 .1 .0, (long b, few))))))
 
 enum-told-2 : tie.Need-enum-told-2
 enum-told-2 c = search needs
@@ -95,9 +95,9 @@ tally-cut-requires-2 : tie.Need-tally-cut-requires-2
 tally-cut-requires-2 c κs =
     let o = c .before .before .before in
     let e = o .before in
-    let b = e .before .before .before .before .before .before .before .before in
+    let b = e .before .before .before .before .before .before .before .before .before .before in
     let ready = subst (ReadyFor b) (sym (top-is b _ (o .of-tops .ensures))) (ready-in b Tops (e .enum-told2 .given .1)) in
-    (b .pre .1 .0, (b .pre .1 .1 .0, (first-line _ (b .pre .1 .0), (b .pre .1 .1 .1 .0, (b .pre .1 .1 .1 .1 .0, (long b, key-few _ _ _ _ _ _ (b .pre .1 .1 .1 .1 .0 .sorted) ready))))))
+    (b .pre .1 .0, (b .pre .1 .1 .0, (first-line _ (b .pre .1 .0 .sound), (b .pre .1 .1 .1 .0, (b .pre .1 .1 .1 .1 .0, (long b, key-few _ _ _ _ _ _ (b .pre .1 .1 .1 .1 .0 .sorted) ready))))))
 
 enum-told-3 : tie.Need-enum-told-3
 enum-told-3 c = search needs
@@ -105,7 +105,7 @@ enum-told-3 c = search needs
 tally-parts-requires : tie.Need-tally-parts-requires
 tally-parts-requires c κs =
     let e = c .before .before .before in
-    let b = e .before .before .before .before .before .before .before .before in
+    let b = e .before .before .before .before .before .before .before .before .before .before in
     (b .pre .0, (b .pre .1 .0, (b .pre .1 .1 .0, (b .pre .1 .1 .1 .0, (b .pre .1 .1 .1 .1 .0, ready-in b Lows (e .enum-told3 .given .1))))))
 
 enum-told-4 : tie.Need-enum-told-4
@@ -114,7 +114,7 @@ enum-told-4 c = search needs
 tally-parts-requires-2 : tie.Need-tally-parts-requires-2
 tally-parts-requires-2 c κs =
     let e = c .before .before .before in
-    let b = e .before .before .before .before .before .before .before .before in
+    let b = e .before .before .before .before .before .before .before .before .before .before in
     (b .pre .0, (b .pre .1 .0, (b .pre .1 .1 .0, (b .pre .1 .1 .1 .0, (b .pre .1 .1 .1 .1 .0, ready-in b Middles (e .enum-told4 .given .1))))))
 
 same-length : tie.Need-same-length
@@ -130,7 +130,7 @@ returns : tie.Need-returns
 returns c =
     let t = c .before .before .before .before .before .before in
     let e = t .before .before .before .before in
-    let b = e .before .before .before .before .before .before .before .before in
+    let b = e .before .before .before .before .before .before .before .before .before .before in
     let told = e .enum-told .given .1 in
     let a = t .tally-cut .ensures in
     subst (TakenFor b _ _ _) (section-is b Taught told)
@@ -150,7 +150,7 @@ returns-2 c =
     let t = c .before .before .before .before .before .before in
     let o = t .before .before .before .before in
     let e = o .before in
-    let b = e .before .before .before .before .before .before .before .before in
+    let b = e .before .before .before .before .before .before .before .before .before .before in
     let told = e .enum-told2 .given .1 in
     let one = top-is b _ (o .of-tops .ensures) in
     let a = t .tally-cut2 .ensures in
@@ -170,7 +170,7 @@ returns-3 : tie.Need-returns-3
 returns-3 c =
     let t = c .before .before .before .before .before .before in
     let e = t .before .before .before .before in
-    let b = e .before .before .before .before .before .before .before .before in
+    let b = e .before .before .before .before .before .before .before .before .before .before in
     subst (TakenFor b _ _ _) (section-is b Lows (e .enum-told3 .given .1)) (t .tally-parts .ensures)
 
 same-length-10 : tie.Need-same-length-10
@@ -186,7 +186,7 @@ returns-4 : tie.Need-returns-4
 returns-4 c =
     let t = c .before .before .before .before .before .before in
     let e = t .before .before .before .before in
-    let b = e .before .before .before .before .before .before .before .before in
+    let b = e .before .before .before .before .before .before .before .before .before .before in
     subst (TakenFor b _ _ _) (section-is b Middles (e .enum-told4 .given .1)) (t .tally-parts2 .ensures)
 
 pub tally-section-spec : {M : Type 1} → statement M

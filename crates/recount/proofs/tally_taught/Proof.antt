@@ -9,7 +9,7 @@ use borrow.Author.Needs.{needs}
 use borrow.Author.Tests.{not-true, not-false}
 use Rattle.words.specs.Base.{_and_, _∈_}
 use Rattle.words.proofs.Tests.{no-test, fails-left}
-use Rattle.figures.specs.Limits.{taught-word, head-words}
+use Rattle.figures.specs.Limits.{most-nodes, most-words, taught-word, head-words}
 use Rattle.figures.specs.Numbers.{done}
 use Rattle.section.specs.Entries.{Entry, width, firstEntry, entries, span}
 use Rattle.section.proofs.Words.{length-entries, span-step, entries-step, past-at, span-at}
@@ -166,13 +166,14 @@ module _ (book starts : List ℕ) (s : Section) (k : ℕ) (deep : k ≡ bookIn b
 
 -- ---- the loop
 
--- At each turn this is left.
+-- At each turn this is left; the scratch is as long as at first.
 abbrev Inv-loop : tie.InvT-loop
-Inv-loop book places section starts counts₀ marks₀ at₀ left₀ counts marks at left = Left book starts section counts₀ counts marks₀ marks at left
+Inv-loop book places section starts counts₀ marks₀ spans₀ levels₀ part₀ at₀ left₀ counts marks spans levels part at left =
+    Left book starts section counts₀ counts marks₀ marks at left × (length spans ≡ most-words) × (length levels ≡ most-nodes) × (length part ≡ most-words)
 
 -- Each turn leaves one entry fewer.
 abbrev μ-loop : tie.MeasureT-loop
-μ-loop book places section starts counts₀ marks₀ at₀ left₀ counts marks at left = left
+μ-loop book places section starts counts₀ marks₀ spans₀ levels₀ part₀ at₀ left₀ counts marks spans levels part at left = left
 
 -- What the function was called with, seen from the loop.
 abbrev called : tie.At-loop Inv-loop μ-loop → tie.Start Inv-loop μ-loop
@@ -182,13 +183,17 @@ called l = l .before .before .before .before .before .before
 abbrev book : tie.At-loop Inv-loop μ-loop → List ℕ
 book l = called l .args .book .now
 
+-- The turn of the loop, seen from where its order was tallied.
+abbrev reached : tie.After-tally-order Inv-loop μ-loop → tie.In-loop Inv-loop μ-loop
+reached a = a .before .before .before .before .before .before
+
 -- The turn is ready for its order.
 turn-ready : (c : tie.In-loop Inv-loop μ-loop) → let l = c .before in let x = called l .args in let e = firstEntry (drop (l .loop .at) (book l)) in
     Ready (l .loop .left) (e .count) (partsIn (x .section) (x .places .k .k) (e .key)) (listed (x .starts .now) (book l)) (l .loop .counts) (l .loop .marks)
 turn-ready c =
     let l = c .before in
     let b = called l in
-    first-ready _ _ _ _ (b .pre .0 .depth) _ _ _ _ _ _ _ (c .loop-test .taken) refl (l .loop .inv) (b .pre .1 .1 .0 .1)
+    first-ready _ _ _ _ (b .pre .0 .depth) _ _ _ _ _ _ _ (c .loop-test .taken) refl (l .loop .inv .0) (b .pre .1 .1 .0 .1)
 
 -- The turn's entry is that of an order.
 turn-order : (c : tie.In-loop Inv-loop μ-loop) → causeOf (firstEntry (drop (c .before .loop .at) (book (c .before))) .key) ≡ done
@@ -196,15 +201,15 @@ turn-order c =
     let l = c .before in
     let b = called l in
     taught-cause (bookIn (book l)) (b .pre .0 .form) _
-    (first-taught _ _ _ _ (b .pre .0 .depth) _ _ _ _ _ _ _ (c .loop-test .taken) refl (l .loop .inv))
+    (first-taught _ _ _ _ (b .pre .0 .depth) _ _ _ _ _ _ _ (c .loop-test .taken) refl (l .loop .inv .0))
 
 -- The turn's entry lies within the book, by its width.
 turn-within : (c : tie.In-loop Inv-loop μ-loop) → c .before .loop .at + width (drop (c .before .loop .at) (book (c .before))) ≤ length (book (c .before))
-turn-within c = let l = c .before in omega (arith, l .loop .inv .within, span-step (drop (l .loop .at) (book l)) (l .loop .left) (c .loop-test .taken))
+turn-within c = let l = c .before in omega (arith, l .loop .inv .0 .within, span-step (drop (l .loop .at) (book l)) (l .loop .left) (c .loop-test .taken))
 
 -- The turn's entry lies within the book, by its end.
 turn-ends : (c : tie.In-loop Inv-loop μ-loop) → c .before .loop .at + 2 + 2 * getD (book (c .before)) (c .before .loop .at) 0 ≤ length (book (c .before))
-turn-ends c = let l = c .before in omega (arith, l .loop .inv .within, span-at (book l) (l .loop .at) (l .loop .left) _ (c .loop-test .taken) refl)
+turn-ends c = let l = c .before in omega (arith, l .loop .inv .0 .within, span-at (book l) (l .loop .at) (l .loop .left) _ (c .loop-test .taken) refl)
 
 -- There was a mark for each place.
 marks-long : (b : tie.Start Inv-loop μ-loop) → length (b .args .marks .now) ≡ length (b .args .starts .now)
@@ -216,38 +221,48 @@ shared-slice-read-left c = omega (arith, c .before .before .before .before .befo
 loop-holds : tie.Need-loop-holds Inv-loop μ-loop
 loop-holds c =
     let b = c .before .before .before .before .before in
-    left-first (b .args .book .now) (b .args .starts .now) _ (b .args .section) (b .args .counts .now) _ (b .pre .0) (b .pre .1 .1 .0 .0) (b .pre .1 .1 .1)
+    (left-first (b .args .book .now) (b .args .starts .now) _ (b .args .section) (b .args .counts .now) _ (b .pre .0) (b .pre .1 .1 .0 .0) (b .pre .1 .1 .1), refl, refl, refl)
+
+slice-aggregate-tally-order : tie.Need-slice-aggregate-tally-order Inv-loop μ-loop
+slice-aggregate-tally-order c = search needs
+
+slice-aggregate-tally-order-2 : tie.Need-slice-aggregate-tally-order-2 Inv-loop μ-loop
+slice-aggregate-tally-order-2 c = search needs
+
+slice-aggregate-tally-order-3 : tie.Need-slice-aggregate-tally-order-3 Inv-loop μ-loop
+slice-aggregate-tally-order-3 c = search needs
 
 tally-order-requires : tie.Need-tally-order-requires Inv-loop μ-loop
 tally-order-requires c κs =
-    let t = c .before .before in
+    let t = c .before .before .before .before .before in
+    let i = t .before .loop .inv in
     let b = called (t .before) in
-    ((turn-within t, turn-order t), (allowed _ _ (b .pre .0) .0, (b .pre .1 .0, turn-ready t)))
+    ((turn-within t, turn-order t), (allowed _ _ (b .pre .0) .0, ((omega (arith, i .1), omega (arith, i .2), omega (arith, i .3)), (b .pre .1 .0, turn-ready t))))
 
 same-length : tie.Need-same-length Inv-loop μ-loop
 same-length c =
-    let a = c .before .before .before .before .before in
-    let l = a .before .before .before .before in
-    a .tally-order .kept .1 .1 .1 .1 .1 .0 ∙ l .loop .inv .long ∙ sym (called l .pre .1 .1 .0 .0)
+    let a = c .before .before .before .before .before .before .before .before in
+    let l = reached a .before in
+    a .tally-order .kept .1 .1 .1 .1 .1 .1 .1 .1 .0 ∙ l .loop .inv .0 .long ∙ sym (called l .pre .1 .1 .0 .0)
 
 same-length-2 : tie.Need-same-length-2 Inv-loop μ-loop
 same-length-2 c =
-    let a = c .before .before .before .before .before in
-    let l = a .before .before .before .before in
-    a .tally-order .kept .1 .1 .1 .1 .1 .1 .0 ∙ l .loop .inv .wide ∙ sym (marks-long (called l))
+    let a = c .before .before .before .before .before .before .before .before in
+    let l = reached a .before in
+    a .tally-order .kept .1 .1 .1 .1 .1 .1 .1 .1 .1 .0 ∙ l .loop .inv .0 .wide ∙ sym (marks-long (called l))
 
 returns : tie.Need-returns Inv-loop μ-loop
 returns c =
-    let a = c .before .before .before .before .before in
-    let t = a .before .before .before in
+    let a = c .before .before .before .before .before .before .before .before in
+    let t = reached a in
     let l = t .before in
     let b = called l in (
-      first-unknown _ _ _ _ (b .pre .0 .depth) _ _ _ _ _ _ _ (t .loop-test .taken) refl (l .loop .inv) _ _ _ (a .tally-order .ensures) (not-true _ (c .if1 .taken)),
+      first-unknown _ _ _ _ (b .pre .0 .depth) _ _ _ _ _ _ _ (t .loop-test .taken) refl (l .loop .inv .0) _ _ _ (a .tally-order .ensures) (not-true _ (c .if1 .taken)),
       ((λ e. no-test e), (λ e. no-test e)),
     )
 
 past-requires : tie.Need-past-requires Inv-loop μ-loop
-past-requires c κs = turn-ends (c .before .before .before .before .before .before .before .before)
+past-requires c κs = turn-ends (reached (c .before .before .before .before .before .before .before .before))
 
 sub-left : tie.Need-sub-left Inv-loop μ-loop
 sub-left c = search needs
@@ -257,22 +272,27 @@ loop-less c = search needs
 
 loop-again : tie.Need-loop-again Inv-loop μ-loop
 loop-again c =
-    let a = c .before .before .before .before .before .before in
-    let t = a .before .before .before in
+    let a = c .before .before .before .before .before .before .before .before .before in
+    let t = reached a in
     let l = t .before in
     let b = called l in
-    left-next _ _ _ _ (b .pre .0 .depth) _ _ _ _ _ _ _ (t .loop-test .taken) (c .past .ensures) (l .loop .inv)
-    _ _ _ (a .tally-order .ensures) (not-false _ (c .before .if1 .left)) (a .tally-order .kept .1 .1 .1 .1 .1 .0) (a .tally-order .kept .1 .1 .1 .1 .1 .1 .0)
+    let i = l .loop .inv in
+    let k = a .tally-order .kept .1 .1 .1 .1 in (
+      left-next _ _ _ _ (b .pre .0 .depth) _ _ _ _ _ _ _ (t .loop-test .taken) (c .past .ensures) (i .0) _ _ _ (a .tally-order .ensures) (not-false _ (c .before .if1 .left)) (k .1 .1 .1 .1 .0) (k .1 .1 .1 .1 .1 .0),
+      k .0 ∙ i .1,
+      k .1 .0 ∙ i .2,
+      k .1 .1 .0 ∙ i .3,
+    )
 
 same-length-3 : tie.Need-same-length-3 Inv-loop μ-loop
-same-length-3 c = c .before .loop .inv .long ∙ sym (called (c .before) .pre .1 .1 .0 .0)
+same-length-3 c = c .before .loop .inv .0 .long ∙ sym (called (c .before) .pre .1 .1 .0 .0)
 
 same-length-4 : tie.Need-same-length-4 Inv-loop μ-loop
-same-length-4 c = c .before .loop .inv .wide ∙ sym (marks-long (called (c .before)))
+same-length-4 c = c .before .loop .inv .0 .wide ∙ sym (marks-long (called (c .before)))
 
 returns-2 : tie.Need-returns-2 Inv-loop μ-loop
 returns-2 c =
-    let inv = c .before .loop .inv in
+    let inv = c .before .loop .inv .0 in
     let none = c .loop-test .left in
     (last-known _ _ _ _ _ _ _ _ _ inv none, ((λ e. last-counted _ _ _ _ _ _ _ _ _ inv none), (λ e. last-noted _ _ _ _ _ _ _ _ _ inv none)))
 
@@ -284,6 +304,9 @@ tally-taught-spec =
     μ-loop
     shared-slice-read-left
     loop-holds
+    slice-aggregate-tally-order
+    slice-aggregate-tally-order-2
+    slice-aggregate-tally-order-3
     tally-order-requires
     same-length
     same-length-2
