@@ -6,14 +6,14 @@ use native.Mathlib.Nat.{div-div-eq-div-mul}
 use native.Mathlib.Decide.{decLt}
 use native.Mathlib.Omega.{arith}
 use borrow.Author.Tests.{lt-ltb, le-ltb}
-use lib.ListN.{length, take, drop, getD, set, length-append, length-drop}
+use lib.ListN.{length, take, drop, set, length-append, length-drop}
 use lib.Seq.{length-take-le, take-at, drop-at, drop-drop, sets-eq}
 use Rattle.words.specs.Base.{if_then_else_, over}
 use Rattle.trees.specs.Trees.{Tree, Forest, node, bare, cons}
 use Rattle.trees.specs.Levels.{treeLevels, rowLevels}
 use Rattle.trees.proofs.Writing.{part-back}
 use Rattle.form.specs.Text.{digit-0, space, line-feed, digit, code-size, levelText, codeText, Line, lineText, spell, linesOf, linesF}
-use Rattle.form.specs.Turns.{levelsOf}
+use Rattle.form.specs.Turns.{levelsOf, ShortLines}
 
 -- ---- a level
 
@@ -87,6 +87,18 @@ pub line-over : (l c : ℕ) (out out₁ last : List ℕ) (n : ℕ) → length (l
 unfolding lineText
 line-over l c out out₁ last n h = over-part (levelText l) (codeText c) out out₁ last n (omega (arith, length-append (levelText l) (codeText c)))
 
+-- A line whose level has one digit takes seven bytes.
+pub short-size : (x : Line) → x .level < 10 → 1 + code-size ≡ length (lineText x)
+short-size x h = omega (arith, line-size x, one-byte (x .level) h)
+
+-- Such a line is written by one store and, in the part that is lent on, its code.
+pub short-line : (l c : ℕ) (out last : List ℕ) → l < 10 → 1 + code-size ≤ length out → last ≡ over (codeText c) (take (length (set out 0 (digit-0 + l)) - 1) (drop 1 (set out 0 (digit-0 + l))))
+    → take 1 (set out 0 (digit-0 + l)) ++ (last ++ drop (length (set out 0 (digit-0 + l)) - 1) (drop 1 (set out 0 (digit-0 + l)))) ≡ over (lineText (record { level = l; code = c })) out
+short-line l c out last h room =
+    let d : l ≡ l % 10 = omega arith in
+    let size = short-size (record { level = l; code = c }) h in
+    line-over l c out (set out 0 (digit-0 + l)) last 1 (omega arith) (one-byte l h) (one-store l out (digit-0 + l) h (omega (arith, one-byte l h)) (ap (λ (k : ℕ). digit-0 + k) d))
+
 -- The part that is lent on has what is left of the length.
 pub part-size : (n : ℕ) (out : List ℕ) → length (take (length out - n) (drop n out)) ≡ length out - n
 part-size n out = length-take-le (length out - n) (drop n out) (omega (arith, length-drop n out))
@@ -138,7 +150,7 @@ spell-most [] = omega arith
 spell-most (x ∷ xs) = omega (arith, length-append (lineText x) (spell xs), line-size x, level-most (x .level), spell-most xs)
 
 -- Lines whose levels have one digit take seven bytes each.
-pub spell-short : (xs : List Line) → ((i : ℕ) → i < length xs → getD (levelsOf xs) i 0 < 10) → length (spell xs) ≡ length xs * (1 + code-size)
+pub spell-short : (xs : List Line) → ShortLines xs → length (spell xs) ≡ length xs * (1 + code-size)
 unfolding spell levelsOf
 spell-short [] h = refl
 spell-short (x ∷ xs) h = omega (arith, length-append (lineText x) (spell xs), line-size x, one-byte (x .level) (h zero (omega arith)), spell-short xs (λ i k. h (suc i) (omega arith)))

@@ -86,3 +86,7 @@ linesIn ws = byOrder (orderOf ws) (λ n. []) (λ t. linesOf t 0)
 unfoldable pub levelsOf : List Line → List ℕ
 levelsOf [] = []
 levelsOf (x ∷ xs) = x .level ∷ levelsOf xs
+
+-- Each of the lines has a level of one digit.
+abbrev pub ShortLines : List Line → Type 0
+ShortLines xs = (i : ℕ) → i < length xs → getD (levelsOf xs) i 0 < 10

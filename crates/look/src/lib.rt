@@ -66,7 +66,7 @@ fn pass(
         if !words::precedes(&book[last..last_end], &book[start..end]) {
             return Stretch::Broken;
         }
-        if !depths::fits(&book[start..end], least, greatest, stack) {
+        if !fit::fits(&book[start..end], least, greatest, stack) {
             return Stretch::Broken;
         }
         last = start;

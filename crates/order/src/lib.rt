@@ -8,7 +8,7 @@ ghost use Rattle.figures.specs.Numbers.{done};
 ghost use Rattle.trees.specs.Trees.{Tree, subtrees};
 ghost use Rattle.trees.specs.Reading.{found, treeOf, causeOf};
 ghost use Rattle.trees.specs.Levels.{LinesLevelled};
-ghost use Rattle.trees.specs.Spans.{spansFrom, GoneOver, rowOf, measuredOf, SpansAre, spannedBy, RowAt, hopped};
+ghost use Rattle.trees.specs.Spans.{spansFrom, GoneOver, rowOf, measuredOf, Measurable, SpansAre, spannedBy, RowAt, hopped};
 ghost use Rattle.trees.specs.Answers.{checkOf};
 use figures::Answer;
 use figures::limits;
@@ -34,7 +34,7 @@ pub fn wide(word: u16) -> usize
 
 // What a node comes to that has so many children, by the spans of the lines from `from` on.
 fn over_children(order: &[u16], spans: &[u16], from: usize, children: u16) -> Spanned
-    requires { ⌜ (length (now order) ≤ most-words) × (2 * (length (now order) / 2) ≡ length (now order)) × (length (now order) ≤ length (now spans)) ⌝ }
+    requires { ⌜ Measurable (now order) (now spans) ⌝ }
     requires { ⌜ 2 * from ≤ length (now order) ⌝ }
     requires { ⌜ SpansAre from (drop (2 * from) (take (length (now order)) (now spans))) (rowOf (drop (2 * from) (now order))) ⌝ }
     ensures { λ r. ⌜ r ≡ spannedBy from children (rowOf (drop (2 * from) (now (order .entry)))) ⌝ }
@@ -56,7 +56,7 @@ fn over_children(order: &[u16], spans: &[u16], from: usize, children: u16) -> Sp
 
 // What a row of trees comes to, by the spans of its lines: one tree, or not.
 fn whole(order: &[u16], spans: &[u16]) -> Measured
-    requires { ⌜ (2 * (length (now order) / 2) ≡ length (now order)) × (length (now order) ≤ length (now spans)) ⌝ }
+    requires { ⌜ Measurable (now order) (now spans) ⌝ }
     requires { ⌜ SpansAre 0 (take (length (now order)) (now spans)) (rowOf (now order)) ⌝ }
     ensures { λ r. ⌜ r ≡ measuredOf (treeOf (now (order .entry))) ⌝ }
 {
@@ -73,7 +73,7 @@ fn whole(order: &[u16], spans: &[u16]) -> Measured
 
 // The depth of the tree that words are, if they are one; and the spans of its lines at the front of `spans`, from the last line to the first.
 pub fn measure(order: &[u16], spans: &mut [u16]) -> Measured
-    requires { ⌜ (length (now order) ≤ most-words) × (2 * (length (now order) / 2) ≡ length (now order)) × (length (now order) ≤ length (now spans)) ⌝ }
+    requires { ⌜ Measurable (now order) (now spans) ⌝ }
     ensures came { λ r. ⌜ r ≡ measuredOf (treeOf (now (order .entry))) ⌝ }
     ensures listed { λ _. ⌜ ((t : Tree) → treeOf (now (order .entry)) ≡ found t → take (length (now (order .entry))) (now (spans .exit)) ≡ spansFrom 0 (subtrees t)) ⌝ }
     ensures kept { λ _. ⌜ length (now (spans .exit)) ≡ length (now (spans .entry)) ⌝ }

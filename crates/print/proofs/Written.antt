@@ -24,7 +24,7 @@ use Rattle.trees.proofs.LineSpans.{span-is}
 use Rattle.form.specs.Text.{code-size, Line, linesOf, levelText, lineText, spell, textOf}
 use Rattle.form.specs.Reading.{wordsOf}
 use Rattle.form.specs.Writing.{writeOf}
-use Rattle.form.specs.Turns.{linesIn, levelsOf}
+use Rattle.form.specs.Turns.{linesIn, levelsOf, ShortLines}
 use Rattle.form.proofs.Counts.{length-words}
 use Rattle.form.proofs.TreeLines.{lines-words, lines-count}
 use Rattle.form.proofs.LineBytes.{over-part, line-size, spell-append, spell-more, spell-most, spell-short, levels-append, levels-size, tree-levels}
@@ -69,18 +69,27 @@ levels-listed s levels e h =
     let n : length (linesIn s) ≡ length s / 2 = omega (arith, known s e .twice) in
     ap (λ (m : ℕ). take m levels) n ∙ h ∙ levels-of s t (p .is) ∙ tree-levels t 0 ∙ ap levelsOf (sym (lines-in s t p))
 
--- Where the spans say that an order is less than ten deep, each of its lines takes seven bytes.
-pub text-shallow : (s spans : List ℕ) → GoneOver s spans → getD spans 1 0 < 10 → length s / 2 * (1 + code-size) ≡ length (spell (linesIn s))
-text-shallow s spans over h =
+-- Where the spans say that an order is less than ten deep, each of its lines has a level of one digit.
+pub shallow : (s spans : List ℕ) → GoneOver s spans → getD spans 1 0 < 10 → ShortLines (linesIn s)
+shallow s spans over h =
     let p = has-tree s (over .sound) .passes in
     let t = has-tree s (over .sound) .tree in
     let d : getD spans 1 0 ≡ depth t = span-is s spans over 0 t (omega (arith, some-words s (over .sound))) (from-spot s 0 (found t) (top-spot s t p)) .1 in
     let n : length (linesIn s) ≡ length (subtrees t) = ap length (lines-in s t p) ∙ lines-count t 0 in
     let e : treeLevels t 0 ≡ levelsOf (linesIn s) = tree-levels t 0 ∙ ap levelsOf (sym (lines-in s t p)) in
-    let low : (i : ℕ) → i < length (linesIn s) → getD (levelsOf (linesIn s)) i 0 < 10 =
-    λ i k. omega (arith, d, h, level-within t i (omega (arith, n)), ap (λ (ls : List ℕ). getD ls i 0) e) in
-    let m : length s / 2 ≡ length (linesIn s) = omega (arith, known s (over .sound) .twice) in
-    ap (λ (k : ℕ). k * (1 + code-size)) m ∙ sym (spell-short (linesIn s) low)
+    λ i k. omega (arith, d, h, level-within t i (omega (arith, n)), ap (λ (ls : List ℕ). getD ls i 0) e)
+
+-- The lines of an order whose levels have one digit each take seven bytes each.
+pub text-short : (s : List ℕ) → causeOf s ≡ done → ShortLines (linesIn s) → length s / 2 * (1 + code-size) ≡ length (spell (linesIn s))
+text-short s e h =
+    let m : length s / 2 ≡ length (linesIn s) = omega (arith, known s e .twice) in
+    ap (λ (k : ℕ). k * (1 + code-size)) m ∙ sym (spell-short (linesIn s) h)
+
+-- The level that is read of such a line has one digit.
+pub level-short : (s levels : List ℕ) (line : ℕ) → causeOf s ≡ done → LinesLevelled s levels → ShortLines (linesIn s) → line < length s / 2 → getD levels line 0 < 10
+level-short s levels line e h short k =
+    let m : line < length (linesIn s) = omega (arith, known s e .twice) in
+    omega (arith, short line m, getD-take (length (linesIn s)) levels line 0 m, ap (λ (r : List ℕ). getD r line 0) (levels-listed s levels e h))
 
 -- ---- one line after the other
 

@@ -1,6 +1,7 @@
 // Order form text, written: how many bytes it takes, by the order's depth or the levels of its lines, and then each line's bytes once. Assumes nothing beyond each function's `requires`.
 ghost use mathlib.Core.Path.{_≡_};
-ghost use Prim.Native.Nat.{_≤_};
+ghost use mathlib.Core.Bool.{true};
+ghost use Prim.Native.Nat.{_+_, _≤_, _<_};
 ghost use lib.ListN.{length};
 ghost use Rattle.words.specs.Base.{over};
 ghost use Rattle.figures.specs.Numbers.{done};
@@ -10,7 +11,7 @@ ghost use Rattle.trees.specs.Spans.{GoneOver};
 ghost use Rattle.trees.specs.Answers.{writing};
 ghost use Rattle.form.specs.Text.{digit, code-size, levelText, codeText, lineText, spell};
 ghost use Rattle.form.specs.Writing.{writeOf};
-ghost use Rattle.form.specs.Turns.{linesIn};
+ghost use Rattle.form.specs.Turns.{linesIn, ShortLines};
 use figures::Written;
 use figures::limits;
 use figures::numbers;
@@ -73,6 +74,24 @@ fn put_line(out: &mut [u8], level: usize, code: u16) -> usize
     w + CODE_SIZE
 }
 
+// Writes a line whose level has one digit to the front of `out`.
+fn put_short_line(out: &mut [u8], level: u8, code: u16)
+    requires { ⌜ (level < 10) × (1 + code-size ≤ length (now out)) ⌝ }
+    ensures { λ _. ⌜ now (out .exit) ≡ over (lineText (record { level = level; code = code })) (now (out .entry)) ⌝ }
+{
+    out[0] = b'0' + level;
+    put_code(&mut out[1..], code);
+}
+
+// Whether the spans of an order say that each of its lines has a level of one digit.
+fn is_shallow(order: &[u16], spans: &[u16]) -> bool
+    requires { ⌜ GoneOver (now order) (now spans) ⌝ }
+    ensures { λ r. ⌜ (r ≡ true → ShortLines (linesIn (now (order .entry)))) ⌝ }
+{
+    let depth = spans[1];
+    depth < 10
+}
+
 // How many bytes the lines of an order take, by the level of each.
 fn lines_size(order: &[u16], levels: &[u8]) -> usize
     requires { ⌜ (causeOf (now order) ≡ done) × LinesLevelled (now order) (now levels) ⌝ }
@@ -94,8 +113,7 @@ fn text_size(order: &[u16], spans: &[u16], levels: &[u8]) -> usize
     requires { ⌜ GoneOver (now order) (now spans) × LinesLevelled (now order) (now levels) ⌝ }
     ensures { λ r. ⌜ r ≡ length (spell (linesIn (now (order .entry)))) ⌝ }
 {
-    let depth = spans[1];
-    if depth < 10 {
+    if is_shallow(order, spans) {
         return order.len() / 2 * (1 + CODE_SIZE);
     }
     lines_size(order, levels)
@@ -117,6 +135,35 @@ fn put_lines(order: &[u16], levels: &[u8], out: &mut [u8])
     }
 }
 
+// Writes the lines of an order, whose levels are known and have one digit each, to the front of `out`, which has room for them.
+fn put_short_lines(order: &[u16], levels: &[u8], out: &mut [u8])
+    requires { ⌜ (causeOf (now order) ≡ done) × LinesLevelled (now order) (now levels) × ShortLines (linesIn (now order)) × (length (spell (linesIn (now order))) ≤ length (now out)) ⌝ }
+    ensures { λ _. ⌜ now (out .exit) ≡ over (spell (linesIn (now (order .entry)))) (now (out .entry)) ⌝ }
+{
+    let n = order.len() / 2;
+    let mut line = 0;
+    let mut at = 0;
+    while line < n {
+        let level = levels[line];
+        let code = order[2 * line];
+        put_short_line(&mut out[at..], level, code);
+        at += 1 + CODE_SIZE;
+        line += 1;
+    }
+}
+
+// Writes the lines of an order, which was gone over and whose levels are known, to the front of `out`, which has room for them.
+fn put_text(order: &[u16], spans: &[u16], levels: &[u8], out: &mut [u8])
+    requires { ⌜ GoneOver (now order) (now spans) × LinesLevelled (now order) (now levels) × (length (spell (linesIn (now order))) ≤ length (now out)) ⌝ }
+    ensures { λ _. ⌜ now (out .exit) ≡ over (spell (linesIn (now (order .entry)))) (now (out .entry)) ⌝ }
+{
+    if is_shallow(order, spans) {
+        put_short_lines(order, levels, out);
+        return;
+    }
+    put_lines(order, levels, out);
+}
+
 // Writes the only text of an order to the front of `out`, or nothing and the first cause.
 pub fn write(order: &[u16], out: &mut [u8]) -> Written
     ensures { λ r. ⌜ writing r (now (out .exit)) ≡ writeOf (now (order .entry)) (now (out .entry)) ⌝ }
@@ -132,6 +179,6 @@ pub fn write(order: &[u16], out: &mut [u8]) -> Written
     if out.len() < count {
         return wrote(numbers::SHORT_OUTPUT, 0);
     }
-    put_lines(order, &levels, out);
+    put_text(order, &spans, &levels, out);
     wrote(numbers::DONE, count)
 }

@@ -3,10 +3,11 @@
 use mathlib.Core.List.{List, [], _∷_, _++_}
 use mathlib.Core.Bool.{Bool, true, false}
 use mathlib.Core.Path.{_≡_}
-use Prim.Native.Nat.{ℕ, zero, suc, _+_, _*_, _≤_, max}
+use Prim.Native.Nat.{ℕ, zero, suc, _+_, _*_, _/_, _≤_, max}
 use lib.Dec.{leb}
 use lib.ListN.{length, take, drop, getD, set}
 use Rattle.words.specs.Base.{if_then_else_}
+use Rattle.figures.specs.Limits.{most-words}
 use Rattle.figures.specs.Nodes.{soundNode}
 use Rattle.figures.specs.Numbers.{done}
 use Rattle.trees.specs.Trees.{Tree, node, Forest, bare, cons, count, depth, depthF, subtrees, subtreesF}
@@ -68,6 +69,10 @@ measuredOf missing = Broken
 measuredOf (found t) = Deep (depth t)
 
 -- ---- by spans
+
+-- Words that can be gone over in a scratch: no more than an order may have, two a line, and no more than the scratch has.
+abbrev pub Measurable : List ℕ → List ℕ → Type 0
+Measurable os ss = (length os ≤ most-words) × (2 * (length os / 2) ≡ length os) × (length os ≤ length ss)
 
 -- The words are the spans of a row's subtrees, which stand on lines from i on.
 abbrev pub SpansAre : ℕ → List ℕ → Rowed → Type 0

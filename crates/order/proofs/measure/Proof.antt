@@ -131,7 +131,7 @@ loop-again c =
 whole-requires : tie.Need-whole-requires Inv-loop μ-loop
 whole-requires c κs =
     let l = c .before .before .loop in
-    ((l .inv .even, l .inv .room), back-all _ _ _ _ (l .inv) (omega (arith, c .before .loop-test .left)))
+    ((l .inv .short, l .inv .even, l .inv .room), back-all _ _ _ _ (l .inv) (omega (arith, c .before .loop-test .left)))
 
 same-length-3 : tie.Need-same-length-3 Inv-loop μ-loop
 same-length-3 c = search needs

@@ -11,7 +11,7 @@ returns : tie.Need-returns
 unfolding measuredOf
 returns c =
     let p = c .before .before .before .pre in
-    rw (whole-none _ _ (p .0 .0) (p .0 .1) (p .1) (c .if1 .taken)) refl
+    rw (whole-none _ _ (p .0 .1) (p .0 .2) (p .1) (c .if1 .taken)) refl
 
 shared-slice-read-wide : tie.Need-shared-slice-read-wide
 shared-slice-read-wide c = search needs
@@ -24,7 +24,7 @@ unfolding measuredOf
 returns-2 c =
     let p = c .before .before .before .before .before .before .pre in
     let low = c .before .before .before .if1 .left in
-    rw (whole-more _ _ (p .0 .0) (p .0 .1) (p .1) (omega arith) (λ e. omega (arith, c .before .wide .ensures, c .if2 .taken))) refl
+    rw (whole-more _ _ (p .0 .1) (p .0 .2) (p .1) (omega arith) (λ e. omega (arith, c .before .wide .ensures, c .if2 .taken))) refl
 
 shared-slice-read-wide-2 : tie.Need-shared-slice-read-wide-2
 shared-slice-read-wide-2 c = search needs
@@ -36,7 +36,7 @@ returns-3 : tie.Need-returns-3
 returns-3 c =
     let p = c .before .before .before .before .before .before .before .before .pre in
     let low = c .before .before .before .before .before .if1 .left in
-    rw (c .wide2 .ensures) (sym (whole-one _ _ (p .0 .0) (p .0 .1) (p .1) (omega arith) (omega (arith, c .before .before .before .wide .ensures, c .before .before .if2 .left))))
+    rw (c .wide2 .ensures) (sym (whole-one _ _ (p .0 .1) (p .0 .2) (p .1) (omega arith) (omega (arith, c .before .before .before .wide .ensures, c .before .before .if2 .left))))
 
 pub whole-spec : {M : Type 1} → statement M
 whole-spec =

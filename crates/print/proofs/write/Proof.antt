@@ -54,11 +54,14 @@ wrote-requires-2 c κs = search needs
 returns-2 : tie.Need-returns-2
 returns-2 c = no-output-room _ _ _ (c .wrote2 .ensures) (omega arith) ∙ sym (write-lines _ _ (fine (c .before .before .before .before .before .before .before .before .before)))
 
-slice-aggregate-put-lines : tie.Need-slice-aggregate-put-lines
-slice-aggregate-put-lines c = search needs
+slice-aggregate-put-text : tie.Need-slice-aggregate-put-text
+slice-aggregate-put-text c = search needs
 
-put-lines-requires : tie.Need-put-lines-requires
-put-lines-requires c κs = (fine (c .before .before .before .before .before .before .before .before .before .before), c .before .before .before .before .before .before .before .level-lines .ensures .0, omega arith)
+slice-aggregate-put-text-2 : tie.Need-slice-aggregate-put-text-2
+slice-aggregate-put-text-2 c = search needs
+
+put-text-requires : tie.Need-put-text-requires
+put-text-requires c κs = (gone-over (c .before .before .before .before .before .before .before .before .before .before .before), c .before .before .before .before .before .before .before .before .level-lines .ensures .0, omega arith)
 
 wrote-requires-3 : tie.Need-wrote-requires-3
 wrote-requires-3 c κs = search needs
@@ -68,8 +71,8 @@ same-length c = search needs
 
 returns-3 : tie.Need-returns-3
 returns-3 c =
-    let t = c .before .before .before .before .before .before .before in
-    has-room _ _ _ _ _ (c .wrote3 .ensures) (sym (t .text-size .ensures)) (c .before .before .before .before .before .before .if2 .left) (c .before .before .before .put-lines .ensures)
+    let t = c .before .before .before .before .before .before .before .before in
+    has-room _ _ _ _ _ (c .wrote3 .ensures) (sym (t .text-size .ensures)) (c .before .before .before .before .before .before .before .if2 .left) (c .before .before .before .put-text .ensures)
     ∙ sym (write-lines _ _ (fine (t .before .before .before .before .before .before .before)))
 
 pub write-spec : {M : Type 1} → statement M
@@ -88,8 +91,9 @@ write-spec =
     text-size-requires
     wrote-requires-2
     returns-2
-    slice-aggregate-put-lines
-    put-lines-requires
+    slice-aggregate-put-text
+    slice-aggregate-put-text-2
+    put-text-requires
     wrote-requires-3
     same-length
     returns-3)

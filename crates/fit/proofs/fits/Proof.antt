@@ -1,4 +1,4 @@
--- `depths::fits` meets its contract: of a tree its depth decides. Assumes nothing.
+-- `fit::fits` meets its contract: of a tree its depth decides. Assumes nothing.
 use mathlib.Core.Path.{_≡_, refl, sym, _∙_}
 use mathlib.Core.Bool.{Bool, true}
 use native.Mathlib.Omega.{arith}
@@ -7,8 +7,8 @@ use borrow.Author.Needs.{needs}
 use Rattle.words.specs.Base.{_and_}
 use Rattle.words.proofs.Tests.{fails-left}
 use Rattle.trees.proofs.Fitting.{fits-long, fits-broken, fits-deep}
-use Rattle.depths.proofs.fits.Statement.{statement}
-use Rattle.depths.proofs.fits.Tie as tie
+use Rattle.fit.proofs.fits.Statement.{statement}
+use Rattle.fit.proofs.fits.Tie as tie
 
 -- A test that passes leaves the second to decide.
 second : (a b : Bool) → a ≡ true → (a and b) ≡ b

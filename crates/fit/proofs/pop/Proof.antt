@@ -1,4 +1,4 @@
--- `depths::pop` meets its contract: each turn leaves what is to be found to the words and children left. Assumes nothing.
+-- `fit::pop` meets its contract: each turn leaves what is to be found to the words and children left. Assumes nothing.
 use Prim.Native.Nat.{ℕ, _-_, _≤_}
 use mathlib.Core.Path.{_≡_, sym, ap, _∙_}
 use native.Mathlib.Omega.{arith}
@@ -6,8 +6,8 @@ use lib.ListN.{length}
 use borrow.Author.Needs.{needs}
 use Rattle.trees.specs.Spans.{poppedBy}
 use Rattle.trees.proofs.Stacking.{all-popped, none-popped, one-popped}
-use Rattle.depths.proofs.pop.Statement.{statement}
-use Rattle.depths.proofs.pop.Tie as tie
+use Rattle.fit.proofs.pop.Statement.{statement}
+use Rattle.fit.proofs.pop.Tie as tie
 
 -- What is to be found is found of the words and the children left.
 abbrev Inv-loop : tie.InvT-loop

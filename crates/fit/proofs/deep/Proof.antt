@@ -1,4 +1,4 @@
--- `depths::deep` meets its contract: each turn puts a node over the trees behind it. Assumes nothing.
+-- `fit::deep` meets its contract: each turn puts a node over the trees behind it. Assumes nothing.
 use Prim.Native.Nat.{_≤_, _<_}
 use mathlib.Core.Path.{refl, sym, ap, _∙_}
 use native.Mathlib.Omega.{arith}
@@ -8,8 +8,8 @@ use borrow.Author.Needs.{needs}
 use Rattle.figures.specs.Limits.{most-words}
 use Rattle.trees.specs.declared.Measured.the-variants.{Deep}
 use Rattle.trees.proofs.Stacking.{Stacked, stacked-start, stacked-few, stacked-room, stacked-unsound, stacked-short, stacked-next, stacked-other, stacked-one}
-use Rattle.depths.proofs.deep.Statement.{statement}
-use Rattle.depths.proofs.deep.Tie as tie
+use Rattle.fit.proofs.deep.Statement.{statement}
+use Rattle.fit.proofs.deep.Tie as tie
 
 -- The nodes from word `at` on are gone over.
 abbrev Inv-loop : tie.InvT-loop
