@@ -200,6 +200,45 @@ fn tally_section(
     }
 }
 
+// Tallies all that one teaching of an order counts in a section, as `tally_section` does, once the order is gone over. Lent as scratch: spans and levels for its
+// lines, and words for a part.
+fn take_turn(
+    order: &[u16],
+    k: Depth,
+    section: Section,
+    spans: &mut [u16],
+    levels: &mut [u8],
+    part: &mut [u16],
+    book: &[u16],
+    starts: &[u16],
+    counts: &mut [u16],
+    marks: &mut [u16],
+    turn: Turn,
+) -> bool
+    requires { ⌜ causeOf (now order) ≡ done ⌝ }
+    requires { ⌜ least-k ≤ k .k ⌝ }
+    requires { ⌜ (most-words ≤ length (now spans)) × (most-nodes ≤ length (now levels)) × (most-words ≤ length (now part)) ⌝ }
+    requires { ⌜ Indexed (now starts) (now book) ⌝ }
+    requires { ⌜ Ready (turn .number) (turn .by) (partsIn section (k .k) (now order)) (listed (now starts) (now book)) (now counts) (now marks) ⌝ }
+    ensures { λ r. ⌜ Taken (turn .number) (turn .by) (partsIn section (k .k) (now (order .entry))) (listed (now (starts .entry)) (now (book .entry))) (now (counts .entry)) (now (marks .entry)) (now (counts .exit)) (now (marks .exit)) r ⌝ }
+{
+    order::cause_into(order, spans);
+    order::level_lines(order, spans, levels);
+    tally_section(
+        order,
+        spans,
+        levels,
+        k,
+        section,
+        part,
+        book,
+        starts,
+        counts,
+        marks,
+        turn,
+    )
+}
+
 // Tallies what the taught order at word `at` counts in a section, for the section's listed entries, by marks of this turn. Lent as
 // scratch: spans and levels for the order's lines, and words for a part. Answers false where a part has no entry; what was tallied then is of no use.
 fn tally_order(
@@ -226,15 +265,13 @@ fn tally_order(
     let start = at + 2;
     let end = past(book, at);
     let by = book[at + 1];
-    order::cause_into(&book[start..end], spans);
-    order::level_lines(&book[start..end], spans, levels);
     let own = Turn { number: turn, by };
-    tally_section(
+    take_turn(
         &book[start..end],
-        spans,
-        levels,
         k,
         section,
+        spans,
+        levels,
         part,
         book,
         starts,

@@ -12,8 +12,6 @@ use Rattle.figures.specs.Numbers.{done}
 use Rattle.section.specs.Entries.{width, firstEntry}
 use Rattle.tally.specs.Tallying.{listed, Ready, Taken}
 use Rattle.trees.specs.Reading.{causeOf}
-use Rattle.trees.specs.Spans.{GoneOver}
-use Rattle.trees.proofs.Spots.{passed-short}
 use Rattle.recount.specs.Tallies.{partsIn}
 use Rattle.recount.proofs.tally_order.Statement.{statement}
 use Rattle.recount.proofs.tally_order.Tie as tie
@@ -55,18 +53,6 @@ lent-within p = omega (arith, p .past .ensures, room (called p))
 -- They are an order.
 ordered : (p : tie.After-past) → causeOf (lent p) ≡ done
 ordered p = let b = called p in ap causeOf (key-at (b .args .book .now) (b .args .at) _ (p .past .ensures)) ∙ b .pre .0 .1
-
--- The entry's end, seen from where the order is gone over.
-abbrev ended : tie.After-cause-into → tie.After-past
-ended c = c .before .before .before .before
-
--- The order is gone over then.
-gone-over : (c : tie.After-cause-into) → GoneOver (lent (ended c)) (c .cause-into .last .1 .0)
-gone-over c = c .cause-into .ensures .1 .0 (ordered (ended c))
-
--- Where the order is gone over, seen from where its lines have levels.
-abbrev spanned : tie.After-level-lines → tie.After-cause-into
-spanned c = c .before .before .before .before .before .before
 
 -- What a turn says of an order with these words, which counts so often.
 module _ (b : tie.Start) where
@@ -111,57 +97,23 @@ mul-by c = search needs
 shared-slice-read-by : tie.Need-shared-slice-read-by
 shared-slice-read-by c = search needs
 
-mul-cause-into : tie.Need-mul-cause-into
-mul-cause-into c = search needs
+mul-take-turn : tie.Need-mul-take-turn
+mul-take-turn c = search needs
 
-sub-cause-into : tie.Need-sub-cause-into
-sub-cause-into c = search needs
+sub-take-turn : tie.Need-sub-take-turn
+sub-take-turn c = search needs
 
-part-cause-into-start : tie.Need-part-cause-into-start
-part-cause-into-start c = search needs
+part-take-turn-start : tie.Need-part-take-turn-start
+part-take-turn-start c = search needs
 
-part-cause-into-end : tie.Need-part-cause-into-end
-part-cause-into-end c = lent-within (c .before)
+part-take-turn-end : tie.Need-part-take-turn-end
+part-take-turn-end c = lent-within (c .before)
 
-cause-into-requires : tie.Need-cause-into-requires
-cause-into-requires c κs = search needs
-
-mul-level-lines : tie.Need-mul-level-lines
-mul-level-lines c = search needs
-
-sub-level-lines : tie.Need-sub-level-lines
-sub-level-lines c = search needs
-
-part-level-lines-start : tie.Need-part-level-lines-start
-part-level-lines-start c = search needs
-
-part-level-lines-end : tie.Need-part-level-lines-end
-part-level-lines-end c = lent-within (ended (c .before .before))
-
-level-lines-requires : tie.Need-level-lines-requires
-level-lines-requires c κs =
-    let a = c .before .before .before .before .before in
-    let b = called (ended a) in
-    (gone-over a, omega (arith, passed-short _ (ordered (ended a)), b .pre .1 .1 .0 .1))
-
-mul-tally-section : tie.Need-mul-tally-section
-mul-tally-section c = search needs
-
-sub-tally-section : tie.Need-sub-tally-section
-sub-tally-section c = search needs
-
-part-tally-section-start : tie.Need-part-tally-section-start
-part-tally-section-start c = search needs
-
-part-tally-section-end : tie.Need-part-tally-section-end
-part-tally-section-end c = lent-within (ended (spanned (c .before .before)))
-
-tally-section-requires : tie.Need-tally-section-requires
-tally-section-requires c κs =
-    let l = c .before .before .before .before .before .before .before .before in
-    let a = spanned l in
-    let b = called (ended a) in
-    (b .pre .1 .0, (gone-over a, (l .level-lines .ensures .0, (b .pre .1 .1 .0 .2, (b .pre .1 .1 .1 .0, entry-lent (ReadyFor b) (ended a) (b .pre .1 .1 .1 .1))))))
+take-turn-requires : tie.Need-take-turn-requires
+take-turn-requires c κs =
+    let p = c .before .before .before .before .before .before .before in
+    let b = called p in
+    (ordered p, (b .pre .1 .0, (b .pre .1 .1 .0, (b .pre .1 .1 .1 .0, entry-lent (ReadyFor b) p (b .pre .1 .1 .1 .1)))))
 
 same-length : tie.Need-same-length
 same-length c = search needs
@@ -180,9 +132,9 @@ same-length-5 c = search needs
 
 returns : tie.Need-returns
 returns c =
-    let t = c .before .before .before .before .before .before in
-    let p = ended (spanned (t .before .before .before .before .before .before .before .before .before)) in
-    lent-entry (TakenFor (called p) _ _ _) p (t .tally-section .ensures)
+    let t = c .before .before .before .before .before .before .before .before .before .before in
+    let p = t .before .before .before .before .before .before .before .before in
+    lent-entry (TakenFor (called p) _ _ _) p (t .take-turn .ensures)
 
 pub tally-order-spec : {M : Type 1} → statement M
 tally-order-spec =
@@ -193,21 +145,11 @@ tally-order-spec =
     add-by
     mul-by
     shared-slice-read-by
-    mul-cause-into
-    sub-cause-into
-    part-cause-into-start
-    part-cause-into-end
-    cause-into-requires
-    mul-level-lines
-    sub-level-lines
-    part-level-lines-start
-    part-level-lines-end
-    level-lines-requires
-    mul-tally-section
-    sub-tally-section
-    part-tally-section-start
-    part-tally-section-end
-    tally-section-requires
+    mul-take-turn
+    sub-take-turn
+    part-take-turn-start
+    part-take-turn-end
+    take-turn-requires
     same-length
     same-length-2
     same-length-3
