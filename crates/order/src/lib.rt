@@ -1,14 +1,14 @@
 // Orders: trees as 16-bit words in a lent slice. Whether words are an order, the spans of its lines, which are where the subtree of each ends and how deep
 // it is, and their levels. Assumes nothing beyond each inner function's `requires`.
 ghost use mathlib.Core.Path.{_≡_};
-ghost use Prim.Native.Nat.{suc, _*_, _/_, _≤_, max};
-ghost use lib.ListN.{length, take, drop};
+ghost use Prim.Native.Nat.{suc, _+_, _*_, _-_, _/_, _^_, _≤_, _<_, max};
+ghost use lib.ListN.{length, take, drop, set};
 ghost use Rattle.figures.specs.Limits.{most-words};
 ghost use Rattle.figures.specs.Numbers.{done};
 ghost use Rattle.trees.specs.Trees.{Tree, subtrees};
 ghost use Rattle.trees.specs.Reading.{found, treeOf, causeOf};
 ghost use Rattle.trees.specs.Levels.{LinesLevelled};
-ghost use Rattle.trees.specs.Spans.{spansFrom, GoneOver, rowOf, measuredOf, Measurable, SpansAre, spannedBy, RowAt, hopped};
+ghost use Rattle.trees.specs.Spans.{spansFrom, GoneOver, rowOf, measuredOf, Measurable, SpansAre, Front, spannedBy, RowAt, hopped};
 ghost use Rattle.trees.specs.Answers.{checkOf};
 use figures::Answer;
 use figures::limits;
@@ -32,17 +32,42 @@ pub fn wide(word: u16) -> usize
     word as usize
 }
 
-// What a node comes to that has so many children, by the spans of the lines from `from` on.
-fn over_children(order: &[u16], spans: &[u16], from: usize, children: u16) -> Spanned
-    requires { ⌜ Measurable (now order) (now spans) ⌝ }
-    requires { ⌜ 2 * from ≤ length (now order) ⌝ }
+// Writes the span of a line, counted from 1: the line past its subtree, and how deep that is.
+fn put_span(spans: &mut [u16], line: usize, end: usize, depth: usize)
+    requires { ⌜ (0 < line) × (2 * line ≤ length (now spans)) × (end < 2 ^ 16) × (depth < 2 ^ 16) ⌝ }
+    ensures { λ _. ⌜ now (spans .exit) ≡ set (set (now (spans .entry)) (2 * (line - 1)) end) (2 * (line - 1) + 1) depth ⌝ }
+{
+    spans[2 * line - 2] = end as u16;
+    spans[2 * line - 1] = depth as u16;
+}
+
+// What a node comes to that has so many children, by the lines from `from` on, which were gone over: the first of them ends before line `first` and is `top`
+// deep, and there are `run` leaves first. Children that are all leaves are not gone over again.
+fn over_children(
+    order: &[u16],
+    spans: &[u16],
+    from: usize,
+    first: usize,
+    top: u16,
+    run: u16,
+    children: u16,
+) -> Spanned
+    requires { ⌜ Measurable (now order) (now spans) × (2 * from ≤ length (now order)) × (0 < children) ⌝ }
     requires { ⌜ SpansAre from (drop (2 * from) (take (length (now order)) (now spans))) (rowOf (drop (2 * from) (now order))) ⌝ }
+    requires { ⌜ Front (now order) (now spans) from first top run ⌝ }
     ensures { λ r. ⌜ r ≡ spannedBy from children (rowOf (drop (2 * from) (now (order .entry)))) ⌝ }
 {
+    if children <= run {
+        let end = from + wide(children);
+        return Spanned::To { end, depth: 1 };
+    }
     let n = order.len() / 2;
-    let mut at = from;
-    let mut depth: usize = 0;
-    let mut left = children;
+    if n <= from {
+        return Spanned::Lacking;
+    }
+    let mut at = first;
+    let mut depth = wide(top) + 1;
+    let mut left = children - 1;
     while 0 < left {
         if n <= at {
             return Spanned::Lacking;
@@ -79,18 +104,41 @@ pub fn measure(order: &[u16], spans: &mut [u16]) -> Measured
     ensures kept { λ _. ⌜ length (now (spans .exit)) ≡ length (now (spans .entry)) ⌝ }
 {
     let mut line = order.len() / 2;
+    let mut first: usize = 0;
+    let mut top: u16 = 0;
+    let mut run: u16 = 0;
     while 0 < line {
-        let at = line - 1;
-        let children = order[2 * at + 1];
-        if !node_ok(order[2 * at], children) {
-            return Measured::Broken;
+        let children = order[2 * line - 1];
+        let code = order[2 * line - 2];
+        if children == 0 {
+            if !node_ok(code, 0) {
+                return Measured::Broken;
+            }
+            put_span(spans, line, line, 0);
+            first = line;
+            top = 0;
+            run += 1;
+        } else {
+            if !node_ok(code, children) {
+                return Measured::Broken;
+            }
+            let Spanned::To { end, depth } = over_children(
+                order,
+                spans,
+                line,
+                first,
+                top,
+                run,
+                children,
+            ) else {
+                return Measured::Broken;
+            };
+            put_span(spans, line, end, depth);
+            first = end;
+            top = depth as u16;
+            run = 0;
         }
-        let Spanned::To { end, depth } = over_children(order, spans, line, children) else {
-            return Measured::Broken;
-        };
-        spans[2 * at] = end as u16;
-        spans[2 * at + 1] = depth as u16;
-        line = at;
+        line -= 1;
     }
     whole(order, spans)
 }

@@ -7,6 +7,7 @@ pub mod Paper
 pub mod LineParts
 pub mod Reading
 pub mod Rowing
+pub mod Leaves
 pub mod Spanning
 pub mod Stacking
 pub mod Waiting

@@ -5,19 +5,20 @@ use mathlib.Core.Bool.{Bool, true, false}
 use mathlib.Core.List.{List, [], _∷_, _++_, append-nil}
 use native.Mathlib.Omega.{arith}
 use native.Mathlib.Nat.{zero-max, add-zero}
-use borrow.Author.Tests.{le-leb, lt-leb}
+use borrow.Author.Tests.{le-leb, lt-leb, leb-true}
 use lib.Dec.{leb}
 use lib.ListN.{length, take, drop, getD, set, length-set, length-append, length-drop, length-take, drop-of-length-le}
-use lib.Seq.{drop-drop, drop-append-seam, getD-drop, getD-take, take-set-lt, drop-set-add}
+use lib.Seq.{drop-drop, drop-append-seam, getD-drop, getD-take, getD-set-same, getD-set-other, take-set-lt, drop-set-add}
 use Rattle.words.specs.Base.{if_then_else_}
 use Rattle.figures.specs.Limits.{most-words}
 use Rattle.figures.specs.Nodes.{soundNode}
 use Rattle.figures.specs.Numbers.{done}
 use Rattle.trees.specs.Trees.{Tree, node, Forest, bare, cons, count, depth, depthF, subtrees, subtreesF}
 use Rattle.trees.specs.Reading.{firstTrees, laterTrees, Found, missing, found, treeOf, order, byOrder, orderOf, causeOf}
-use Rattle.trees.specs.Spans.{lines, linesF, spansFrom, spansIn, GoneOver, Rowed, faulty, rowed, nodeBefore, rowOf, SpansAre, spannedBy, measuredOf}
+use Rattle.trees.specs.Spans.{lines, linesF, spansFrom, spansIn, GoneOver, Rowed, faulty, rowed, nodeBefore, rowOf, leavesF, LeavesAre, SpansAre, Front, spannedBy, measuredOf}
 use Rattle.trees.proofs.Orders.{FoundDeep, words-read}
 use Rattle.trees.proofs.Causes.{has-tree}
+use Rattle.trees.proofs.Leaves.{leaves-few, leaves-short, leaves-lines, leaves-deep, leaf-more, leaf-none}
 use Rattle.trees.proofs.Rowing.{node-words, leb-less, subtrees-split, tree-row, row-tree, row-missing, faulty-before}
 use Rattle.trees.specs.declared.Spanned.{Spanned}
 use Rattle.trees.specs.declared.Spanned.the-variants.{Lacking, To}
@@ -163,6 +164,19 @@ module _ (os ss : List ℕ) (from children : ℕ) (even : 2 * (length os / 2) �
         let far : at ≡ from + linesF (firstTrees children (o .row)) = omega (arith, rw none at (o .far (omega arith))) in
         rw (o .is, o .enough ∙ le-leb left (count (o .rest)) (omega arith), deep, far) refl
 
+-- Behind the first child, whose span is known.
+module _ (os ss : List ℕ) (from first top run children : ℕ) (even : 2 * (length os / 2) ≡ length os) (room : length os ≤ length ss)
+    (low : 2 * from ≤ length os) (are : SpansAre from (drop (2 * from) (take (length os) ss)) (rowOf (drop (2 * from) os))) (k : Front os ss from first top run) (more : 0 < children) where
+  -- Where there is no line behind the node, it lacks a child.
+  pub first-lacking : length os / 2 ≤ from → spannedBy from children (rowOf (drop (2 * from) os)) ≡ Lacking
+  first-lacking past = over-lacking os ss from children even room from 0 children (over-start os ss from children even room low are) past more
+
+  -- The other children are left.
+  pub first-over : from < length os / 2 → Over os ss from children first (top + 1) (children - 1)
+  first-over some =
+      let d : max 0 (suc top) ≡ top + 1 = omega arith in
+      rw (← d) (over-next os ss from children even room from 0 children (over-start os ss from children even room low are) first top some more (k .ends some) (k .deep some))
+
 -- ---- the loop over the lines
 
 -- The lines from `line` on are measured.
@@ -215,13 +229,49 @@ node-spans at line c n f x y l p q =
     let e : x ≡ at + suc (linesF (firstTrees n f)) = omega (arith, p, l) in
     rw (e, q, ← l, subtrees-split n f) refl
 
-module _ (os ss₀ ss : List ℕ) (line : ℕ) (b : Back os ss₀ ss line) (at c n : ℕ) (more : 0 < line) (before : at ≡ line - 1) (code : c ≡ getD os (2 * at) 0) (children : n ≡ getD os (2 * at + 1) 0) where
+-- ---- the first of the lines that were gone over
+
+-- Behind the last line there is none.
+pub front-start : (os ss : List ℕ) → 2 * (length os / 2) ≡ length os → Front os ss (length os / 2) 0 0 0
+unfolding rowOf leavesF
+front-start os ss even =
+    let b : drop (2 * (length os / 2)) os ≡ [] = drop-of-length-le os {i = 2 * (length os / 2)} (omega (arith, even)) in
+    record { ends = λ l. absurd (omega arith); deep = λ l. absurd (omega arith); leaves = rw b refl }
+
+-- The line that was written is the first, and its span is what was written.
+front-written : (os ss : List ℕ) (at x y run : ℕ) → 2 * at + 2 ≤ length ss → LeavesAre run (rowOf (drop (2 * at) os))
+    → Front os (set (set ss (2 * at) x) (2 * at + 1) y) at x y run
+front-written os ss at x y run h l = record {
+  ends = λ z. sym (getD-set-other (set ss (2 * at) x) (2 * at + 1) (2 * at) y 0 (λ e. omega arith) ∙ getD-set-same ss (2 * at) x 0 (omega arith));
+  deep = λ z. sym (getD-set-same (set ss (2 * at) x) (2 * at + 1) y 0 (omega (arith, length-set ss (2 * at) x)));
+  leaves = l;
+}
+
+-- A node over leaves alone ends past the last of them and is one deep.
+pub front-leaves : (os ss : List ℕ) (i first top run n : ℕ) → Front os ss i first top run → 0 < n → n ≤ run → spannedBy i n (rowOf (drop (2 * i) os)) ≡ To (i + n) 1
+unfolding spannedBy if_then_else_
+front-leaves os ss i first top run n k more few = go (rowOf (drop (2 * i) os)) (k .leaves)
+  where
+    go : (r : Rowed) → LeavesAre run r → spannedBy i n r ≡ To (i + n) 1
+    go faulty h = absurd h
+    go (rowed f) h =
+        let all : n ≤ leavesF f = omega (arith, h) in
+        rw (le-leb n (count f) (omega (arith, leaves-few f)), leaves-lines n f all, leaves-deep n f all more) refl
+
+-- ---- a turn
+
+module _ (os ss₀ ss : List ℕ) (line : ℕ) (b : Back os ss₀ ss line) (at c n : ℕ) (more : 0 < line) (before : at ≡ line - 1)
+    (code : c ≡ getD os (2 * line - 2) 0) (children : n ≡ getD os (2 * line - 1) 0) where
   -- The row from the line on, by the row behind it.
   row-here : rowOf (drop (2 * at) os) ≡ nodeBefore (soundNode c n) c n (rowOf (drop (2 * line) os))
   unfolding rowOf
   row-here =
       let e : at + 1 ≡ line = omega arith in
-      ap rowOf (two-words os at (omega (arith, b .low))) ∙ rw (e, code, children) refl
+      let x : 2 * line - 2 ≡ 2 * at = omega arith in
+      let y : 2 * line - 1 ≡ 2 * at + 1 = omega arith in
+      let c′ : c ≡ getD os (2 * at) 0 = code ∙ ap (λ (i : ℕ). getD os i 0) x in
+      let n′ : n ≡ getD os (2 * at + 1) 0 = children ∙ ap (λ (i : ℕ). getD os i 0) y in
+      ap rowOf (two-words os at (omega (arith, b .low))) ∙ rw (e, c′, n′) refl
 
   -- A fault here is one of the whole.
   fault-here : rowOf (drop (2 * at) os) ≡ faulty → treeOf os ≡ missing
@@ -280,6 +330,47 @@ module _ (os ss₀ ss : List ℕ) (line : ℕ) (b : Back os ss₀ ss line) (at c
       go faulty r = absurd (rw r at (b .are))
       go (rowed f) r = by-count f r (leb n (count f)) refl
 
+  -- A leaf ends where the next line begins.
+  pub leaf-spans : n ≡ 0 → To line 0 ≡ spannedBy line n (rowOf (drop (2 * line) os))
+  unfolding spannedBy if_then_else_ firstTrees linesF depthF
+  leaf-spans e = go (rowOf (drop (2 * line) os)) (b .are)
+    where
+      go : (r : Rowed) → SpansAre line (drop (2 * line) (take (length os) ss)) r → To line 0 ≡ spannedBy line n r
+      go faulty h = absurd h
+      go (rowed f) h = rw (e, le-leb 0 (count f) (omega arith), add-zero line) refl
+
+  -- A leaf is one more of those that begin there.
+  pub front-leaf : (first top run : ℕ) → Front os ss line first top run → soundNode c n ≡ true → n ≡ 0 → Front os (set (set ss (2 * at) line) (2 * at + 1) 0) at line 0 (run + 1)
+  unfolding nodeBefore if_then_else_
+  front-leaf first top run k e z = front-written os ss at line 0 (run + 1) (omega (arith, b .low, b .room)) (go (rowOf (drop (2 * line) os)) refl (k .leaves))
+    where
+      go : (r : Rowed) → rowOf (drop (2 * line) os) ≡ r → LeavesAre run r → LeavesAre (run + 1) (rowOf (drop (2 * at) os))
+      go faulty r h = absurd h
+      go (rowed f) r h =
+          let is : rowOf (drop (2 * at) os) ≡ rowed (cons (node c (firstTrees 0 f)) (laterTrees 0 f)) = row-here ∙ rw (e, r, z, le-leb 0 (count f) (omega arith)) refl in
+          rw is (omega (arith, h, leaf-more c f))
+
+  -- A node that has children is no leaf.
+  pub front-node : (first top run end₁ deep₁ : ℕ) → Front os ss line first top run → soundNode c n ≡ true → 0 < n → To end₁ deep₁ ≡ spannedBy line n (rowOf (drop (2 * line) os))
+      → Front os (set (set ss (2 * at) end₁) (2 * at + 1) deep₁) at end₁ deep₁ 0
+  unfolding spannedBy nodeBefore if_then_else_
+  front-node first top run end₁ deep₁ k e z g = front-written os ss at end₁ deep₁ 0 (omega (arith, b .low, b .room)) (go (rowOf (drop (2 * line) os)) refl (k .leaves))
+    where
+      by-count : (f : Forest) → rowOf (drop (2 * line) os) ≡ rowed f → (x : Bool) → leb n (count f) ≡ x → LeavesAre 0 (rowOf (drop (2 * at) os))
+      by-count f r true l =
+          let is : rowOf (drop (2 * at) os) ≡ rowed (cons (node c (firstTrees n f)) (laterTrees n f)) = row-here ∙ rw (e, r, l) refl in
+          rw is (sym (leaf-none c n f z (leb-true _ _ l)))
+      by-count f r false l = let y : _≡_ {A = ℕ} 0 1 = cc (rw (r, l) at g) in absurd (omega arith)
+
+      go : (r : Rowed) → rowOf (drop (2 * line) os) ≡ r → LeavesAre run r → LeavesAre 0 (rowOf (drop (2 * at) os))
+      go faulty r h = absurd h
+      go (rowed f) r h = by-count f r (leb n (count f)) refl
+
+-- What is known of the lines behind is known of equals.
+pub back-equal : (os ss₀ ss ss₁ : List ℕ) (line first first₁ top top₁ run run₁ : ℕ) → ss ≡ ss₁ → first ≡ first₁ → top ≡ top₁ → run ≡ run₁
+    → Back os ss₀ ss₁ line × Front os ss₁ line first₁ top₁ run₁ → Back os ss₀ ss line × Front os ss line first top run
+back-equal os ss₀ ss ss₁ line first first₁ top top₁ run run₁ a b c d h = rw (a, b, c, d) h
+
 -- What a node comes to is no more than there are lines.
 pub back-small : (os ss₀ ss : List ℕ) (line n e d : ℕ) → Back os ss₀ ss line → To e d ≡ spannedBy line n (rowOf (drop (2 * line) os)) → (e ≤ length os / 2) × (d ≤ length os / 2)
 unfolding spannedBy if_then_else_
@@ -296,6 +387,16 @@ back-small os ss₀ ss line n e d b g = go (rowOf (drop (2 * line) os)) refl
     go : (r : Rowed) → rowOf (drop (2 * line) os) ≡ r → (e ≤ length os / 2) × (d ≤ length os / 2)
     go faulty r = absurd (rw r at (b .are))
     go (rowed f) r = by-count f r (leb n (count f)) refl
+
+-- There are no more leaves than lines.
+pub front-small : (os ss₀ ss : List ℕ) (line first top run : ℕ) → Back os ss₀ ss line → Front os ss line first top run → run ≤ length os / 2
+front-small os ss₀ ss line first top run b k = go (rowOf (drop (2 * line) os)) (b .are) (k .leaves)
+  where
+    go : (r : Rowed) → SpansAre line (drop (2 * line) (take (length os) ss)) r → LeavesAre run r → run ≤ length os / 2
+    go faulty are h = absurd h
+    go (rowed f) are h =
+        let long : length os - 2 * line ≡ 2 * linesF f = omega (arith, simp (length-drop, length-take) at (ap length are), spans-long line (subtreesF f), linesF-subtrees f, b .room) in
+        omega (arith, h, leaves-short f, b .even, b .low)
 
 -- All lines are measured.
 pub back-all : (os ss₀ ss : List ℕ) (line : ℕ) → Back os ss₀ ss line → line ≡ 0 → SpansAre 0 (take (length os) ss) (rowOf os)

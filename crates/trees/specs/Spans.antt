@@ -3,7 +3,7 @@
 use mathlib.Core.List.{List, [], _∷_, _++_}
 use mathlib.Core.Bool.{Bool, true, false}
 use mathlib.Core.Path.{_≡_}
-use Prim.Native.Nat.{ℕ, zero, suc, _+_, _*_, _/_, _≤_, max}
+use Prim.Native.Nat.{ℕ, zero, suc, _+_, _*_, _/_, _≤_, _<_, max}
 use lib.Dec.{leb}
 use lib.ListN.{length, take, drop, getD, set}
 use Rattle.words.specs.Base.{if_then_else_}
@@ -63,6 +63,17 @@ rowOf [] = rowed bare
 rowOf (c ∷ []) = faulty
 rowOf (c ∷ n ∷ ws) = nodeBefore (soundNode c n) c n (rowOf ws)
 
+-- How many of a row's first trees are leaves.
+unfoldable pub leavesF : Forest → ℕ
+leavesF bare = 0
+leavesF (cons (node c bare) f) = suc (leavesF f)
+leavesF (cons (node c (cons t g)) f) = 0
+
+-- So many of the first trees of a row are leaves.
+abbrev pub LeavesAre : ℕ → Rowed → Type 0
+LeavesAre n faulty = ⊥
+LeavesAre n (rowed f) = n ≡ leavesF f
+
 -- What words come to that are a tree or not: its depth, or none.
 unfoldable pub measuredOf : Found → Measured
 measuredOf missing = Broken
@@ -78,6 +89,12 @@ Measurable os ss = (length os ≤ most-words) × (2 * (length os / 2) ≡ length
 abbrev pub SpansAre : ℕ → List ℕ → Rowed → Type 0
 SpansAre i ss faulty = ⊥
 SpansAre i ss (rowed f) = ss ≡ spansFrom i (subtreesF f)
+
+-- What is known of the first of the lines from i on that were gone over: its span, where there is such a line, and how many leaves begin there.
+pub record Front (os ss : List ℕ) (i first top run : ℕ) : Type 0 where
+  pub ends : i < length os / 2 → first ≡ getD ss (2 * i) 0
+  pub deep : i < length os / 2 → top ≡ getD ss (2 * i + 1) 0
+  pub leaves : LeavesAre run (rowOf (drop (2 * i) os))
 
 -- What a node comes to whose children are the first n trees of a row, which stands on lines from i on.
 unfoldable pub spannedBy : ℕ → ℕ → Rowed → Spanned
