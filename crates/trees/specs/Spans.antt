@@ -3,7 +3,7 @@
 use mathlib.Core.List.{List, [], _∷_, _++_}
 use mathlib.Core.Bool.{Bool, true, false}
 use mathlib.Core.Path.{_≡_}
-use Prim.Native.Nat.{ℕ, zero, suc, _+_, _*_, _/_, _≤_, _<_, max}
+use Prim.Native.Nat.{ℕ, zero, suc, _+_, _*_, _-_, _/_, _≤_, _<_}
 use lib.Dec.{leb}
 use lib.ListN.{length, take, drop, getD, set}
 use Rattle.words.specs.Base.{if_then_else_}
@@ -108,16 +108,17 @@ unfoldable pub stackOf : Forest → List ℕ
 stackOf bare = []
 stackOf (cons t f) = stackOf f ++ (depth t ∷ [])
 
--- The first words of the stack are the depths of a row's trees.
-abbrev pub StackIs : ℕ → List ℕ → Rowed → Type 0
-StackIs many ss faulty = ⊥
-StackIs many ss (rowed f) = (many ≡ count f) × (take many ss ≡ stackOf f)
+-- What is known of a row of trees: how many they are, how deep each is, and how many of the first are leaves. The first is `top` deep: with
+-- that put behind the first `many` words of the stack, the words from word 1 on are the depths of all.
+pub record StackIs (many top run : ℕ) (ss : List ℕ) (f : Forest) : Type 0 where
+  pub counted : many ≡ count f
+  pub depths : drop 1 (take many ss ++ (top ∷ [])) ≡ stackOf f
+  pub leaves : run ≡ leavesF f
 
--- What is left of the first words of a stack once n are taken from it, and how deep a node is over those taken and a child of one less than `deep`.
-unfoldable pub poppedBy : ℕ → ℕ → ℕ → List ℕ → Popped
-poppedBy zero many deep ss = Left many deep
-poppedBy (suc n) zero deep ss = Short
-poppedBy (suc n) (suc many) deep ss = poppedBy n many (max deep (suc (getD ss many 0))) ss
+-- What a node comes to that takes the first n trees of a row as its children: it lacks one; or there are so many trees then, itself the
+-- first, and it is so deep.
+unfoldable pub poppedBy : ℕ → Forest → Popped
+poppedBy n f = if leb n (count f) then Left (count f + 1 - n) (depthF (firstTrees n f)) else Short
 
 -- ---- the levels of lines by their spans
 

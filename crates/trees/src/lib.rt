@@ -14,7 +14,8 @@ pub enum Measured {
     Deep(usize),
 }
 
-// What taking a node's children from a stack of depths leaves: the stack is too short for them; or so many words are left, and the node is so deep.
+// What a node comes to that takes its children from a row of trees: there are too few; or so many trees are there then, itself the first, and it
+// is so deep.
 pub enum Popped {
     Short,
     Left { many: usize, depth: usize },

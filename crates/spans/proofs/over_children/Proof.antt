@@ -1,4 +1,4 @@
--- `order::over_children` meets its contract: children that are all leaves are known, and else before each turn the spans from `at` on are those of the trees
+-- `spans::over_children` meets its contract: children that are all leaves are known, and else before each turn the spans from `at` on are those of the trees
 -- that are left. Assumes nothing.
 use Prim.Native.Nat.{ℕ, _+_, _*_, _/_, _≤_}
 use mathlib.Core.Path.{_≡_, refl, sym, ap, _∙_}
@@ -8,8 +8,8 @@ use borrow.Author.Needs.{needs}
 use Rattle.figures.specs.Limits.{most-words}
 use Rattle.trees.specs.declared.Spanned.the-variants.{To}
 use Rattle.trees.proofs.Spanning.{Over, over-next, over-lacking, over-all, front-leaves, first-lacking, first-over}
-use Rattle.order.proofs.over_children.Statement.{statement}
-use Rattle.order.proofs.over_children.Tie as tie
+use Rattle.spans.proofs.over_children.Statement.{statement}
+use Rattle.spans.proofs.over_children.Tie as tie
 
 abbrev Inv-loop : tie.InvT-loop
 Inv-loop order spans from first top run children n at₀ depth₀ left₀ at depth left =

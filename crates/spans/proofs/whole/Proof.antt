@@ -1,11 +1,11 @@
--- `order::whole` meets its contract: the first tree ends where the lines end, or the words are not one tree. Assumes nothing.
+-- `spans::whole` meets its contract: the first tree ends where the lines end, or the words are not one tree. Assumes nothing.
 use mathlib.Core.Path.{refl, sym}
 use native.Mathlib.Omega.{arith}
 use borrow.Author.Needs.{needs}
 use Rattle.trees.specs.Spans.{measuredOf}
 use Rattle.trees.proofs.Spanning.{whole-none, whole-more, whole-one}
-use Rattle.order.proofs.whole.Statement.{statement}
-use Rattle.order.proofs.whole.Tie as tie
+use Rattle.spans.proofs.whole.Statement.{statement}
+use Rattle.spans.proofs.whole.Tie as tie
 
 returns : tie.Need-returns
 unfolding measuredOf

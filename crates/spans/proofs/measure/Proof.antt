@@ -1,4 +1,4 @@
--- `order::measure` meets its contract: before each turn the spans of the lines behind are those of the row that their words spell, and the first of them and how
+-- `spans::measure` meets its contract: before each turn the spans of the lines behind are those of the row that their words spell, and the first of them and how
 -- many leaves begin there are known. Assumes nothing.
 use Prim.Native.Nat.{_/_, _≤_}
 use mathlib.Core.Path.{refl, sym, _∙_}
@@ -9,8 +9,8 @@ use borrow.Author.Needs.{needs}
 use borrow.Author.Tests.{not-false, not-true}
 use Rattle.trees.specs.Spans.{Front}
 use Rattle.trees.proofs.Spanning.{Back, back-start, back-unsound, back-lacking, back-next, back-equal, back-small, back-all, front-start, front-small, leaf-spans, front-leaf, front-node, whole-listed, no-tree}
-use Rattle.order.proofs.measure.Statement.{statement}
-use Rattle.order.proofs.measure.Tie as tie
+use Rattle.spans.proofs.measure.Statement.{statement}
+use Rattle.spans.proofs.measure.Tie as tie
 
 abbrev Inv-loop : tie.InvT-loop
 Inv-loop order spans₀ line₀ first₀ top₀ run₀ spans line first top run = Back order spans₀ spans line × Front order spans line first top run

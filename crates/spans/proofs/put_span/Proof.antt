@@ -1,11 +1,11 @@
--- `order::put_span` meets its contract: the words of a line counted from 1 are those of the line before it, counted from 0. Assumes nothing.
+-- `spans::put_span` meets its contract: the words of a line counted from 1 are those of the line before it, counted from 0. Assumes nothing.
 use Prim.Native.Nat.{ℕ, _+_, _*_, _-_}
 use mathlib.Core.Path.{_≡_, ap₂}
 use native.Mathlib.Omega.{arith}
 use lib.ListN.{set, length-set}
 use borrow.Author.Needs.{needs}
-use Rattle.order.proofs.put_span.Statement.{statement}
-use Rattle.order.proofs.put_span.Tie as tie
+use Rattle.spans.proofs.put_span.Statement.{statement}
+use Rattle.spans.proofs.put_span.Tie as tie
 
 cast-spans : tie.Need-cast-spans
 cast-spans c = search needs
