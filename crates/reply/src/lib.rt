@@ -4,8 +4,8 @@ ghost use Prim.Native.Nat.{_≤_};
 ghost use lib.ListN.{length};
 ghost use Rattle.words.specs.Base.{over};
 ghost use Rattle.reply.specs.Replies.{lastDigits, decimal, field, reply, reply-room};
+use digits::digit_of;
 use figures::Answer;
-use print::digit_of;
 
 // No number of 64 bits has more decimal digits.
 pub const MOST_DIGITS: usize = 20;

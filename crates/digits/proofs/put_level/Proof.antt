@@ -1,10 +1,10 @@
--- `print::put_level` meets its contract: one store, or two. Assumes nothing.
+-- `digits::put_level` meets its contract: one store, or two. Assumes nothing.
 use native.Mathlib.Omega.{arith}
 use lib.ListN.{length-set}
 use borrow.Author.Needs.{needs}
 use Rattle.form.proofs.LineBytes.{one-byte, two-bytes, one-store, two-stores}
-use Rattle.print.proofs.put_level.Statement.{statement}
-use Rattle.print.proofs.put_level.Tie as tie
+use Rattle.digits.proofs.put_level.Statement.{statement}
+use Rattle.digits.proofs.put_level.Tie as tie
 
 digit-of-requires : tie.Need-digit-of-requires
 digit-of-requires c κs = search needs

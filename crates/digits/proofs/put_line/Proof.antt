@@ -1,9 +1,9 @@
--- `print::put_line` meets its contract: the level, and the code behind it. Assumes nothing.
+-- `digits::put_line` meets its contract: the level, and the code behind it. Assumes nothing.
 use native.Mathlib.Omega.{arith}
 use borrow.Author.Needs.{needs}
 use Rattle.form.proofs.LineBytes.{line-size, line-over, part-size}
-use Rattle.print.proofs.put_line.Statement.{statement}
-use Rattle.print.proofs.put_line.Tie as tie
+use Rattle.digits.proofs.put_line.Statement.{statement}
+use Rattle.digits.proofs.put_line.Tie as tie
 
 put-level-requires : tie.Need-put-level-requires
 put-level-requires c κs = let a = c .before .before .args in omega (arith, line-size (record { level = a .level; code = a .code }))

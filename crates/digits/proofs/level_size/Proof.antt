@@ -1,7 +1,7 @@
--- `print::level_size` meets its contract. Assumes nothing.
+-- `digits::level_size` meets its contract. Assumes nothing.
 use Rattle.form.proofs.LineBytes.{one-byte, two-bytes}
-use Rattle.print.proofs.level_size.Statement.{statement}
-use Rattle.print.proofs.level_size.Tie as tie
+use Rattle.digits.proofs.level_size.Statement.{statement}
+use Rattle.digits.proofs.level_size.Tie as tie
 
 returns : tie.Need-returns
 returns c = one-byte _ (c .if1 .taken)

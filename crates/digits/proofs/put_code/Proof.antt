@@ -1,10 +1,10 @@
--- `print::put_code` meets its contract: six stores. Assumes nothing.
+-- `digits::put_code` meets its contract: six stores. Assumes nothing.
 use native.Mathlib.Omega.{arith}
 use lib.ListN.{length-set}
 use borrow.Author.Needs.{needs}
 use Rattle.form.proofs.LineBytes.{first-digit, third-digit, last-digit, six-stores}
-use Rattle.print.proofs.put_code.Statement.{statement}
-use Rattle.print.proofs.put_code.Tie as tie
+use Rattle.digits.proofs.put_code.Statement.{statement}
+use Rattle.digits.proofs.put_code.Tie as tie
 
 slice-write-out : tie.Need-slice-write-out
 slice-write-out c = search needs

@@ -1,4 +1,4 @@
--- `print::put_short_line` meets its contract: the level's digit, and the code behind it. Assumes nothing.
+-- `digits::put_short_line` meets its contract: the level's digit, and the code behind it. Assumes nothing.
 use Prim.Native.Nat.{_+_}
 use mathlib.Core.Path.{_∙_}
 use native.Mathlib.Omega.{arith}
@@ -6,8 +6,8 @@ use lib.ListN.{set, length-set}
 use borrow.Author.Needs.{needs}
 use Rattle.form.specs.Text.{digit-0}
 use Rattle.form.proofs.LineBytes.{short-line, part-size}
-use Rattle.print.proofs.put_short_line.Statement.{statement}
-use Rattle.print.proofs.put_short_line.Tie as tie
+use Rattle.digits.proofs.put_short_line.Statement.{statement}
+use Rattle.digits.proofs.put_short_line.Tie as tie
 
 add-out : tie.Need-add-out
 add-out c = search needs
