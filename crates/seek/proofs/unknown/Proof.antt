@@ -1,4 +1,4 @@
--- `judge::unknown` meets its contract, by the kind of the part. Assumes nothing.
+-- `seek::unknown` meets its contract, by the kind of the part. Assumes nothing.
 use Prim.Native.Nat.{ℕ}
 use mathlib.Core.Path.{_≡_, refl}
 use mathlib.Core.Bool.{Bool, false}
@@ -6,8 +6,8 @@ use Rattle.words.specs.Base.{if_then_else_}
 use Rattle.figures.specs.Numbers.{low-unknown, middle-unknown}
 use Rattle.section.specs.Near.{near}
 use Rattle.verdicts.specs.declared.Judgement.{Judgement}
-use Rattle.judge.proofs.unknown.Statement.{statement}
-use Rattle.judge.proofs.unknown.Tie as tie
+use Rattle.seek.proofs.unknown.Statement.{statement}
+use Rattle.seek.proofs.unknown.Tie as tie
 
 sub-below : tie.Need-sub-below
 sub-below c = c .before .before .before .before .pre .1 .fewer

@@ -1,4 +1,4 @@
--- `judge::seek` meets its contract: the part that is told is that of the line's subtree. Assumes nothing.
+-- `seek::seek` meets its contract: the part that is told is that of the line's subtree. Assumes nothing.
 use Prim.Native.Nat.{ℕ, _+_, _*_, _<_}
 use mathlib.Core.Path.{refl, ap, sym, _∙_}
 use native.Mathlib.Omega.{arith}
@@ -8,8 +8,8 @@ use Rattle.trees.proofs.LineCuts.{line-short}
 use Rattle.trees.proofs.LineSpans.{spans-room}
 use Rattle.trees.proofs.Spots.{LineAt, line-at, passed-short}
 use Rattle.verdicts.proofs.Seekings.{end-within, seeks-low, seeks-middle}
-use Rattle.judge.proofs.seek.Statement.{statement}
-use Rattle.judge.proofs.seek.Tie as tie
+use Rattle.seek.proofs.seek.Statement.{statement}
+use Rattle.seek.proofs.seek.Tie as tie
 
 -- The line stands at its word.
 line-here : (s : tie.Start) → LineAt (s .args .order .now) (s .args .line)

@@ -1,4 +1,4 @@
--- `judge::against` meets its contract, by where the words of the part are. Assumes nothing.
+-- `seek::against` meets its contract, by where the words of the part are. Assumes nothing.
 use Prim.Native.Nat.{ℕ, _-_, _≤_}
 use mathlib.Core.Path.{ap, sym, _∙_}
 use mathlib.Core.List.{List}
@@ -7,8 +7,8 @@ use borrow.Author.Needs.{needs}
 use lib.ListN.{length, take, drop}
 use Rattle.words.specs.Compare.{compareOf}
 use Rattle.verdicts.proofs.Spellings.{in-order, in-cut, order-lies, cut-lies}
-use Rattle.judge.proofs.against.Statement.{statement}
-use Rattle.judge.proofs.against.Tie as tie
+use Rattle.seek.proofs.against.Statement.{statement}
+use Rattle.seek.proofs.against.Tie as tie
 
 -- A low part lies in the order.
 low-lies : (c : tie.Then1) → let a = c .before .before .before .before .args in a .part .to ≤ length (a .order .now)

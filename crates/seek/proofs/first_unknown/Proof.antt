@@ -1,4 +1,4 @@
--- `judge::first_unknown` meets its contract: at each line the lines left decide, and at each entry the entries left. Assumes nothing.
+-- `seek::first_unknown` meets its contract: at each line the lines left decide, and at each entry the entries left. Assumes nothing.
 use Prim.Native.Nat.{ℕ, _+_, _*_, _-_, _≤_}
 use mathlib.Core.Path.{_≡_, refl, sym, subst, _∙_}
 use mathlib.Core.List.{List}
@@ -16,8 +16,8 @@ use Rattle.book.specs.Decoding.{bookIn}
 use Rattle.verdicts.specs.Seeking.{unknownWithin, keyOf, JudgedAt, unknownOf}
 use Rattle.verdicts.specs.declared.Judgement.{Judgement}
 use Rattle.verdicts.proofs.Rounds.{none-judged, unknown-judged, within-last, within-known, within-unknown}
-use Rattle.judge.proofs.first_unknown.Statement.{statement}
-use Rattle.judge.proofs.first_unknown.Tie as tie
+use Rattle.seek.proofs.first_unknown.Statement.{statement}
+use Rattle.seek.proofs.first_unknown.Tie as tie
 
 -- The search for the part has come so far.
 abbrev Inv-loop : tie.InvT-loop
