@@ -21,7 +21,7 @@ pub fn level_size(level: usize) -> usize
 }
 
 // Writes a level to the front of `out`, and answers how many bytes it takes.
-pub fn put_level(out: &mut [u8], level: usize) -> usize
+fn put_level(out: &mut [u8], level: usize) -> usize
     requires { ⌜ length (levelText level) ≤ length (now out) ⌝ }
     ensures took { λ r. ⌜ r ≡ length (levelText level) ⌝ }
     ensures wrote { λ _. ⌜ now (out .exit) ≡ over (levelText level) (now (out .entry)) ⌝ }
@@ -36,7 +36,7 @@ pub fn put_level(out: &mut [u8], level: usize) -> usize
 }
 
 // Writes a space, a code's four digits and LF to the front of `out`.
-pub fn put_code(out: &mut [u8], code: u16)
+fn put_code(out: &mut [u8], code: u16)
     requires { ⌜ code-size ≤ length (now out) ⌝ }
     ensures { λ _. ⌜ now (out .exit) ≡ over (codeText code) (now (out .entry)) ⌝ }
 {

@@ -1,7 +1,8 @@
 // How a line is said on standard output: text, numbers, bytes, words, and trees in the notation of document 000. Assumes nothing beyond a function's
 // `requires`.
 use libc::STDOUT_FILENO;
-ghost use Prim.Native.Nat.{_≤_};
+ghost use mathlib.Core.Path.{_≡_};
+ghost use Prim.Native.Nat.{_≤_, _<_};
 ghost use lib.ListN.{length};
 
 // Says bytes as they stand.
@@ -68,29 +69,77 @@ pub fn heard(number: u16, line: usize) {
     count(line);
 }
 
-// Says so many trees that stand from word `at` on, with commas between, and gives the word past them.
-fn trees_at(words: &[u16], at: usize, left: u16) -> usize
-    ensures { λ r. ⌜ at ≤ r ⌝ }
+// So many rows of trees can be open within each other, a row being the children of a node: the words of 64 nodes, the most that are handed here, open
+// fewer.
+const ROWS: usize = 65;
+
+// Says what stands behind a whole tree: a `)` for each open row that ends with it, from the innermost on, and a comma if a row is still open, whose next
+// tree is then to come. `left` has for each of the `deep` open rows how many trees were to come, the one just said counted. Gives how many rows are then
+// open.
+fn tree_done(left: &mut [u16], deep: usize) -> usize
+    requires { ⌜ deep ≤ length (now left) ⌝ }
+    ensures within { λ r. ⌜ r ≤ deep ⌝ }
+    ensures kept { λ _. ⌜ length (now (left .exit)) ≡ length (now (left .entry)) ⌝ }
 {
-    if words.len() < 2 {
-        return at;
-    }
-    if words.len() - 2 < at {
-        return at;
-    }
-    let children = words[at + 1];
-    word(words[at]);
-    let mut next = at + 2;
-    if 0 < children {
-        text(b"(");
-        next = trees_at(words, next, children);
+    let mut rows = deep;
+    while 0 < rows {
+        let row = rows - 1;
+        let trees = left[row];
+        if 1 < trees {
+            left[row] = trees - 1;
+            text(b",");
+            return rows;
+        }
         text(b")");
+        rows = row;
     }
-    if left < 2 {
-        return next;
+    rows
+}
+
+// Says what stands behind the number of a node: a `(` if it has children, and else what stands behind a whole tree. Gives how many rows are then open.
+fn node_said(left: &mut [u16], deep: usize, children: u16) -> usize
+    requires { ⌜ deep < length (now left) ⌝ }
+    ensures within { λ r. ⌜ r ≤ length (now (left .entry)) ⌝ }
+    ensures kept { λ _. ⌜ length (now (left .exit)) ≡ length (now (left .entry)) ⌝ }
+{
+    if children == 0 {
+        return tree_done(left, deep);
     }
-    text(b",");
-    trees_at(words, next, left - 1)
+    text(b"(");
+    left[deep] = children;
+    deep + 1
+}
+
+// Closes the rows that are still open where the words end, from the innermost on, with a comma behind each `)` where trees are lacking in the row around.
+fn close_rows(left: &[u16], deep: usize)
+    requires { ⌜ deep ≤ length (now left) ⌝ }
+{
+    let mut rows = deep;
+    while 0 < rows {
+        text(b")");
+        rows -= 1;
+        if 0 < rows && 1 < left[rows - 1] {
+            text(b",");
+        }
+    }
+}
+
+// Says the tree that stands at the front of the words, or so much of it as they have, node by node, and gives the word past what is said. A deeper tree
+// than there are rows for is said up to the `(` of the last.
+fn front_tree(words: &[u16]) -> usize {
+    let mut left = [0u16; ROWS];
+    let mut deep: usize = 0;
+    let mut at: usize = 0;
+    while at + 1 < words.len() {
+        word(words[at]);
+        deep = node_said(&mut left, deep, words[at + 1]);
+        at += 2;
+        if deep == 0 || ROWS <= deep {
+            return at;
+        }
+    }
+    close_rows(&left, deep);
+    at
 }
 
 // Says the tree that the words are, or that there is none.
@@ -99,7 +148,7 @@ pub fn tree(words: &[u16]) {
         text(b"nothing");
         return;
     }
-    let past = trees_at(words, 0, 1);
+    let past = front_tree(words);
     if past != words.len() {
         text(b" and not just that");
     }
