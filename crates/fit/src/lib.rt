@@ -15,7 +15,7 @@ use spans::wide;
 use trees::Measured;
 use trees::Popped;
 
-// Takes a node's children from a row of `many` trees: the first is `top` deep, the first `run` are leaves, and the depths of the others are the
+// Takes a node's children from a row of `many` trees: the first is `top` deep, the first `run` are leaves, and the depths of the trees behind the first are the
 // words of the stack from word 1 to before word `many`, that of the last tree first. Where all children are among the leaves nothing is read.
 fn pop(stack: &[u16], many: usize, top: usize, run: u16, children: u16) -> Popped
     requires { ⌜ (many ≤ length (now stack)) × (run ≤ many) × (0 < children) × (top ≤ most-words) ⌝ }
@@ -42,8 +42,8 @@ fn pop(stack: &[u16], many: usize, top: usize, run: u16, children: u16) -> Poppe
     Popped::Left { many: rest, depth }
 }
 
-// How deep the tree is that words are, from the last node to the first, by the depths of the trees behind: that of the first tree is kept
-// beside the stack.
+// How deep the tree is that words are, from the last node to the first, by the depths of the trees behind: `top` is that of the first, and those of the others
+// stand on the stack. `run` is how many leaves they begin with.
 pub fn deep(order: &[u16], stack: &mut [u16]) -> Measured
     requires { ⌜ (2 * (length (now order) / 2) ≡ length (now order)) × (length (now order) ≤ most-words) × (length (now order) / 2 ≤ length (now stack)) ⌝ }
     ensures came { λ r. ⌜ r ≡ measuredOf (treeOf (now (order .entry))) ⌝ }

@@ -89,7 +89,8 @@ fn whole(order: &[u16], spans: &[u16]) -> Measured
     Measured::Deep(depth)
 }
 
-// The depth of the tree that words are, if they are one; and the spans of its lines at the front of `spans`, from the last line to the first.
+// The depth of the tree that words are, if they are one; and the spans of its lines at the front of `spans`, from the last line to the first. `first` and `top`
+// are the span of the line behind, and `run` is how many leaves begin there.
 pub fn measure(order: &[u16], spans: &mut [u16]) -> Measured
     requires { ⌜ Measurable (now order) (now spans) ⌝ }
     ensures came { λ r. ⌜ r ≡ measuredOf (treeOf (now (order .entry))) ⌝ }
