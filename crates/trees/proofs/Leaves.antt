@@ -3,7 +3,7 @@
 use Prim.Native.Nat.{ℕ, zero, suc, _≤_, _<_}
 use mathlib.Core.Path.{_≡_, refl}
 use native.Mathlib.Omega.{arith}
-use Rattle.trees.specs.Trees.{Tree, node, Forest, bare, cons, count, depth, depthF}
+use Rattle.trees.specs.Trees.{node, Forest, bare, cons, count, depth, depthF}
 use Rattle.trees.specs.Reading.{firstTrees, laterTrees}
 use Rattle.trees.specs.Spans.{lines, linesF, leavesF}
 

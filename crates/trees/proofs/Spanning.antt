@@ -86,6 +86,10 @@ behind-first i t f =
     rw (n, spans-append i (subtrees t) (subtreesF f)) (drop-append-seam (spansFrom i (subtrees t)) (spansFrom (i + length (subtrees t)) (subtreesF f)))
     ∙ ap (λ (k : ℕ). spansFrom (i + k) (subtreesF f)) (lines-subtrees t)
 
+-- The lines left from i on are those of the row whose spans stand there, two words each.
+lines-left : (os ss : List ℕ) (i : ℕ) (f : Forest) → length os ≤ length ss → drop (2 * i) (take (length os) ss) ≡ spansFrom i (subtreesF f) → length os - 2 * i ≡ 2 * linesF f
+lines-left os ss i f room e = omega (arith, simp (length-drop, length-take) at (ap length e), spans-long i (subtreesF f), linesF-subtrees f)
+
 -- ---- the loop over a node's children
 
 -- The deepest of three, whichever two are taken first.
@@ -111,8 +115,7 @@ module _ (os ss : List ℕ) (from children : ℕ) (even : 2 * (length os / 2) �
       go : (r : Rowed) → rowOf (drop (2 * from) os) ≡ r → SpansAre from (drop (2 * from) (take (length os) ss)) r → Over os ss from children from 0 children
       go faulty e h = absurd h
       go (rowed f) e h =
-          let long : length os - 2 * from ≡ 2 * linesF f = omega (arith, simp (length-drop, length-take) at (ap length h), spans-long from (subtreesF f), linesF-subtrees f, room) in
-          record { row = f; is = e; rest = f; here = h; enough = refl; deep = λ l. zero-max _; far = λ l. refl; ends = omega (arith, long, even) }
+          record { row = f; is = e; rest = f; here = h; enough = refl; deep = λ l. zero-max _; far = λ l. refl; ends = omega (arith, lines-left os ss from f room h, even) }
 
   module _ (at depth₀ left : ℕ) (o : Over os ss from children at depth₀ left) where
     -- The next child, where a line is left.
@@ -380,7 +383,7 @@ back-small os ss₀ ss line n e d b g = go (rowOf (drop (2 * line) os)) refl
     by-count f r true l =
         let same : To e d ≡ To (line + linesF (firstTrees n f)) (depthF (firstTrees n f)) = rw (r, l) at g in
         let are : drop (2 * line) (take (length os) ss) ≡ spansFrom line (subtreesF f) = rw r at (b .are) in
-        let long : length os - 2 * line ≡ 2 * linesF f = omega (arith, simp (length-drop, length-take) at (ap length are), spans-long line (subtreesF f), linesF-subtrees f, b .room) in
+        let long = lines-left os ss line f (b .room) are in
         (omega (arith, ap end-of same, first-lines n f, b .even, b .low), omega (arith, ap depth-of same, depthF-lines (firstTrees n f), first-lines n f, b .even, b .low))
     by-count f r false l = let z : _≡_ {A = ℕ} 0 1 = cc (rw (r, l) at g) in absurd (omega arith)
 
@@ -395,8 +398,7 @@ front-small os ss₀ ss line first top run b k = go (rowOf (drop (2 * line) os))
     go : (r : Rowed) → SpansAre line (drop (2 * line) (take (length os) ss)) r → LeavesAre run r → run ≤ length os / 2
     go faulty are h = absurd h
     go (rowed f) are h =
-        let long : length os - 2 * line ≡ 2 * linesF f = omega (arith, simp (length-drop, length-take) at (ap length are), spans-long line (subtreesF f), linesF-subtrees f, b .room) in
-        omega (arith, h, leaves-short f, b .even, b .low)
+        omega (arith, h, leaves-short f, lines-left os ss line f (b .room) are, b .even, b .low)
 
 -- All lines are measured.
 pub back-all : (os ss₀ ss : List ℕ) (line : ℕ) → Back os ss₀ ss line → line ≡ 0 → SpansAre 0 (take (length os) ss) (rowOf os)
@@ -406,7 +408,7 @@ back-all os ss₀ ss line b e = rw e at (b .are)
 
 -- A row has two words in the scratch for each of its lines.
 row-long : (os ss : List ℕ) (f : Forest) → length os ≤ length ss → take (length os) ss ≡ spansFrom 0 (subtreesF f) → length os ≡ 2 * linesF f
-row-long os ss f room e = omega (arith, length-take (length os) ss, ap length e, spans-long 0 (subtreesF f), linesF-subtrees f)
+row-long os ss f room e = omega (arith, lines-left os ss 0 f room e)
 
 -- The words are a row that is measured.
 module _ (os ss : List ℕ) (even : 2 * (length os / 2) ≡ length os) (room : length os ≤ length ss) (are : SpansAre 0 (take (length os) ss) (rowOf os)) where
