@@ -8,7 +8,7 @@ use lib.ListN.{length, replicate}
 use lib.Dec.{ltb}
 use borrow.Author.Tests.{ltb-true, ltb-false}
 use Rattle.words.specs.Base.{_and_, _∈_}
-use Rattle.words.proofs.Tests.{no-test, and-left, and-right, and-both}
+use Rattle.words.proofs.Tests.{no-test, and-left, and-right, and-both, either}
 use Rattle.figures.specs.Limits.{greatest-count, head-words}
 use Rattle.section.specs.Entries.{Entry, sectionWords, has, countOf}
 use Rattle.section.proofs.Counts.{has-entry, entry-count, counts-has, lacks-counts}
@@ -21,13 +21,13 @@ use Rattle.book.specs.Decoding.{bookIn}
 use Rattle.book.specs.Holding.{Holds}
 use Rattle.book.specs.declared.Section.{Section}
 use Rattle.book.specs.declared.Places.{Places}
-use Rattle.book.proofs.Meaning.{form-proper, either}
+use Rattle.book.proofs.Meaning.{form-proper}
 use Rattle.book.proofs.Sound.{form-sound, sound-section}
-use Rattle.book.proofs.Sections.{form-keys}
+use Rattle.book.proofs.Sections.{form-sorted}
 use Rattle.book.proofs.Taught.{same-section, section-same}
-use Rattle.amend.proofs.Sections.{form-sorted, used-split}
-use Rattle.amend.proofs.Stages.{uses}
-use Rattle.effects.proofs.Agreeing.{form-orders, teachings-sorted}
+use Rattle.book.proofs.Around.{used-split}
+use Rattle.book.proofs.Holding.{uses}
+use Rattle.book.proofs.Agreeing.{form-orders, teachings-sorted}
 use Rattle.recount.specs.Tallies.{allKnown, talliedAll}
 use Rattle.agree.specs.Agreeing.{agreeingIn, Roomy}
 use Rattle.agree.proofs.Tallied.{countedIn, count-most, countsBy, counts-few, tallied-is, same-by, by-same, counted-known, known-counted}
@@ -98,7 +98,3 @@ module _ (b : Book) (form : inForm b ≡ true) (s : Section) where
 -- A scratch of n words has room for each section of a book that uses too few words for one entry more.
 pub few-entries : (ws : List ℕ) (p : Places) → Holds ws p → (n : ℕ) → p .used < head-words + 4 * (n + 1) → Roomy ws n
 few-entries ws p h n short s = omega (arith, entries-use (bookIn ws) (h .form) s, uses ws p h)
-
--- No key of a section is empty.
-pub keys-filled : (b : Book) → inForm b ≡ true → (s : Section) (e : Entry) → e ∈ sectionOf s b → 1 ≤ length (e .key)
-keys-filled b f s e m = let k = form-keys b f s e m in omega (arith, ap length (k .isOrder .spelt), size (k .tree), some-lines (k .tree))

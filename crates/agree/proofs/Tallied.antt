@@ -6,43 +6,27 @@ use mathlib.Core.List.{List, [], _∷_, List·Memᴰ·head as here, List·Memᴰ
 use native.Mathlib.Omega.{arith}
 use lib.ListN.{length, getD, replicate}
 use borrow.Author.Tests.{eq-eqb, eqb-true}
-use Rattle.words.specs.Base.{if_then_else_, sameWords, _∈_}
-use Rattle.words.proofs.Tests.{and-left, and-right, and-both, words-same}
+use Rattle.words.specs.Base.{if_then_else_, _∈_}
+use Rattle.words.proofs.Tests.{and-left, and-right, and-both}
 use Rattle.figures.specs.Limits.{greatest-depth}
 use Rattle.section.specs.Entries.{Entry, has, countOf, total, Sorted}
-use Rattle.section.proofs.Counts.{counts-own, counts-other, count-add, has-add, has-entry, entry-has}
+use Rattle.section.proofs.Counts.{has-entry, entry-has}
 use Rattle.tally.specs.Tallying.{onEach, tallied, sameCounts}
 use Rattle.tally.proofs.Tallies.{each-known, known-each}
 use Rattle.trees.specs.Trees.{Tree, words}
 use Rattle.trees.specs.Reading.{byOrder}
 use Rattle.trees.specs.Fits.{Fits}
 use Rattle.trees.proofs.Fitting.{order-read, fits-order-of}
-use Rattle.trees.proofs.Once.{NoRepeats}
 use Rattle.book.specs.Book.{Book, sectionOf}
-use Rattle.book.specs.Taught.{Teaching, addEach, taught, bookOf, teachingsIn}
+use Rattle.book.specs.Taught.{Teaching, taught, bookOf, teachingsIn, treesIn}
 use Rattle.book.specs.declared.Section.{Section}
-use Rattle.book.proofs.Taught.{lacks-any, count-each, taught-k, none-in}
+use Rattle.book.proofs.Taught.{taught-k, none-in}
+use Rattle.book.proofs.Teachings.{taught-section, own-section, trees-once, count-each-apart, each-count}
+use Rattle.book.proofs.Agreeing.{TaughtOrders, later-taught, first}
 use Rattle.own.specs.Own.{ownBook, ownOf}
-use Rattle.effects.specs.Calls.{treesIn}
-use Rattle.effects.proofs.Adds.{taught-section, own-section, trees-once, count-each-apart}
-use Rattle.effects.proofs.Agreeing.{TaughtOrders, later-taught, first}
 use Rattle.recount.specs.Tallies.{partsIn, allKnown, talliedAll}
 
 -- ---- what the orders of a T count
-
--- n of each tree of a list without repeats count n for a key that one of each has, and nothing for others.
-each-count : (n : ℕ) (z : List ℕ) (ts : List Tree) → NoRepeats ts → countOf z (addEach n ts []) ≡ (if has z (addEach 1 ts []) then n else 0)
-unfolding NoRepeats addEach countOf has if_then_else_
-each-count n z [] r = refl
-each-count n z (t ∷ ts) r = go (sameWords (words t) z) refl (each-count n z ts (r .1))
-  where
-    none : countOf (words t) (addEach n ts []) ≡ 0
-    none = count-each n t ts [] (r .1) ∙ rw (lacks-any t ts (r .0)) (omega arith)
-
-    go : (b : Bool) → sameWords (words t) z ≡ b → countOf z (addEach n ts []) ≡ (if has z (addEach 1 ts []) then n else 0)
-        → countOf z (addEach n (t ∷ ts) []) ≡ (if has z (addEach 1 (t ∷ ts) []) then n else 0)
-    go true e ih = rw (has-add 1 (words t) z (addEach 1 ts []), e) (omega (arith, count-add n (words t) z (addEach n ts []), counts-own (words t) z n e, rw (words-same (words t) z e) at none))
-    go false e ih = rw (has-add 1 (words t) z (addEach 1 ts []), e) (omega (arith, count-add n (words t) z (addEach n ts []), counts-other (words t) z n e, ih))
 
 -- n teachings of an order count n more in a section for each key that one teaching counts there, and nothing for others.
 count-own : (n : ℕ) (t : Tree) (b : Book) (s : Section) (z : List ℕ)

@@ -2,36 +2,33 @@
 -- change can be made. Assumes nothing.
 use Prim.Native.Nat.{ℕ, _+_, _-_, _≤_}
 use mathlib.Core.Path.{_≡_, refl, sym, ap, _∙_}
-use mathlib.Core.Bool.{Bool, true, false}
-use mathlib.Core.List.{List, [], _∷_, List·Memᴰ·head as here, List·Memᴰ·tail as there, List·Memᴰ·not-nil}
+use mathlib.Core.Bool.{true}
+use mathlib.Core.List.{List, [], _∷_, List·Memᴰ·head as here, List·Memᴰ·tail as there}
 use native.Mathlib.Omega.{arith}
 use lib.Dec.{leb}
 use borrow.Author.Tests.{leb-true}
-use Rattle.words.specs.Base.{if_then_else_, _∈_}
-use Rattle.words.specs.Compare.{compareOf}
-use Rattle.words.specs.declared.Compared.{Compared}
-use Rattle.words.specs.declared.Compared.the-variants.{Lower, Equal, Higher}
+use Rattle.words.specs.Base.{_∈_}
 use Rattle.words.proofs.Tests.{and-left, and-right}
 use Rattle.figures.specs.Limits.{greatest-count}
 use Rattle.trees.specs.Fits.{Fits}
-use Rattle.section.specs.Entries.{Entry, counted, Sorted, byCompared, lower}
+use Rattle.section.specs.Entries.{Entry, Sorted}
+use Rattle.section.proofs.Sorting.{add-keys, sorted-some, lower-keys}
 use Rattle.changes.specs.Editing.{addAll, lowerAll, fitting}
 use Rattle.changes.proofs.Adding.{sorted-add-all, total-add-all, size-add-all, fitting-entry}
 use Rattle.changes.proofs.Lowering.{sorted-lower-all, size-lower-all}
 use Rattle.changes.proofs.Weighing.{lacking-size}
-use Rattle.book.specs.Book.{Book, sectionOf, shallowest, deepest, used, live, inForm}
+use Rattle.book.specs.Book.{Book, sectionOf, shallowest, deepest, used, live, inForm, withSection}
 use Rattle.book.specs.Sound.{SoundSection}
 use Rattle.book.specs.declared.Section.{Section}
 use Rattle.book.specs.declared.Section.the-variants.{Taught, Tops, Lows, Middles}
 use Rattle.book.proofs.Meaning.{used-is}
 use Rattle.book.proofs.Sound.{sorted-next, sound-section, form-sound}
-use Rattle.book.proofs.Sections.{each-section, form-keys, sections-form}
-use Rattle.book.proofs.Taught.{add-keys, sorted-some}
+use Rattle.book.proofs.Sections.{each-section, form-keys, sections-form, form-sorted}
+use Rattle.book.proofs.Around.{used-with, used-split, with-k, with-sections}
 use Rattle.amend.specs.Counts.{withinCounts}
-use Rattle.amend.specs.Changing.{changed, withSection, changedIn, changedBook, livesThen, LivesReady, ReadyAll, lackingParts, lackingAll}
+use Rattle.amend.specs.Changing.{changed, changedIn, changedBook, livesThen, LivesReady, ReadyAll, lackingParts, lackingAll}
 use Rattle.amend.specs.declared.Change.{Change}
 use Rattle.amend.specs.declared.Change.the-variants.{Teach, Withdraw}
-use Rattle.amend.proofs.Sections.{form-sorted, used-with, used-split}
 
 -- ---- the sections and the words used
 
@@ -56,25 +53,11 @@ module _ (Q : List ℕ → Type 0) where
   add-all-keys [] es p h = h
   add-all-keys (o ∷ os) es p h = add-keys Q (o .count) (o .key) (addAll os es) (p o (here refl)) (add-all-keys os es (λ e m. p e (there m)) h)
 
-  -- Lowering a key keeps what holds of the keys.
-  lower-keys : (x : List ℕ) (es : List Entry) → ((e : Entry) → e ∈ es → Q (e .key)) → (e : Entry) → e ∈ lower x es → Q (e .key)
-  unfolding lower if_then_else_
-  lower-keys x [] h e m = absurd (List·Memᴰ·not-nil m)
-  lower-keys x (f ∷ es) h e m = go (compareOf (f .key) x) (leb (f .count) 1) m (lower-keys x es (λ g i. h g (there i)) e)
-    where
-      go : (o : Compared) (b : Bool) → e ∈ byCompared o (f ∷ lower x es) (if b then es else counted (f .key) (f .count - 1) ∷ es) (f ∷ es) → (e ∈ lower x es → Q (e .key)) → Q (e .key)
-      go Lower b (here q) later = rw q (h f (here refl))
-      go Lower b (there i) later = later i
-      go Equal true i later = h e (there i)
-      go Equal false (here q) later = rw q (h f (here refl))
-      go Equal false (there i) later = h e (there i)
-      go Higher b i later = h e i
-
   -- So does lowering each key of another section.
   pub lower-all-keys : (os es : List Entry) → ((e : Entry) → e ∈ es → Q (e .key)) → (e : Entry) → e ∈ lowerAll os es → Q (e .key)
   unfolding lowerAll
   lower-all-keys [] es h = h
-  lower-all-keys (o ∷ os) es h = lower-keys (o .key) (lowerAll os es) (lower-all-keys os es h)
+  lower-all-keys (o ∷ os) es h = lower-keys Q (o .key) (lowerAll os es) (lower-all-keys os es h)
 
   -- A change keeps what holds of the keys of both sections.
   changed-keys : (c : Change) (os es : List Entry) → ((e : Entry) → e ∈ os → Q (e .key)) → ((e : Entry) → e ∈ es → Q (e .key)) → (e : Entry) → e ∈ changed c os es → Q (e .key)
@@ -94,22 +77,6 @@ sorted-sound least greatest es s f k = record {
   entry = λ e m. record { some = sorted-some es s e m; few = fitting-entry es f e m; tree = k e m };
   ascends = λ xs ys e g q. sorted-next xs ys e g (rw q at s);
 }
-
-module _ (s : Section) (es : List Entry) (b : Book) where
-  -- Other entries in a section leave k as it is.
-  with-k : withSection s es b .k ≡ b .k
-  unfolding withSection
-  with-k = each-section (λ s. withSection s es b .k ≡ b .k) refl refl refl refl s
-
-  -- What holds of the book's sections and of the other entries holds of the sections with these in one.
-  with-sections : (Q : Section → List Entry → Type 0) → Q s es → ((u : Section) → Q u (sectionOf u b)) → (u : Section) → Q u (sectionOf u (withSection s es b))
-  unfolding sectionOf withSection
-  with-sections Q = each-section (λ s. Q s es → ((u : Section) → Q u (sectionOf u b)) → (u : Section) → Q u (sectionOf u (withSection s es b)))
-      (λ q h. each-section _ q (h Tops) (h Lows) (h Middles))
-      (λ q h. each-section _ (h Taught) q (h Lows) (h Middles))
-      (λ q h. each-section _ (h Taught) (h Tops) q (h Middles))
-      (λ q h. each-section _ (h Taught) (h Tops) (h Lows) q)
-      s
 
 -- One section of a book in form changed by that of another of the same k, the book is in form if the counts and the live teachings fit.
 changed-form : (c : Change) (s : Section) (other b : Book) → inForm other ≡ true → inForm b ≡ true → other .k ≡ b .k

@@ -12,23 +12,18 @@ use Rattle.book.specs.Book.{Book, used}
 use Rattle.book.specs.Decoding.{bookIn}
 use Rattle.book.specs.Holding.{Holds}
 use Rattle.book.specs.declared.Places.{Places}
-use Rattle.book.proofs.Meaning.{used-fits}
+use Rattle.book.proofs.Sections.{form-sorted}
+use Rattle.book.proofs.Holding.{uses, used-room}
 use Rattle.amend.specs.Counts.{withinCounts}
 use Rattle.amend.specs.Changing.{changedBook, weighedBook, ReadyAll, LacksEach}
 use Rattle.amend.specs.declared.BookWeighed.{BookWeighed}
 use Rattle.amend.specs.declared.Change.the-variants.{Teach}
-use Rattle.amend.proofs.Sections.{form-sorted}
-use Rattle.amend.proofs.Stages.{uses}
 use Rattle.amend.proofs.Changed.{used-changed, ready-add}
 
 module _ (ws vs : List ℕ) (p q : Places) (h : Holds ws p) (g : Holds vs q) where
   -- The book with the other added.
   abbrev sum : Book
   sum = changedBook Teach (bookIn vs) (bookIn ws)
-
-  -- The used words are within the slice.
-  pub room-used : p .used ≤ length ws
-  room-used = omega (arith, uses ws p h, used-fits ws (bookIn ws) (h .laid))
 
   module _ (w : BookWeighed) (we : w ≡ weighedBook (bookIn vs) (bookIn ws)) where
     -- What the sum uses.
@@ -44,7 +39,7 @@ module _ (ws vs : List ℕ) (p q : Places) (h : Holds ws p) (g : Holds vs q) whe
     module _ (x : w .lacking ≤ length ws - p .used) where
       -- Otherwise it fits.
       fits : used sum ≤ length ws
-      fits = omega (arith, needs-words, room-used)
+      fits = omega (arith, needs-words, used-room ws p h)
 
       -- The test says so.
       pub room-for : true ≡ leb (used sum) (length ws)

@@ -1,131 +1,25 @@
--- What a book in form has; the words of a book before and behind one of its sections; what a call that edits the section has; and the book
--- once the section has other entries. Assumes nothing.
-use Prim.Native.Nat.{ℕ, _+_, _-_, _≤_, _<_}
+-- What a call that edits a section of a book has, and the book once the section has other entries. Assumes nothing.
+use Prim.Native.Nat.{ℕ, _+_, _-_, _≤_}
 use mathlib.Core.Path.{_≡_, refl, sym, ap, _∙_}
 use mathlib.Core.Bool.{true}
-use mathlib.Core.List.{List, [], _∷_, _++_, append-assoc, append-nil}
+use mathlib.Core.List.{List, _++_, append-assoc}
 use native.Mathlib.Omega.{arith}
-use lib.ListN.{length, getD, set, take, drop, replicate, length-append, length-drop}
+use lib.ListN.{length, set, take, drop, replicate, length-append, length-drop}
 use lib.Seq.{take-at, drop-at}
-use Rattle.figures.specs.Limits.{head-words}
-use Rattle.section.specs.Entries.{Entry, sectionWords, entries, span, Even, Sorted}
+use Rattle.section.specs.Entries.{Entry, sectionWords, entries, span, Even}
 use Rattle.section.proofs.Words.{words-entries, words-span}
 use Rattle.changes.specs.Editing.{fitting, padded, relaid, Laid, Edited}
 use Rattle.changes.proofs.Adding.{entry-fitting}
 use Rattle.changes.specs.declared.Size.{Size}
-use Rattle.book.specs.Book.{Book, sectionOf, body, used, live, encode, lay, inForm}
+use Rattle.book.specs.Book.{Book, sectionOf, body, used, live, lay, inForm, withSection}
 use Rattle.book.specs.Decoding.{placesOf, startOf, slotOf}
 use Rattle.book.specs.declared.Section.{Section}
-use Rattle.book.specs.declared.Section.the-variants.{Taught, Tops, Lows, Middles}
-use Rattle.book.proofs.Meaning.{form-proper}
-use Rattle.book.proofs.Holding.{section-sorted}
 use Rattle.book.proofs.Sound.{form-sound, sound-section}
-use Rattle.amend.specs.Changing.{withSection}
+use Rattle.book.proofs.Around.{before, behind, headed, body-with, body-split, lay-headed, set-head, used-split, start-is, used-with}
 
--- ---- what a book in form has
-
-module _ (b : Book) (form : inForm b ≡ true) where
-  -- Its sections are sorted.
-  pub form-sorted : (s : Section) → Sorted (sectionOf s b)
-  form-sorted s = section-sorted s b (form-proper b form .section s)
-
-  -- Its counts are at most 65,535.
-  pub form-fitting : (s : Section) → fitting (sectionOf s b) ≡ true
-  form-fitting s = entry-fitting (sectionOf s b) (λ e m. sound-section b (form-sound b form) s .entry e m .few)
-
--- ---- before and behind a section
-
--- The words between the head and a section.
-unfoldable pub before : Section → Book → List ℕ
-before Taught b = []
-before Tops b = sectionWords (b .T)
-before Lows b = sectionWords (b .T) ++ sectionWords (b .R)
-before Middles b = sectionWords (b .T) ++ (sectionWords (b .R) ++ sectionWords (b .L))
-
--- The words of the sections behind a section.
-unfoldable pub behind : Section → Book → List ℕ
-behind Taught b = sectionWords (b .R) ++ (sectionWords (b .L) ++ sectionWords (b .P))
-behind Tops b = sectionWords (b .L) ++ sectionWords (b .P)
-behind Lows b = sectionWords (b .P)
-behind Middles b = []
-
--- A book's head, and words behind it.
-abbrev pub headed : Book → List ℕ → List ℕ
-headed b r = b .k ∷ used b ∷ live b ∷ length (b .T) ∷ length (b .R) ∷ length (b .L) ∷ length (b .P) ∷ r
-
--- With other entries in a section the words of the others are the same.
-pub body-with : (s : Section) (es : List Entry) (b : Book) → body (withSection s es b) ≡ before s b ++ (sectionWords es ++ behind s b)
-unfolding body withSection before behind
-body-with Taught es b = refl
-body-with Tops es b = refl
-body-with Lows es b = rw append-assoc
-body-with Middles es b = simp (append-assoc, append-nil)
-
--- With its own entries in a section a book is the same.
-same-section : (s : Section) (b : Book) → withSection s (sectionOf s b) b ≡ b
-unfolding withSection sectionOf
-same-section Taught b = refl
-same-section Tops b = refl
-same-section Lows b = refl
-same-section Middles b = refl
-
--- The words of the sections are those before a section, its own, and those behind it.
-pub body-split : (s : Section) (b : Book) → body b ≡ before s b ++ (sectionWords (sectionOf s b) ++ behind s b)
-body-split s b = ap body (sym (same-section s b)) ∙ body-with s (sectionOf s b) b
-
--- A section starts behind the head and the words before it.
-pub start-is : (s : Section) (b : Book) → startOf s (placesOf b) ≡ head-words + length (before s b)
-unfolding placesOf before
-start-is Taught b = refl
-start-is Tops b = refl
-start-is Lows b = simp length-append (omega arith)
-start-is Middles b = simp length-append (omega arith)
-
--- The words used with other entries in a section.
-pub used-with : (s : Section) (es : List Entry) (b : Book) → used (withSection s es b) ≡ head-words + (length (before s b) + (length (sectionWords es) + length (behind s b)))
-unfolding used
-used-with s es b = rw (body-with s es b) (simp length-append (omega arith))
-
--- The words used, by a section.
-pub used-split : (s : Section) (b : Book) → used b ≡ head-words + (length (before s b) + (length (sectionWords (sectionOf s b)) + length (behind s b)))
-used-split s b = ap used (sym (same-section s b)) ∙ used-with s (sectionOf s b) b
-
--- A book in a slice is its head, its sections and zeros.
-pub lay-headed : (n : ℕ) (b : Book) → lay n b ≡ headed b (body b ++ replicate (n - used b) 0)
-unfolding lay encode
-lay-headed n b = refl
-
--- The head's number of entries of a section.
-pub slot-read : (s : Section) (n : ℕ) (b : Book) → getD (lay n b) (slotOf s) 0 ≡ length (sectionOf s b)
-unfolding sectionOf
-slot-read Taught n b = rw (lay-headed n b)
-slot-read Tops n b = rw (lay-headed n b)
-slot-read Lows n b = rw (lay-headed n b)
-slot-read Middles n b = rw (lay-headed n b)
-
--- The head's number of live teachings.
-live-read : (n : ℕ) (b : Book) → getD (lay n b) 2 0 ≡ live b
-live-read n b = rw (lay-headed n b)
-
--- It is so of the words of any slice that the book fills.
-pub live-laid : (ws : List ℕ) (b : Book) → lay (length ws) b ≡ ws → getD ws 2 0 ≡ live b
-live-laid ws b e = ap (λ (l : List ℕ). getD l 2 0) (sym e) ∙ live-read (length ws) b
-
--- The head has the number of entries of each section.
-pub slot-small : (s : Section) → slotOf s < head-words
-slot-small Taught = omega arith
-slot-small Tops = omega arith
-slot-small Lows = omega arith
-slot-small Middles = omega arith
-
--- The head's words for what is used, what is live and a section's entries, once they are written.
-set-head : (s : Section) (es : List Entry) (b : Book) (r : List ℕ) (u v n : ℕ) → u ≡ used (withSection s es b) → v ≡ live (withSection s es b) → n ≡ length es
-    → set (set (set (headed b r) 1 u) 2 v) (slotOf s) n ≡ headed (withSection s es b) r
-unfolding withSection
-set-head Taught es b r u v n p q h = rw (p, q, h)
-set-head Tops es b r u v n p q h = rw (p, q, h)
-set-head Lows es b r u v n p q h = rw (p, q, h)
-set-head Middles es b r u v n p q h = rw (p, q, h)
+-- The counts of a book in form are at most 65,535.
+pub form-fitting : (b : Book) → inForm b ≡ true → (s : Section) → fitting (sectionOf s b) ≡ true
+form-fitting b form s = entry-fitting (sectionOf s b) (λ e m. sound-section b (form-sound b form) s .entry e m .few)
 
 -- ---- a section of a book in a slice
 

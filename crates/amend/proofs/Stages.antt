@@ -5,14 +5,14 @@ use mathlib.Core.Bool.{true}
 use mathlib.Core.List.{List}
 use lib.ListN.{length}
 use Rattle.figures.specs.Limits.{head-words, most-book-words}
-use Rattle.book.specs.Book.{Book, sectionOf, used, lay, inForm}
+use Rattle.book.specs.Book.{Book, sectionOf, used, lay, inForm, withSection}
 use Rattle.book.specs.Decoding.{bookIn, placesOf, startOf}
 use Rattle.book.specs.Holding.{Holds}
 use Rattle.book.specs.declared.Section.{Section}
 use Rattle.book.specs.declared.Section.the-variants.{Taught, Tops, Lows, Middles}
 use Rattle.book.specs.declared.Places.{Places}
 use Rattle.book.proofs.Meaning.{laid-read, lay-long, used-fits}
-use Rattle.amend.specs.Changing.{withSection, changedIn, Lacks, lackingEach, LacksEach, Stands, Ready}
+use Rattle.amend.specs.Changing.{changedIn, Lacks, lackingEach, LacksEach, Stands, Ready}
 use Rattle.amend.specs.declared.Change.{Change}
 use Rattle.amend.specs.declared.Change.the-variants.{Teach, Withdraw}
 use Rattle.amend.specs.declared.Lacking.{Lacking}
@@ -45,11 +45,6 @@ module _ (ws : List ℕ) (p : Places) (h : Holds ws p) where
   -- Its sections start where the places say.
   pub starts : (s : Section) → startOf s p ≡ startOf s (placesOf (bookIn ws))
   starts s = ap (startOf s) (h .places)
-
-  -- Its used words are those that the places say.
-  pub uses : p .used ≡ used (bookIn ws)
-  unfolding placesOf
-  uses = ap (λ (q : Places). q .used) (h .places)
 
   -- A section of it stands there.
   pub held-stands : (s : Section) → Stands ws s (startOf s p) (used (bookIn ws))

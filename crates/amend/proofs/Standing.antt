@@ -11,22 +11,15 @@ use Rattle.section.specs.Entries.{Entry, sectionWords, entries, span, Even, Sor
 use Rattle.changes.specs.Editing.{fitting, Laid, Edited}
 use Rattle.changes.specs.declared.Size.{Size}
 use Rattle.changes.proofs.Relaying.{length-size}
-use Rattle.book.specs.Book.{Book, sectionOf, used, live, lay}
+use Rattle.book.specs.Book.{sectionOf, used, live, lay, withSection}
 use Rattle.book.specs.Decoding.{bookIn, slotOf}
 use Rattle.book.specs.declared.Section.{Section}
-use Rattle.book.specs.declared.Section.the-variants.{Taught, Tops, Lows, Middles}
 use Rattle.book.proofs.Meaning.{form-proper, section-even, used-fits}
-use Rattle.amend.specs.Changing.{changed, withSection, changedIn, livesThen, LivesReady, Lacks, Stands, Ready}
+use Rattle.book.proofs.Sections.{form-sorted}
+use Rattle.book.proofs.Around.{start-is, used-with, used-split, slot-read, live-laid, section-with}
+use Rattle.amend.specs.Changing.{changed, changedIn, livesThen, LivesReady, Lacks, Stands, Ready}
 use Rattle.amend.specs.declared.Change.{Change}
-use Rattle.amend.proofs.Sections.{form-sorted, form-fitting, start-is, used-with, used-split, slot-read, live-laid, start-used, part-entries, part-span, part-laid, used-then, then-laid}
-
--- The section that is given other entries has them.
-section-with : (s : Section) (es : List Entry) (b : Book) → sectionOf s (withSection s es b) ≡ es
-unfolding withSection sectionOf
-section-with Taught es b = refl
-section-with Tops es b = refl
-section-with Lows es b = refl
-section-with Middles es b = refl
+use Rattle.amend.proofs.Sections.{form-fitting, start-used, part-entries, part-span, part-laid, used-then, then-laid}
 
 -- A section that stands in words.
 module _ (ws : List ℕ) (s : Section) (at uses : ℕ) (h : Stands ws s at uses) where

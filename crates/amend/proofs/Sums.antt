@@ -4,20 +4,15 @@ use Prim.Native.Nat.{ℕ, _+_, _≤_}
 use mathlib.Core.Path.{_≡_, refl, sym, ap, _∙_}
 use mathlib.Core.List.{List, []}
 use native.Mathlib.Omega.{arith}
-use Rattle.section.specs.Entries.{Entry, countOf, Sorted}
-use Rattle.section.proofs.Sorting.{same-counts}
+use Rattle.section.specs.Entries.{Entry, countOf}
 use Rattle.changes.specs.Editing.{addAll}
 use Rattle.changes.proofs.Adding.{sorted-add-all, count-add-all}
-use Rattle.book.specs.Book.{Book, sectionOf, used}
+use Rattle.book.specs.Book.{Book, sectionOf, used, withSection}
 use Rattle.book.specs.declared.Section.{Section}
-use Rattle.book.proofs.Sections.{same-books}
-use Rattle.amend.specs.Changing.{withSection, changedIn, changedBook}
+use Rattle.book.proofs.Sections.{same-books, InOrder, by-counts}
+use Rattle.amend.specs.Changing.{changedIn, changedBook}
 use Rattle.amend.specs.declared.Change.the-variants.{Teach}
 use Rattle.amend.proofs.Changed.{changed-section, used-changed}
-
--- Every section of a book is sorted.
-abbrev pub InOrder : Book → Type 0
-InOrder b = (s : Section) → Sorted (sectionOf s b)
 
 -- A book with another added to it.
 abbrev pub added : Book → Book → Book
@@ -35,10 +30,6 @@ added-counts o b s z = ap (countOf z) (changed-section Teach o b s) ∙ count-ad
 -- Its sections are sorted.
 pub added-sorted : (o b : Book) → InOrder o → InOrder b → InOrder (added o b)
 added-sorted o b p q s = rw (changed-section Teach o b s) (sorted-add-all (sectionOf s o) (sectionOf s b) (p s) (q s))
-
--- Two books of one k with sorted sections that count the same are the same.
-pub by-counts : (a b : Book) → InOrder a → InOrder b → a .k ≡ b .k → ((s : Section) (z : List ℕ) → countOf z (sectionOf s a) ≡ countOf z (sectionOf s b)) → a ≡ b
-by-counts a b p q k h = same-books a b k (λ s. same-counts (sectionOf s a) (sectionOf s b) (p s) (q s) (h s))
 
 -- It does not matter which of two books of one k is added to which.
 pub added-turns : (o b : Book) → InOrder o → InOrder b → o .k ≡ b .k → added o b ≡ added b o

@@ -1,6 +1,6 @@
 -- What a call that weighs one book against another has of a section of each, and how much the words that are lacking can come to. Assumes
 -- nothing.
-use Prim.Native.Nat.{ℕ, _+_, _-_, _≤_, _<_}
+use Prim.Native.Nat.{ℕ, _+_, _-_, _≤_}
 use mathlib.Core.Path.{_≡_, refl}
 use mathlib.Core.Bool.{Bool, true, false}
 use mathlib.Core.List.{List, [], _∷_}
@@ -19,36 +19,25 @@ use Rattle.book.specs.Holding.{Holds}
 use Rattle.book.specs.declared.Section.{Section}
 use Rattle.book.specs.declared.Section.the-variants.{Taught, Tops, Lows, Middles}
 use Rattle.book.specs.declared.Places.{Places}
+use Rattle.book.proofs.Holding.{start-within, ends-within}
 use Rattle.amend.specs.Changing.{weighedIn, lackingParts, lackingAll, lackingEach, overfullAny, weighedBook}
 use Rattle.amend.specs.declared.Lacking.{Lacking}
 use Rattle.amend.specs.declared.BookWeighed.{BookWeighed}
-use Rattle.amend.proofs.Sections.{form-fitting, slot-small}
+use Rattle.amend.proofs.Sections.{form-fitting}
 
 -- The words are lent from `from` on.
 abbrev pub lent : List ℕ → ℕ → List ℕ
 lent ws from = take (length ws - from) (drop from ws)
 
--- The number of a section's entries stands within the words of a book in form.
-pub slot-within : (ws : List ℕ) (p : Places) (h : Holds ws p) (s : Section) (word : ℕ) → word ≡ slotOf s → word < length ws
-slot-within ws p h s word e = omega (arith, slot-small s, h .long)
-
 -- The words are a book in form, one section of which starts at `at`, and whose number of entries is word `word` of the head.
 module _ (ws : List ℕ) (p : Places) (h : Holds ws p) (s : Section) (at word : ℕ) (starts : at ≡ startOf s p) (slot : word ≡ slotOf s) where
-  -- The section ends within the words.
-  pub ends-within : at + span (getD ws word 0) (drop at ws) ≤ length ws
-  ends-within = rw (starts, slot) (h .section s .within)
-
-  -- The section starts within the words.
-  pub start-within : at ≤ length ws
-  start-within = omega (arith, ends-within)
-
   -- The part from the section's start on has room for its entries.
   pub lent-within : span (getD ws word 0) (lent ws at) ≤ length (lent ws at)
-  lent-within = rw (tail-all at ws start-within) (simp length-drop (omega (arith, ends-within)))
+  lent-within = rw (tail-all at ws (start-within ws p h s at word starts slot)) (simp length-drop (omega (arith, ends-within ws p h s at word starts slot)))
 
   -- The part from the section's start on has its entries in front.
   pub lent-are : entries (getD ws word 0) (lent ws at) ≡ sectionOf s (bookIn ws)
-  lent-are = rw (tail-all at ws start-within, starts, slot) (h .section s .are)
+  lent-are = rw (tail-all at ws (start-within ws p h s at word starts slot), starts, slot) (h .section s .are)
 
   -- These are sorted.
   pub lent-sorted : Sorted (entries (getD ws word 0) (lent ws at))

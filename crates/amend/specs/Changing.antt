@@ -10,7 +10,7 @@ use Rattle.figures.specs.Limits.{head-words, most-book-words, greatest-count}
 use Rattle.section.specs.Entries.{Entry}
 use Rattle.changes.specs.Editing.{addAll, lowerAll, lackingWords, overfull, weighed}
 use Rattle.changes.specs.declared.Weighed.{Weighed}
-use Rattle.book.specs.Book.{Book, sectionOf, used, live, lay, inForm}
+use Rattle.book.specs.Book.{Book, sectionOf, used, live, lay, inForm, withSection}
 use Rattle.book.specs.Decoding.{bookIn, placesOf, startOf}
 use Rattle.book.specs.declared.Section.{Section}
 use Rattle.book.specs.declared.Section.the-variants.{Taught, Tops, Lows, Middles}
@@ -23,13 +23,6 @@ use Rattle.amend.specs.declared.BookWeighed.{BookWeighed}
 abbrev pub changed : Change → List Entry → List Entry → List Entry
 changed Teach os es = addAll os es
 changed Withdraw os es = lowerAll os es
-
--- The book with other entries in one section.
-unfoldable pub withSection : Section → List Entry → Book → Book
-withSection Taught es b = record { k = b .k; T = es; R = b .R; L = b .L; P = b .P }
-withSection Tops es b = record { k = b .k; T = b .T; R = es; L = b .L; P = b .P }
-withSection Lows es b = record { k = b .k; T = b .T; R = b .R; L = es; P = b .P }
-withSection Middles es b = record { k = b .k; T = b .T; R = b .R; L = b .L; P = es }
 
 -- One section of the book, changed by the same section of another.
 unfoldable pub changedIn : Change → Section → Book → Book → Book

@@ -1,17 +1,19 @@
 -- What a caller of `look::in_form` has where the words are a book in form, and what a call does where they are one and where they are not.
 -- Assumes nothing.
-use Prim.Native.Nat.{ℕ, _≤_}
+use Prim.Native.Nat.{ℕ, _+_, _<_, _≤_}
 use mathlib.Core.Path.{_≡_, refl, sym, ap, _∙_}
 use mathlib.Core.Bool.{Bool, true, false}
 use mathlib.Core.List.{List, [], _∷_, List·Memᴰ·head as here, List·Memᴰ·tail as there, List·Memᴰ·not-nil}
 use native.Mathlib.Omega.{arith}
 use borrow.Author.Tests.{leb-true}
+use lib.ListN.{length, getD, drop}
 use Rattle.words.specs.Base.{if_then_else_, _∈_}
 use Rattle.words.proofs.Ordered.{before-lower, lower-before}
 use Rattle.words.proofs.Tests.{and-left, and-right, and-both}
-use Rattle.section.specs.Entries.{Entry, Below, Sorted}
-use Rattle.book.specs.Book.{Book, sectionOf, shallowest, deepest, entryInForm, ascendingFrom, sectionInForm}
-use Rattle.book.specs.Decoding.{lowsAt, middlesAt, endAt, bookIn, formed, decode, sized, onBook, bookFormOf}
+use Rattle.figures.specs.Limits.{head-words, least-k, greatest-k}
+use Rattle.section.specs.Entries.{Entry, span, Below, Sorted}
+use Rattle.book.specs.Book.{Book, sectionOf, used, shallowest, deepest, entryInForm, ascendingFrom, sectionInForm}
+use Rattle.book.specs.Decoding.{lowsAt, middlesAt, endAt, bookIn, formed, decode, sized, onBook, placesOf, startOf, slotOf, bookFormOf}
 use Rattle.book.specs.Holding.{Holds}
 use Rattle.book.specs.declared.Section.{Section}
 use Rattle.book.specs.declared.Section.the-variants.{Taught, Tops, Lows, Middles}
@@ -126,3 +128,40 @@ module _ (ws : List ℕ) where
       go true z true g = not-refused (sym e ∙ form-formed ws z g)
       go true z false g = on-unformed r ws f z g ∙ ap r (number (sym (form-unformed ws z g) ∙ e))
       go false z b g = on-unsized r ws f z ∙ ap r (number (sym (form-unsized ws z) ∙ e))
+
+-- ---- what a caller has then
+
+-- The head has the number of entries of each section.
+pub slot-small : (s : Section) → slotOf s < head-words
+slot-small Taught = omega arith
+slot-small Tops = omega arith
+slot-small Lows = omega arith
+slot-small Middles = omega arith
+
+module _ (ws : List ℕ) (p : Places) (h : Holds ws p) where
+  -- k is 2 to 6.
+  pub allowed : (least-k ≤ p .k .k) × (p .k .k ≤ greatest-k)
+  allowed = (omega (arith, h .depth, h .least), omega (arith, h .depth, h .greatest))
+
+  -- The words used are those that the places say.
+  pub uses : p .used ≡ used (bookIn ws)
+  unfolding placesOf
+  uses = ap (λ (q : Places). q .used) (h .places)
+
+  -- They have room.
+  pub used-room : p .used ≤ length ws
+  used-room = omega (arith, uses, used-fits ws (bookIn ws) (h .laid))
+
+  -- The number of a section's entries stands within the words.
+  pub slot-within : (s : Section) (word : ℕ) → word ≡ slotOf s → word < length ws
+  slot-within s word e = omega (arith, slot-small s, h .long)
+
+  -- One section starts at `at`, and its number of entries is word `word` of the head.
+  module _ (s : Section) (at word : ℕ) (starts : at ≡ startOf s p) (slot : word ≡ slotOf s) where
+    -- The section ends within the words.
+    pub ends-within : at + span (getD ws word 0) (drop at ws) ≤ length ws
+    ends-within = rw (starts, slot) (h .section s .within)
+
+    -- The section starts within the words.
+    pub start-within : at ≤ length ws
+    start-within = omega (arith, ends-within)

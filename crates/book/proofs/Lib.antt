@@ -8,5 +8,8 @@ pub mod Holding
 pub mod Openings
 pub mod Sound
 pub mod Sections
+pub mod Around
 pub mod Taught
+pub mod Teachings
+pub mod Agreeing
 pub mod Checking

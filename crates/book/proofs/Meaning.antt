@@ -10,7 +10,7 @@ use borrow.Author.Tests.{le-leb, leb-true, eq-eqb, eqb-true}
 use lib.ListN.{length, getD, drop, replicate, length-append, length-drop, length-replicate}
 use lib.Seq.{drop-drop, drop-append-seam}
 use Rattle.words.specs.Base.{_and_, if_then_else_, within, sameWords}
-use Rattle.words.proofs.Tests.{and-left, and-right, and-both, same-words, words-same}
+use Rattle.words.proofs.Tests.{and-left, and-right, and-both, same-words, words-same, either}
 use Rattle.figures.specs.Limits.{head-words, least-k, greatest-k, greatest-count}
 use Rattle.trees.proofs.Fitting.{fits-even}
 use Rattle.section.specs.Entries.{Entry, firstEntry, entries, width, span, sectionWords, total, Even}
@@ -353,12 +353,6 @@ pub laid-read : (n : ℕ) (b : Book) → inForm b ≡ true → bookIn (lay n b) 
 laid-read n b f = let p = form-proper b f in ap bookIn (is-x n b p) ∙ book-read n b p
 
 -- ---- the tests of a pass are the definition
-
--- Two tests of which each passes where the other does are the same.
-pub either : (a b : Bool) → (a ≡ true → b ≡ true) → (b ≡ true → a ≡ true) → a ≡ b
-either true b f g = sym (f refl)
-either false true f g = g refl
-either false false f g = refl
 
 -- The tests of a pass decide whether the words are a book in form.
 pub formed-passes : (ws : List ℕ) → formed ws ≡ passes ws

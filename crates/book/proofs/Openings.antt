@@ -1,13 +1,14 @@
--- The words of an opened book, and that it is in form; and what `openOf` is, case by case, as the code meets the cases. Assumes nothing.
+-- The words of an opened book, and that it is in form; and what `openOf` is, case by case, as the code meets the cases; and what is
+-- known of any outcome. Assumes nothing.
 use Prim.Native.Nat.{ℕ, suc, _-_, _≤_}
-use mathlib.Core.Path.{_≡_, refl, ap}
+use mathlib.Core.Path.{_≡_, refl, ap, sym, _∙_, ap₂}
 use mathlib.Core.Bool.{true, false}
 use mathlib.Core.List.{List, [], _∷_}
 use native.Mathlib.Omega.{arith}
 use borrow.Author.Tests.{le-leb}
 use lib.ListN.{length, replicate, set}
 use Rattle.words.specs.Base.{if_then_else_, within}
-use Rattle.words.proofs.Tests.{and-both}
+use Rattle.words.proofs.Tests.{and-both, either-way}
 use Rattle.figures.specs.Limits.{head-words, most-book-words, least-k, greatest-k}
 use Rattle.figures.specs.Numbers.{done, k-outside, book-size}
 use Rattle.figures.specs.Answers.{answered}
@@ -16,7 +17,7 @@ use Rattle.section.specs.Entries.{sectionWords, total}
 use Rattle.book.specs.Book.{sectionOf, body, used, live, encode, lay, ascendingFrom, sectionInForm, inForm}
 use Rattle.book.specs.Decoding.{sized}
 use Rattle.book.specs.Taught.{bookOf}
-use Rattle.book.specs.Opening.{outcome, openOf}
+use Rattle.book.specs.Opening.{outcome, openOf, Outcome}
 use Rattle.book.specs.declared.Section.{Section}
 use Rattle.book.specs.declared.Section.the-variants.{Taught, Tops, Lows, Middles}
 use Rattle.book.specs.Sound.{IsBook}
@@ -97,3 +98,34 @@ module _ (ws : List ℕ) (k : ℕ) (l : head-words ≤ length ws) (s : length ws
         sound = form-sound (bookOf k []) (opened-formed k a z);
         laid = ap (λ (m : ℕ). lay m (bookOf k [])) n;
       })
+
+-- ---- outcomes
+
+-- An outcome that is known has its number.
+pub number-is : {o p : Outcome} → o ≡ p → o .answer .number ≡ p .answer .number
+number-is e = ap (λ (o : Outcome). o .answer .number) e
+
+-- Two numbers of one outcome are the same.
+pub one-number : {o p : Outcome} {n : ℕ} → o ≡ p → o .answer .number ≡ n → p .answer .number ≡ n
+one-number e f = sym (number-is e) ∙ f
+
+-- An outcome that is known has its words.
+pub words-are : {o p : Outcome} → o ≡ p → o .words ≡ p .words
+words-are e = ap (λ (o : Outcome). o .words) e
+
+-- An answer of a number and line 0, with the words then.
+pub told : (ws : List ℕ) (a : Answer) (n : ℕ) → a ≡ answered n → outcome a ws ≡ outcome (answered n) ws
+told ws a n e = ap (λ (x : Answer). outcome x ws) e
+
+-- An outcome of line 0 is its number and its words.
+pub outcome-is : (o : Outcome) (n : ℕ) (vs : List ℕ) → o .answer .number ≡ n → o .answer .line ≡ 0 → o .words ≡ vs → o ≡ outcome (answered n) vs
+outcome-is o n vs e l w = ap₂ outcome (ap₂ (λ (m i : ℕ). record { number = m; line = i }) e l) w
+
+-- The line of an outcome is 0.
+abbrev pub no-line : Outcome → Type 0
+no-line o = o .answer .line ≡ 0
+
+-- Opening: line 0.
+pub open-line : (ws : List ℕ) (k : ℕ) → openOf ws k .answer .line ≡ 0
+unfolding openOf
+open-line ws k = either-way no-line (sized ws) _ _ (either-way no-line (within least-k greatest-k k) _ _ refl refl) refl

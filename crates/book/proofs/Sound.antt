@@ -1,7 +1,7 @@
 -- The definitions of specs/Sound.antt say the same as the tests of `inForm`, `decode` and `bookFormOf`; and what a book's words say, one by one.
 -- Assumes nothing.
 use Prim.Native.Nat.{ℕ, _+_, _-_, _/_, _≤_, _<_}
-use mathlib.Core.Path.{_≡_, refl, sym, ap, ap₂, _∙_}
+use mathlib.Core.Path.{_≡_, refl, sym, ap, ap₂, _∙_, subst}
 use mathlib.Core.Bool.{Bool, true, false}
 use mathlib.Core.List.{List, [], _∷_, _++_, List·Memᴰ·head as here, List·Memᴰ·tail as there}
 use mathlib.Core.Option.{none, some}
@@ -28,9 +28,9 @@ use Rattle.book.specs.declared.Section.{Section}
 use Rattle.book.specs.declared.Section.the-variants.{Taught, Tops, Lows, Middles}
 use Rattle.book.specs.declared.BookForm.{BookForm}
 use Rattle.book.specs.declared.BookForm.the-variants.{Refused, InForm}
-use Rattle.book.proofs.Meaning.{form-proper, proper-form, decoded, laid-decoded, one-book, no-book}
+use Rattle.book.proofs.Meaning.{form-proper, proper-form, decoded, laid-decoded, one-book, no-book, used-is, lay-long}
 use Rattle.book.proofs.Heads.{too-short, too-long, is-sized, form-unsized, form-unformed}
-use Rattle.book.proofs.Holding.{ascending-sorted, ascending-entry, sorted-ascending}
+use Rattle.book.proofs.Holding.{holds, ascending-sorted, ascending-entry, sorted-ascending, refused-book}
 
 -- ---- entries
 
@@ -213,6 +213,35 @@ module _ (ws : List ℕ) where
   why-only f (longer e h) = form-unsized ws (too-long ws h) ∙ sym e
   why-only f (formless e l s n) = form-unformed ws (is-sized ws l s) (no-book-unformed l s n) ∙ sym e
   why-only f (book b e i) = form-of b i ∙ sym e
+
+-- ---- a book laid in a slice
+
+module _ (n : ℕ) (b : Book) (form : inForm b ≡ true) (fits : used b ≤ n) (short : n ≤ most-book-words) where
+  -- The words are the book's.
+  pub laid-book : IsBook (lay n b) b
+  laid-book =
+      let e : length (lay n b) ≡ n = lay-long n b fits in
+      record { long = omega (arith, used-is b); short = omega arith; sound = form-sound b form; laid = ap (λ (m : ℕ). lay m b) e }
+
+  -- They hold it, and its sections start where it says.
+  pub laid-holds : Holds (lay n b) (placesOf b)
+  laid-holds = holds (lay n b) (placesOf b) (why-only (lay n b) (InForm (placesOf b)) (book b refl laid-book))
+
+-- What holds of every refusal and of what follows a book holds of what follows any words.
+pub by-book : {A : Type 0} (P : A → Type 0) (ws : List ℕ) (r : ℕ → A) (f : Book → A) → ((n : ℕ) → P (r n))
+    → ((b : Book) → IsBook ws b → P (f b)) → P (onBook r ws f)
+by-book P ws r f p q = go (why-is ws)
+  where
+    -- Words that are refused.
+    no-book : (n : ℕ) → bookFormOf ws ≡ Refused n → P (onBook r ws f)
+    no-book n e = subst P (sym (refused-book ws n e r f)) (p n)
+
+    -- By what the words are.
+    go : WhyForm ws (bookFormOf ws) → P (onBook r ws f)
+    go (shorter e l) = no-book _ e
+    go (longer e l) = no-book _ e
+    go (formless e l m n) = no-book _ e
+    go (book b e i) = subst P (sym (on-any ws b i r f)) (q b i)
 
 -- ---- what the words say
 

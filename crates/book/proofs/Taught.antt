@@ -6,26 +6,24 @@ use mathlib.Core.List.{List, [], _∷_, List·Memᴰ·head as here, List·Memᴰ
 use native.Mathlib.Omega.{arith}
 use borrow.Author.Tests.{eq-eqb, eqb-true}
 use Rattle.words.specs.Base.{if_then_else_, _∈_}
-use Rattle.words.specs.Compare.{compareOf}
-use Rattle.words.specs.declared.Compared.{Compared}
-use Rattle.words.specs.declared.Compared.the-variants.{Lower, Equal, Higher}
 use Rattle.words.proofs.Tests.{no-test, and-left, and-right, and-both, same-words, words-same}
 use Rattle.figures.specs.Limits.{greatest-depth, least-k, greatest-k, greatest-count}
 use Rattle.trees.specs.Trees.{Tree, words}
 use Rattle.trees.specs.Parts.{top, sameTree, lowParts, middleParts}
 use Rattle.trees.specs.Fits.{Fits}
 use Rattle.trees.proofs.Unique.{same-tree, tree-same}
-use Rattle.trees.proofs.Once.{NoRepeats, once-no-repeats}
+use Rattle.trees.proofs.Once.{NoRepeats, lows-once, middles-once}
 use Rattle.trees.proofs.Fitting.{top-fits, low-fits, middle-fits}
-use Rattle.section.specs.Entries.{Entry, counted, countsFor, countOf, total, Sorted, byCompared, add}
+use Rattle.section.specs.Entries.{Entry, counted, countsFor, countOf, total, Sorted, add}
 use Rattle.section.proofs.Counts.{count-add, total-add, entry-count}
-use Rattle.section.proofs.Sorting.{sorted-add}
+use Rattle.section.proofs.Sorting.{sorted-add, sorted-some, add-keys}
 use Rattle.book.specs.Book.{sectionOf, shallowest, deepest, live, inForm}
 use Rattle.book.specs.Sound.{SoundSection}
 use Rattle.book.specs.Taught.{Teaching, addEach, taught, bookOf, teachings, anyTree, sameSection}
 use Rattle.book.specs.declared.Section.{Section}
 use Rattle.book.specs.declared.Section.the-variants.{Taught, Tops, Lows, Middles}
-use Rattle.book.proofs.Sound.{sorted-next, sound-form}
+use Rattle.book.proofs.Sound.{sorted-next}
+use Rattle.book.proofs.Sections.{sections-form}
 
 -- ---- some tree of a list
 
@@ -74,16 +72,6 @@ count-each n u (t ∷ ts) es r = rw (count-add n (words t) (words u) (addEach n 
     go : (b : Bool) → sameTree t u ≡ b → (if b then n else 0) + ((if anyTree u ts then n else 0) + countOf (words u) es) ≡ (if (if b then true else anyTree u ts) then n else 0) + countOf (words u) es
     go true e = rw (lacks-any u ts (λ m. r .0 (rw (tree-same t u e) m))) (omega arith)
     go false e = omega arith
-
--- The low parts of an order have no repeats.
-pub lows-once : (k : ℕ) (t : Tree) → NoRepeats (lowParts k t)
-unfolding lowParts
-lows-once k t = once-no-repeats _
-
--- The middle parts of an order have no repeats.
-pub middles-once : (k : ℕ) (t : Tree) → NoRepeats (middleParts k t)
-unfolding middleParts
-middles-once k t = once-no-repeats _
 
 -- The book of orders taught at k has this k.
 pub taught-k : (k : ℕ) (os : List Teaching) → bookOf k os .k ≡ k
@@ -141,21 +129,6 @@ taught-sorted k (o ∷ os) live Middles = sorted-each _ _ _ (live o (here refl))
 
 -- ---- in form
 
--- An add keeps what holds of the keys.
-pub add-keys : (P : List ℕ → Type 0) (n : ℕ) (x : List ℕ) (es : List Entry) → P x → ((e : Entry) → e ∈ es → P (e .key)) → (e : Entry) → e ∈ add n x es → P (e .key)
-unfolding add
-add-keys P n x [] p h e (here q) = rw q p
-add-keys P n x [] p h e (there m) = h e m
-add-keys P n x (f ∷ es) p h e m = go (compareOf (f .key) x) m (add-keys P n x es p (λ g i. h g (there i)) e)
-  where
-    go : (o : Compared) → e ∈ byCompared o (f ∷ add n x es) (counted (f .key) (f .count + n) ∷ es) (counted x n ∷ f ∷ es) → (e ∈ add n x es → P (e .key)) → P (e .key)
-    go Lower (here q) later = rw q (h f (here refl))
-    go Lower (there i) later = later i
-    go Equal (here q) later = rw q (h f (here refl))
-    go Equal (there i) later = h e (there i)
-    go Higher (here q) later = rw q p
-    go Higher (there i) later = h e i
-
 -- Adds of each tree keep it if it holds of their words.
 pub each-keys : (P : List ℕ → Type 0) (n : ℕ) (ts : List Tree) (es : List Entry) → ((t : Tree) → t ∈ ts → P (words t)) → ((e : Entry) → e ∈ es → P (e .key))
     → (e : Entry) → e ∈ addEach n ts es → P (e .key)
@@ -193,13 +166,6 @@ teachings-most test k (o ∷ os) = go (test (o .order)) (teachings-most test k o
     go true h = omega (arith, total-add (o .times) (words (o .order)) (bookOf k os .T))
     go false h = omega (arith, total-add (o .times) (words (o .order)) (bookOf k os .T))
 
--- An entry of a sorted section counts.
-pub sorted-some : (es : List Entry) → Sorted es → (e : Entry) → e ∈ es → 1 ≤ e .count
-unfolding Sorted
-sorted-some [] s e m = absurd (List·Memᴰ·not-nil m)
-sorted-some (x ∷ es) s e (here q) = rw q (s .0)
-sorted-some (x ∷ es) s e (there m) = sorted-some es (s .2) e m
-
 module _ (k : ℕ) (os : List Teaching) where
   -- A tree counts in no section more than there are live teachings.
   count-live : (s : Section) (u : Tree) → countOf (words u) (sectionOf s (bookOf k os)) ≤ live (bookOf k os)
@@ -211,8 +177,8 @@ module _ (k : ℕ) (os : List Teaching) where
 
   module _ (times : (o : Teaching) → o ∈ os → 1 ≤ o .times) (fits : (o : Teaching) → o ∈ os → Fits 0 greatest-depth (words (o .order))) (few : live (bookOf k os) ≤ greatest-count) where
     -- Each section of the book of orders within the limits is sound.
-    taught-section : (s : Section) → SoundSection (shallowest s k) (deepest s k) (sectionOf s (bookOf k os))
-    taught-section s =
+    sound : (s : Section) → SoundSection (shallowest s k) (deepest s k) (sectionOf s (bookOf k os))
+    sound s =
         let sorted = taught-sorted k os times s in
         record {
           entry = λ e m.
@@ -227,17 +193,7 @@ module _ (k : ℕ) (os : List Teaching) where
 
     -- The book of orders within the limits, few enough of them live, is in form.
     pub taught-formed : least-k ≤ k → k ≤ greatest-k → inForm (bookOf k os) ≡ true
-    unfolding sectionOf
-    taught-formed least greatest =
-        sound-form (bookOf k os) (record {
-          least = rw (taught-k k os) least;
-          greatest = rw (taught-k k os) greatest;
-          few = few;
-          taught = taught-section Taught;
-          tops = rw (taught-k k os) (taught-section Tops);
-          lows = rw (taught-k k os) (taught-section Lows);
-          middles = rw (taught-k k os) (taught-section Middles);
-        })
+    taught-formed least greatest = sections-form k (bookOf k os) (taught-k k os) least greatest few sound
 
 -- ---- the empty book
 

@@ -27,6 +27,13 @@ sectionOf Tops b = b .R
 sectionOf Lows b = b .L
 sectionOf Middles b = b .P
 
+-- The book with other entries in one section.
+unfoldable pub withSection : Section → List Entry → Book → Book
+withSection Taught es b = record { k = b .k; T = es; R = b .R; L = b .L; P = b .P }
+withSection Tops es b = record { k = b .k; T = b .T; R = es; L = b .L; P = b .P }
+withSection Lows es b = record { k = b .k; T = b .T; R = b .R; L = es; P = b .P }
+withSection Middles es b = record { k = b .k; T = b .T; R = b .R; L = b .L; P = es }
+
 -- ---- its words
 
 -- The words of the four sections, one behind the other.

@@ -9,6 +9,8 @@ use Rattle.trees.specs.Trees.{Tree, words}
 use Rattle.trees.specs.Reading.{byFound, treeOf}
 use Rattle.trees.specs.Parts.{top, sameTree, lowParts, middleParts}
 use Rattle.book.specs.Book.{Book}
+use Rattle.book.specs.declared.Section.{Section}
+use Rattle.book.specs.declared.Section.the-variants.{Taught, Tops, Lows, Middles}
 
 -- An order and how many of its teachings are live, at least 1.
 pub record Teaching : Type 0 where
@@ -48,6 +50,17 @@ teachings test (o ∷ os) = (if test (o .order) then o .times else 0) + teaching
 unfoldable pub anyTree : Tree → List Tree → Bool
 anyTree u [] = false
 anyTree u (t ∷ ts) = if sameTree t u then true else anyTree u ts
+
+-- The trees that a teaching of an order counts in a section: the order, its top, its low parts, its middle parts.
+abbrev pub treesIn : Section → ℕ → Tree → List Tree
+treesIn Taught k t = t ∷ []
+treesIn Tops k t = top k t ∷ []
+treesIn Lows k t = lowParts k t
+treesIn Middles k t = middleParts k t
+
+-- How often n teachings of an order count a tree in a section, each once.
+unfoldable pub timesIn : Section → ℕ → ℕ → Tree → Tree → ℕ
+timesIn s k n t u = if anyTree u (treesIn s k t) then n else 0
 
 -- The teachings that a section T counts.
 unfoldable pub teachingsIn : List Entry → List Teaching

@@ -17,7 +17,7 @@ use Rattle.figures.specs.Limits.{greatest-count}
 use Rattle.section.specs.Entries.{Entry, counted, sectionWords, entries, countOf, total, Below, Sorted, add}
 use Rattle.changes.specs.Editing.{addAll, fitting, firstAgainst}
 use Rattle.section.proofs.Counts.{below-trans, count-add, total-add}
-use Rattle.section.proofs.Sorting.{below-add, sorted-add}
+use Rattle.section.proofs.Sorting.{below-add, sorted-add, add-below}
 use Rattle.section.proofs.Sizes.{size-grows}
 
 -- ---- how a first entry stands to a key
@@ -67,12 +67,6 @@ below-add-all y [] es s h k = k
 below-add-all y (o ∷ os) es s h k = below-add y (o .count) (o .key) (addAll os es) h (below-add-all y os es (s .2) (below-trans y (o .key) os h (s .1)) k)
 
 -- ---- one turn
-
--- A key below a section is entered in front of it.
-pub add-below : (n : ℕ) (x : List ℕ) (es : List Entry) → Below x es → add n x es ≡ counted x n ∷ es
-unfolding add Below
-add-below n x [] h = refl
-add-below n x (e ∷ es) h = let c : compareOf (e .key) x ≡ Higher = compare-flip x (e .key) ∙ rw h in rw c
 
 -- An entry below all that is added stays as it is.
 pub add-all-past : (os : List Entry) (e : Entry) (es : List Entry) → Sorted os → Below (e .key) os → addAll os (e ∷ es) ≡ e ∷ addAll os es

@@ -16,8 +16,7 @@ use Rattle.section.specs.declared.Found.the-variants.{At, Absent}
 use Rattle.section.proofs.Counts.{has-add}
 use Rattle.section.proofs.Searches.{look-gap}
 use Rattle.section.proofs.Near.{there-told}
-use Rattle.section.proofs.Sorting.{sorted-add}
-use Rattle.changes.proofs.Adding.{add-below}
+use Rattle.section.proofs.Sorting.{sorted-add, add-below}
 use Rattle.changes.proofs.Relaying.{Reached, behind, first-words, reached-few, reached-none, reached-over, reached-enter, reached-edited}
 
 -- ---- entries

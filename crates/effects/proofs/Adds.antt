@@ -8,71 +8,40 @@ use native.Mathlib.Omega.{arith}
 use lib.Dec.{leb}
 use borrow.Author.Tests.{le-leb, lt-leb}
 use Rattle.words.specs.Base.{_and_, if_then_else_, sameWords, _∈_}
-use Rattle.words.proofs.Tests.{and-left, and-right, and-both, fails-left, fails-right, same-words, words-same}
+use Rattle.words.proofs.Tests.{and-left, and-right, and-both, fails-left, fails-right, same-words, not-any, fails-some}
 use Rattle.figures.specs.Limits.{greatest-count}
 use Rattle.trees.specs.Trees.{Tree, words}
 use Rattle.trees.specs.Parts.{top, lowParts, middleParts}
 use Rattle.trees.proofs.Once.{NoRepeats}
 use Rattle.section.specs.Entries.{Entry, has, countOf, Sorted}
 use Rattle.changes.specs.Editing.{addAll, lowerAll, fitting, lackingWords, overfull}
-use Rattle.section.proofs.Counts.{counts-own, counts-other, count-add, count-lower, total-add, total-lower, has-add, has-entry, has-counts, lacks-counts}
+use Rattle.section.proofs.Counts.{count-add, count-lower, total-lower, has-add, has-entry}
 use Rattle.section.proofs.Sorting.{sorted-lower, same-counts}
 use Rattle.changes.proofs.Adding.{sorted-add-all, count-add-all}
 use Rattle.changes.proofs.Lowering.{sorted-lower-all, count-lower-all}
 use Rattle.changes.proofs.Weighing.{lacking-none, none-lacking, overfull-fitting}
-use Rattle.book.specs.Book.{Book, sectionOf, used, live, inForm}
-use Rattle.book.specs.Taught.{addEach, taught, bookOf}
+use Rattle.book.specs.Book.{Book, sectionOf, used, live, inForm, withSection}
+use Rattle.book.specs.Taught.{addEach, taught, bookOf, treesIn}
 use Rattle.book.specs.declared.Section.{Section}
 use Rattle.book.specs.declared.Section.the-variants.{Taught, Tops, Lows, Middles}
-use Rattle.book.proofs.Sections.{each-section, same-books}
-use Rattle.book.proofs.Taught.{lacks-any, count-each, lows-once, middles-once, sorted-each, each-keys}
-use Rattle.effects.specs.Calls.{lowerEach, withdrawn, hasEach, hasParts, treesIn}
+use Rattle.book.proofs.Sections.{each-section, same-books, form-sorted, InOrder}
+use Rattle.book.proofs.Taught.{sorted-each, each-keys}
+use Rattle.book.proofs.Teachings.{each-count, each-sorted, own-section, taught-section, trees-once, live-taught, count-each-apart}
+use Rattle.effects.specs.Calls.{lowerEach, withdrawn, hasEach, hasParts}
 use Rattle.own.specs.Own.{ownBook}
 use Rattle.amend.specs.Counts.{withinCounts}
-use Rattle.amend.specs.Changing.{withSection, changedIn, changedBook, lackingParts, lackingAll, overfullAny}
+use Rattle.amend.specs.Changing.{changedIn, changedBook, lackingParts, lackingAll, overfullAny}
 use Rattle.amend.specs.declared.Change.the-variants.{Teach, Withdraw}
-use Rattle.amend.proofs.Sections.{form-sorted, form-fitting}
+use Rattle.amend.proofs.Sections.{form-fitting}
 use Rattle.amend.proofs.Changed.{changed-section, used-changed}
-use Rattle.amend.proofs.Sums.{InOrder, added, added-k, added-sorted, added-groups}
-
--- ---- the sections, one by one
-
--- A section after n teachings of an order.
-pub taught-section : (n : ℕ) (t : Tree) (b : Book) (s : Section) → sectionOf s (taught n t b) ≡ addEach n (treesIn s (b .k) t) (sectionOf s b)
-unfolding sectionOf taught addEach
-taught-section n t b = each-section _ refl refl refl refl
+use Rattle.amend.proofs.Sums.{added, added-k, added-sorted, added-groups}
 
 -- A section once an order is withdrawn.
 pub withdrawn-section : (t : Tree) (b : Book) (s : Section) → sectionOf s (withdrawn t b) ≡ lowerEach (treesIn s (b .k) t) (sectionOf s b)
 unfolding sectionOf withdrawn lowerEach
 withdrawn-section t b = each-section _ refl refl refl refl
 
--- A section of the book of n teachings of one order.
-pub own-section : (n k : ℕ) (t : Tree) (s : Section) → sectionOf s (bookOf k (record { order = t; times = n } ∷ [])) ≡ addEach n (treesIn s k t) []
-unfolding sectionOf bookOf taught addEach
-own-section n k t = each-section _ refl refl refl refl
-
--- A teaching counts each tree of a section once.
-pub trees-once : (k : ℕ) (t : Tree) (s : Section) → NoRepeats (treesIn s k t)
-unfolding NoRepeats
-trees-once k t Taught = (List·Memᴰ·not-nil, tt)
-trees-once k t Tops = (List·Memᴰ·not-nil, tt)
-trees-once k t Lows = lows-once k t
-trees-once k t Middles = middles-once k t
-
 -- ---- each tree of a list
-
--- n more of each tree of a list, and of nothing else, are sorted.
-pub each-sorted : (n : ℕ) (ts : List Tree) → 1 ≤ n → Sorted (addEach n ts [])
-unfolding Sorted
-each-sorted n ts p = sorted-each n ts [] p tt
-
--- n more of each tree count for a key what they count alone, and what it counted.
-pub count-each-apart : (n : ℕ) (z : List ℕ) (ts : List Tree) (es : List Entry) → countOf z (addEach n ts es) ≡ countOf z (addEach n ts []) + countOf z es
-unfolding addEach countOf
-count-each-apart n z [] es = omega arith
-count-each-apart n z (t ∷ ts) es =
-    omega (arith, count-add n (words t) z (addEach n ts es), count-add n (words t) z (addEach n ts []), count-each-apart n z ts es)
 
 -- n more of each tree are the sum with the section of these alone.
 pub each-all : (n : ℕ) (ts : List Tree) (es : List Entry) → 1 ≤ n → Sorted es → addEach n ts es ≡ addAll (addEach n ts []) es
@@ -92,34 +61,12 @@ count-lower-each z [] es s = omega arith
 count-lower-each z (t ∷ ts) es s =
     omega (arith, count-lower (words t) z (lowerEach ts es) (sorted-lower-each ts es s), count-add 1 (words t) z (addEach 1 ts []), count-lower-each z ts es s)
 
--- One of each tree of a list without repeats counts at most 1 for a key.
-each-most : (z : List ℕ) (ts : List Tree) → NoRepeats ts → countOf z (addEach 1 ts []) ≤ 1
-unfolding NoRepeats addEach countOf if_then_else_
-each-most z [] r = omega arith
-each-most z (t ∷ ts) r = go (sameWords (words t) z) refl (each-most z ts (r .1))
-  where
-    none : countOf (words t) (addEach 1 ts []) ≡ 0
-    none = count-each 1 t ts [] (r .1) ∙ rw (lacks-any t ts (r .0)) (omega arith)
-
-    go : (b : Bool) → sameWords (words t) z ≡ b → countOf z (addEach 1 ts []) ≤ 1 → countOf z (addEach 1 (t ∷ ts) []) ≤ 1
-    go true e ih = omega (arith, count-add 1 (words t) z (addEach 1 ts []), counts-own (words t) z 1 e, rw (words-same (words t) z e) at none)
-    go false e ih = omega (arith, count-add 1 (words t) z (addEach 1 ts []), counts-other (words t) z 1 e)
-
--- In a sorted section in which a key counts at most 1 it counts 1 just if it has an entry.
-count-one : (z : List ℕ) (es : List Entry) → Sorted es → countOf z es ≤ 1 → (if has z es then 1 else 0) ≡ countOf z es
-unfolding if_then_else_
-count-one z es s m = go (has z es) refl
-  where
-    go : (b : Bool) → has z es ≡ b → (if b then 1 else 0) ≡ countOf z es
-    go true e = omega (arith, has-counts z es s e)
-    go false e = sym (lacks-counts z es s e)
-
 -- One less of each tree of a list without repeats is one less of each key of their section.
 pub lower-each-all : (ts : List Tree) (es : List Entry) → NoRepeats ts → Sorted es → lowerEach ts es ≡ lowerAll (addEach 1 ts []) es
 lower-each-all ts es r s =
     let own : Sorted (addEach 1 ts []) = each-sorted 1 ts (omega arith) in
     same-counts _ _ (sorted-lower-each ts es s) (sorted-lower-all _ es s) (λ z.
-    count-lower-each z ts es s ∙ ap (λ (n : ℕ). countOf z es - n) (sym (count-one z _ own (each-most z ts r))) ∙ sym (count-lower-all z _ es own s))
+    count-lower-each z ts es s ∙ ap (λ (n : ℕ). countOf z es - n) (each-count 1 z ts r) ∙ sym (count-lower-all z _ es own s))
 
 -- ---- changes by the order's own book
 
@@ -162,23 +109,10 @@ used-taught t b sorted = ap used (taught-changed t b sorted 1 (omega arith)) ∙
 
 -- ---- the counts
 
--- n teachings of an order are n live teachings more.
-pub live-taught : (n : ℕ) (t : Tree) (b : Book) → live (taught n t b) ≡ live b + n
-unfolding live taught
-live-taught n t b = omega (arith, total-add n (words t) (b .T))
-
 -- Withdrawing an order that has an entry is one live teaching less.
 pub live-withdrawn : (t : Tree) (b : Book) → Sorted (sectionOf Taught b) → has (words t) (b .T) ≡ true → live (withdrawn t b) + 1 ≡ live b
 unfolding live withdrawn sectionOf
 live-withdrawn t b sorted entry = total-lower (words t) (b .T) sorted entry
-
--- None of four tests passes just if each fails.
-not-any : (p q r s : Bool) → not (if p then true else (if q then true else (if r then true else s))) ≡ (not p and not q and not r and not s)
-unfolding if_then_else_ _and_
-not-any true q r s = refl
-not-any false true r s = refl
-not-any false false true s = refl
-not-any false false false s = refl
 
 module _ (t : Tree) (b : Book) (form : inForm b ≡ true) where
   -- Once an order is taught a section's counts fit just if its own book would make none of them pass 65,535.
@@ -242,11 +176,6 @@ lacking-no-tree ts es h = each-has ts es (λ t m.
 -- A section that has an entry for each tree lacks no words of one of each.
 no-tree-lacking : (ts : List Tree) (es : List Entry) → hasEach ts es ≡ true → lackingWords (addEach 1 ts []) es ≡ 0
 no-tree-lacking ts es h = none-lacking _ es (each-keys (λ z. has z es ≡ true) 1 ts [] (has-each ts es h) (λ e m. absurd (List·Memᴰ·not-nil m)))
-
--- A test that would need a number to be 0 fails where it is not.
-fails-some : (n : ℕ) (a : Bool) → (a ≡ true → n ≡ 0) → 0 < n → a ≡ false
-fails-some n true f h = absurd (omega (arith, f refl))
-fails-some n false f h = refl
 
 module _ (t : Tree) (b : Book) where
   -- The order has an entry in T where its own T lacks no words there.

@@ -1,6 +1,6 @@
 -- What a call of teach or withdraw meets: a refusal by 4, 5, 1 or 2, or a book in form and an order, and then a case of each. Assumes nothing.
 use Prim.Native.Nat.{ℕ, _≤_, _<_}
-use mathlib.Core.Path.{_≡_, refl, sym, ap, _∙_}
+use mathlib.Core.Path.{_≡_, refl, _∙_}
 use mathlib.Core.Bool.{Bool, true, false}
 use mathlib.Core.List.{List}
 use native.Mathlib.Omega.{arith}
@@ -15,6 +15,7 @@ use Rattle.trees.specs.Trees.{Tree, words}
 use Rattle.trees.specs.Fits.{Fits}
 use Rattle.trees.specs.Reading.{order, byOrder, orderOf, causeOf}
 use Rattle.trees.proofs.Causes.{cause-is, Seen, seen, stopped, passed, order-passed}
+use Rattle.trees.proofs.Fitting.{passed-fits}
 use Rattle.book.specs.Book.{Book, sectionOf, used, lay, inForm}
 use Rattle.book.specs.Decoding.{bookIn, formed, byBook, sized, onBook, placesOf}
 use Rattle.book.specs.Holding.{Holds}
@@ -25,26 +26,11 @@ use Rattle.book.proofs.Meaning.{decoded, read-back, lay-long}
 use Rattle.book.proofs.Heads.{on-unsized, on-unformed, form-formed}
 use Rattle.book.proofs.Holding.{holds}
 use Rattle.book.proofs.Sound.{held-book}
+use Rattle.book.proofs.Sections.{form-sorted}
 use Rattle.amend.specs.Counts.{withinCounts}
 use Rattle.effects.specs.Calls.{onOrder, teachTree, teachOf, withdrawn, hasParts, withdrawTree, withdrawOf}
-use Rattle.amend.proofs.Sections.{form-sorted}
-use Rattle.effects.proofs.Formed.{passed-fits}
 use Rattle.effects.proofs.Outcomes.{by-cause}
 use Rattle.effects.specs.Conditions.{BookAndOrder}
-
--- ---- outcomes
-
--- An outcome that is known has its number.
-pub number-is : {o p : Outcome} → o ≡ p → o .answer .number ≡ p .answer .number
-number-is e = ap (λ (o : Outcome). o .answer .number) e
-
--- Two numbers of one outcome are the same.
-pub one-number : {o p : Outcome} {n : ℕ} → o ≡ p → o .answer .number ≡ n → p .answer .number ≡ n
-one-number e f = sym (number-is e) ∙ f
-
--- An outcome that is known has its words.
-pub words-are : {o p : Outcome} → o ≡ p → o .words ≡ p .words
-words-are e = ap (λ (o : Outcome). o .words) e
 
 -- ---- the book and the order
 

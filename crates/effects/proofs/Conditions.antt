@@ -16,10 +16,11 @@ use Rattle.book.specs.Decoding.{decode}
 use Rattle.book.specs.Taught.{taught}
 use Rattle.book.specs.Opening.{Outcome, leave, writeBook}
 use Rattle.book.proofs.Meaning.{read-back}
+use Rattle.book.proofs.Openings.{number-is, one-number, words-are}
 use Rattle.effects.specs.Calls.{teachOf, withdrawn, withdrawOf}
 use Rattle.effects.proofs.Formed.{taught-keeps-form, withdrawn-keeps-form}
 use Rattle.effects.specs.Conditions.{_exactly-when_, BookAndOrder, WouldPass, PartMissing}
-use Rattle.effects.proofs.Calling.{number-is, one-number, words-are, Met, met, refuses, goes, its-form, its-limits, TeachCase, passing, crowded, teaches, teach-case, WithdrawCase, untaught, lacks, withdraws, withdraw-case}
+use Rattle.effects.proofs.Calling.{Met, met, refuses, goes, its-form, its-limits, TeachCase, passing, crowded, teaches, teach-case, WithdrawCase, untaught, lacks, withdraws, withdraw-case}
 use Rattle.effects.proofs.Reasons.{within-none, not-within, fails-missing, passes-none}
 
 -- ---- teaching

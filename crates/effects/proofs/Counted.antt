@@ -11,24 +11,19 @@ use Rattle.section.proofs.Counts.{counts-has}
 use Rattle.trees.specs.Trees.{Tree, words}
 use Rattle.trees.specs.Parts.{top, lowParts, middleParts}
 use Rattle.book.specs.Book.{Book, sectionOf, used}
-use Rattle.book.specs.Taught.{taught}
+use Rattle.book.specs.Taught.{taught, treesIn}
 use Rattle.book.specs.declared.Section.{Section}
 use Rattle.book.specs.declared.Section.the-variants.{Taught, Tops, Lows, Middles}
-use Rattle.book.proofs.Taught.{sorted-each}
-use Rattle.effects.specs.Calls.{hasParts, treesIn}
-use Rattle.effects.proofs.Adds.{taught-section, each-has, used-taught}
-use Rattle.effects.proofs.Undoing.{times-counted, count-after-taught}
+use Rattle.book.proofs.Teachings.{times-counted, count-after-taught, taught-in-order}
+use Rattle.effects.specs.Calls.{hasParts}
+use Rattle.effects.proofs.Adds.{each-has, used-taught}
 
 module _ (t : Tree) (b : Book) (sorted : (s : Section) → Sorted (sectionOf s b)) where
-  -- Its sections are sorted.
-  pub after-sorted : (s : Section) → Sorted (sectionOf s (taught 1 t b))
-  after-sorted s = rw (taught-section 1 t b s) (sorted-each 1 (treesIn s (b .k) t) (sectionOf s b) (omega arith) (sorted s))
-
   -- Each tree that the teaching counts in a section has an entry there.
   pub taught-entry : (s : Section) (u : Tree) → u ∈ treesIn s (b .k) t → has (words u) (sectionOf s (taught 1 t b)) ≡ true
   taught-entry s u m =
       let some : 1 ≤ countOf (words u) (sectionOf s (taught 1 t b)) = omega (arith, count-after-taught 1 t u b s, times-counted s (b .k) 1 t u m) in
-      counts-has (words u) (sectionOf s (taught 1 t b)) (after-sorted s) some
+      counts-has (words u) (sectionOf s (taught 1 t b)) (taught-in-order 1 t b (omega arith) sorted s) some
 
   -- The order has an entry in T.
   pub taught-has : has (words t) (taught 1 t b .T) ≡ true

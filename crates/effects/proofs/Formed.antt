@@ -1,40 +1,34 @@
 -- Books stay in form while an order's own book is added to them or taken from them, section by section, and such a change can be made.
 -- Assumes nothing.
 use Prim.Native.Nat.{ℕ, _+_, _≤_}
-use mathlib.Core.Path.{_≡_, refl, ap, subst, _∙_}
+use mathlib.Core.Path.{_≡_, refl, ap, _∙_}
 use mathlib.Core.Bool.{true}
-use mathlib.Core.List.{List, [], _∷_, List·Memᴰ·head as here, List·Memᴰ·tail as there, List·Memᴰ·not-nil}
+use mathlib.Core.List.{[], _∷_, List·Memᴰ·head as here, List·Memᴰ·tail as there, List·Memᴰ·not-nil}
 use native.Mathlib.Omega.{arith}
 use Rattle.words.specs.Base.{_∈_}
 use Rattle.figures.specs.Limits.{greatest-depth, least-k, greatest-k}
 use Rattle.trees.specs.Trees.{Tree, words}
 use Rattle.trees.specs.Fits.{Fits}
-use Rattle.trees.proofs.Causes.{Passed}
-use Rattle.trees.proofs.Fitting.{passed-order, order-fits}
 use Rattle.section.specs.Entries.{has, total, add}
 use Rattle.section.proofs.Counts.{total-lowers}
 use Rattle.changes.specs.Editing.{lowerAll}
 use Rattle.changes.proofs.Lowering.{sorted-lower-all, fitting-lower-all}
-use Rattle.book.specs.Book.{Book, sectionOf, used, live, inForm}
+use Rattle.book.specs.Book.{Book, sectionOf, used, live, inForm, withSection}
 use Rattle.book.specs.Taught.{Teaching, taught, bookOf}
 use Rattle.book.specs.declared.Section.the-variants.{Taught, Tops, Lows, Middles}
 use Rattle.book.proofs.Sound.{form-sound}
-use Rattle.book.proofs.Sections.{form-keys, sections-form}
+use Rattle.book.proofs.Sections.{form-keys, sections-form, form-sorted}
 use Rattle.book.proofs.Taught.{taught-k, taught-formed}
 use Rattle.effects.specs.Calls.{withdrawn}
 use Rattle.own.specs.Own.{ownBook}
 use Rattle.amend.specs.Counts.{withinCounts}
-use Rattle.amend.specs.Changing.{withSection, changedIn, changedBook, ReadyAll}
+use Rattle.amend.specs.Changing.{changedIn, changedBook, ReadyAll}
 use Rattle.amend.specs.declared.Change.the-variants.{Teach, Withdraw}
-use Rattle.amend.proofs.Sections.{form-sorted, form-fitting}
+use Rattle.amend.proofs.Sections.{form-fitting}
 use Rattle.amend.proofs.Changed.{changed-section, sorted-sound, lower-all-keys, used-shrinks, ready-all, ready-add}
 use Rattle.effects.proofs.Adds.{taught-changed, withdrawn-changed, live-withdrawn}
 
 -- ---- the order's own book
-
--- The words of an order that passes are within the limits.
-pub passed-fits : (ws : List ℕ) (t : Tree) → Passed ws t → Fits 0 greatest-depth (words t)
-passed-fits ws t p = subst (Fits 0 greatest-depth) (p .spelt) (order-fits (passed-order ws t p))
 
 module _ (k : ℕ) (t : Tree) where
   -- It has one live teaching.

@@ -1,7 +1,7 @@
 -- What teaching and withdrawing answer, and the words then, by the tests that the code makes in turn; and the order's own book as it stands in
 -- its slice. Assumes nothing.
 use Prim.Native.Nat.{ℕ, _+_, _-_, _≤_, _<_}
-use mathlib.Core.Path.{_≡_, refl, sym, ap, subst, _∙_}
+use mathlib.Core.Path.{_≡_, sym, ap, subst, _∙_}
 use mathlib.Core.Bool.{true, false}
 use mathlib.Core.List.{List}
 use native.Mathlib.Decide.{decLt}
@@ -9,10 +9,9 @@ use native.Mathlib.Omega.{arith}
 use borrow.Author.Tests.{le-leb, lt-leb}
 use lib.ListN.{length, getD, replicate, length-replicate}
 use Rattle.words.specs.Base.{if_then_else_}
-use Rattle.figures.specs.Limits.{least-k, greatest-k, most-book-words, greatest-count, greatest-depth}
+use Rattle.figures.specs.Limits.{greatest-count, greatest-depth}
 use Rattle.figures.specs.Numbers.{done, no-room, too-many, not-taught, not-agreeing}
 use Rattle.figures.specs.Answers.{answered}
-use Rattle.figures.specs.declared.Answer.{Answer}
 use Rattle.section.specs.Entries.{has}
 use Rattle.changes.specs.Editing.{lackingWords}
 use Rattle.changes.specs.declared.Weighed.{Weighed}
@@ -21,18 +20,21 @@ use Rattle.trees.specs.Reading.{byOrder, orderOf, causeOf}
 use Rattle.trees.specs.Causes.{Cause}
 use Rattle.trees.specs.Fits.{Fits}
 use Rattle.trees.proofs.Causes.{cause-is, cause-refuses, has-tree}
+use Rattle.trees.proofs.Fitting.{passed-fits}
 use Rattle.book.specs.Book.{Book, sectionOf, used, live, lay, inForm}
 use Rattle.book.specs.Decoding.{bookIn, placesOf, bookFormOf}
-use Rattle.book.specs.Sound.{IsBook, book}
+use Rattle.book.specs.Sound.{IsBook}
 use Rattle.book.specs.Holding.{Holds}
 use Rattle.book.specs.Taught.{taught}
 use Rattle.book.specs.Opening.{Outcome, outcome, leave}
 use Rattle.book.specs.declared.Places.{Places}
 use Rattle.book.specs.declared.Section.the-variants.{Taught}
-use Rattle.book.specs.declared.BookForm.the-variants.{Refused, InForm}
-use Rattle.book.proofs.Meaning.{used-is, laid-read, lay-long, used-fits}
-use Rattle.book.proofs.Holding.{holds, refused-book}
-use Rattle.book.proofs.Sound.{form-sound, held-book, on-any, why-only}
+use Rattle.book.specs.declared.BookForm.the-variants.{Refused}
+use Rattle.book.proofs.Meaning.{laid-read, used-fits}
+use Rattle.book.proofs.Holding.{refused-book, used-room, uses, allowed}
+use Rattle.book.proofs.Sound.{form-sound, held-book, on-any, laid-holds}
+use Rattle.book.proofs.Sections.{form-sorted}
+use Rattle.book.proofs.Around.{live-laid}
 use Rattle.amend.specs.Counts.{withinCounts}
 use Rattle.effects.specs.Calls.{onOrder, teachTree, teachOf, withdrawn, hasParts, withdrawTree, withdrawOf}
 use Rattle.own.specs.Own.{own-words, ownBook, ownOf}
@@ -41,32 +43,13 @@ use Rattle.amend.specs.declared.Change.the-variants.{Teach, Withdraw}
 use Rattle.amend.specs.declared.BookWeighed.{BookWeighed}
 use Rattle.own.proofs.Owning.{own-short}
 use Rattle.effects.proofs.Adds.{taught-changed, withdrawn-changed, used-taught, within-taught, lives-pass, count-passes, has-own, has-no-own, has-own-parts, has-no-own-parts}
-use Rattle.amend.proofs.Sections.{form-sorted}
-use Rattle.effects.proofs.Formed.{passed-fits, beside-form, ready-teach, ready-withdraw}
-use Rattle.amend.proofs.Sections.{live-laid}
+use Rattle.effects.proofs.Formed.{beside-form, ready-teach, ready-withdraw}
 
 -- A slice of n zeros is as many zeros as it is long.
 pub all-zeros : (n : ℕ) → _≡_ {A = List ℕ} (replicate n 0) (replicate (length (replicate {A = ℕ} n 0)) 0)
 all-zeros n = let o : ℕ = 0 in ap (λ (m : ℕ). replicate m o) (sym (length-replicate n o))
 
--- ---- a book laid in a slice
-
-module _ (n : ℕ) (b : Book) (form : inForm b ≡ true) (fits : used b ≤ n) (short : n ≤ most-book-words) where
-  -- The words are the book's.
-  pub laid-book : IsBook (lay n b) b
-  laid-book =
-      let e : length (lay n b) ≡ n = lay-long n b fits in
-      record { long = omega (arith, used-is b); short = omega arith; sound = form-sound b form; laid = ap (λ (m : ℕ). lay m b) e }
-
-  -- They hold it, and its sections start where it says.
-  pub laid-holds : Holds (lay n b) (placesOf b)
-  laid-holds = holds (lay n b) (placesOf b) (why-only (lay n b) (InForm (placesOf b)) (book b refl laid-book))
-
 -- ---- any words and any order
-
--- An answer of a number and line 0, with the words then.
-pub told : (ws : List ℕ) (a : Answer) (n : ℕ) → a ≡ answered n → outcome a ws ≡ outcome (answered n) ws
-told ws a n e = ap (λ (x : Answer). outcome x ws) e
 
 -- A slice that is no book in form is answered by 4 or 5.
 pub unheld : (ws os : List ℕ) (f : Book → Tree → Outcome) (n : ℕ) → bookFormOf ws ≡ Refused n → leave ws n ≡ onOrder ws os f
@@ -95,19 +78,6 @@ by-cause ws os b i n c x f = by-order ws os b i f ∙ cause-refuses os n c x (le
 -- ---- a book in form
 
 module _ (ws : List ℕ) (p : Places) (H : Holds ws p) where
-  -- k is 2 to 6.
-  pub allowed : (least-k ≤ p .k .k) × (p .k .k ≤ greatest-k)
-  allowed = (omega (arith, H .depth, H .least), omega (arith, H .depth, H .greatest))
-
-  -- The words used are those that the places say.
-  uses : p .used ≡ used (bookIn ws)
-  unfolding placesOf
-  uses = ap (λ (q : Places). q .used) (H .places)
-
-  -- They have room.
-  pub used-room : p .used ≤ length ws
-  used-room = omega (arith, uses, used-fits ws (bookIn ws) (H .laid))
-
   -- Word 2 is the number of live teachings.
   lives : getD ws 2 0 ≡ live (bookIn ws)
   lives = live-laid ws (bookIn ws) (H .laid)

@@ -18,19 +18,19 @@ use Rattle.trees.specs.Trees.{Tree, words}
 use Rattle.trees.specs.Parts.{top, lowParts, middleParts}
 use Rattle.trees.proofs.Once.{NoRepeats}
 use Rattle.book.specs.Book.{Book, sectionOf, live, inForm}
-use Rattle.book.specs.Taught.{addEach, taught}
+use Rattle.book.specs.Taught.{addEach, taught, treesIn}
 use Rattle.book.specs.declared.Section.{Section}
 use Rattle.book.specs.declared.Section.the-variants.{Taught, Tops, Lows, Middles}
 use Rattle.book.proofs.Sound.{form-sound}
 use Rattle.book.proofs.Taught.{lacks-any, count-each, sorted-each}
+use Rattle.book.proofs.Teachings.{taught-section, trees-once, live-taught, times-counted, count-after-taught, taught-in-order}
+use Rattle.book.proofs.Sections.{form-sorted}
 use Rattle.amend.specs.Counts.{withinCounts}
-use Rattle.effects.specs.Calls.{hasEach, hasParts, treesIn}
-use Rattle.effects.proofs.Adds.{taught-section, trees-once, live-taught, has-each}
-use Rattle.amend.proofs.Sections.{form-sorted, form-fitting}
+use Rattle.effects.specs.Calls.{hasEach, hasParts}
+use Rattle.effects.proofs.Adds.{has-each}
+use Rattle.amend.proofs.Sections.{form-fitting}
 use Rattle.amend.proofs.Changed.{within-fits}
-use Rattle.effects.proofs.Undoing.{times-counted, count-after-taught}
 use Rattle.effects.specs.Conditions.{WouldPass, lives, touched, PartMissing, from-tops, from-lows, from-middles}
-use Rattle.effects.proofs.Counted.{after-sorted}
 
 -- ---- counts that would pass
 
@@ -104,7 +104,7 @@ module _ (t : Tree) (b : Book) (form : inForm b ≡ true) where
   pub within-none : withinCounts (taught 1 t b) ≡ true → WouldPass t b → ⊥
   within-none w (lives e) = omega (arith, within-fits _ w .0, live-taught 1 t b)
   within-none w (touched s u m e) =
-      omega (arith, count-few (words u) (sectionOf s (taught 1 t b)) (after-sorted t b (form-sorted b form) s) (within-fits _ w .1 s), count-after-taught 1 t u b s, times-counted s (b .k) 1 t u m)
+      omega (arith, count-few (words u) (sectionOf s (taught 1 t b)) (taught-in-order 1 t b (omega arith) (form-sorted b form) s) (within-fits _ w .1 s), count-after-taught 1 t u b s, times-counted s (b .k) 1 t u m)
 
   -- Where the counts do not fit then, something would pass.
   pub not-within : withinCounts (taught 1 t b) ≡ false → WouldPass t b

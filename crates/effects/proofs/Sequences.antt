@@ -20,18 +20,21 @@ use Rattle.book.specs.Taught.{taught, agreeing}
 use Rattle.book.specs.Opening.{outcome, leave, writeBook}
 use Rattle.book.proofs.Meaning.{decoded, lay-long}
 use Rattle.book.proofs.Sound.{form-sound}
+use Rattle.book.proofs.Teachings.{live-taught, commute, count-after-taught, taught-in-order}
+use Rattle.book.proofs.Sections.{form-sorted}
+use Rattle.book.proofs.Agreeing.{taught-agrees}
+use Rattle.book.proofs.Openings.{number-is, one-number, words-are}
 use Rattle.amend.specs.Counts.{withinCounts}
 use Rattle.effects.specs.Calls.{teachOf, withdrawn, withdrawOf}
-use Rattle.effects.proofs.Adds.{live-taught}
-use Rattle.amend.proofs.Sections.{form-sorted, form-fitting}
+use Rattle.amend.proofs.Sections.{form-fitting}
 use Rattle.effects.proofs.Formed.{taught-keeps-form}
-use Rattle.effects.proofs.Undoing.{undo, commute, count-after-taught}
+use Rattle.effects.proofs.Undoing.{undo}
 use Rattle.effects.specs.Conditions.{BookAndOrder, WouldPass, lives, touched}
-use Rattle.effects.proofs.Calling.{number-is, one-number, words-are, Met, met, refuses, goes, its-words, its-form, its-limits, its-sorted, written-met, TeachCase, passing, crowded, teaches, teach-does, withdraw-does, teach-case, WithdrawCase, untaught, lacks, withdraws, withdraw-case}
+use Rattle.effects.proofs.Calling.{Met, met, refuses, goes, its-words, its-form, its-limits, its-sorted, written-met, TeachCase, passing, crowded, teaches, teach-does, withdraw-does, teach-case, WithdrawCase, untaught, lacks, withdraws, withdraw-case}
 use Rattle.effects.proofs.Conditions.{teach-0, teach-writes, withdraw-0, withdraw-9, withdraw-writes}
 use Rattle.effects.proofs.Reasons.{count-few, none-passes, passes-none}
-use Rattle.effects.proofs.Agreeing.{taught-agrees, withdrawn-agrees, taught-has-parts}
-use Rattle.effects.proofs.Counted.{after-sorted, taught-has, taught-parts, taught-uses}
+use Rattle.effects.proofs.Agreeing.{withdrawn-agrees, taught-has-parts}
+use Rattle.effects.proofs.Counted.{taught-has, taught-parts, taught-uses}
 
 -- ---- an order that was just taught
 
@@ -123,7 +126,7 @@ module _ (ws os ps : List ℕ) (b : Book) (t u : Tree) (g : BookAndOrder ws os b
 
   -- There is room for it.
   alone-room : used (taught 1 u b) ≤ length ws
-  alone-room = omega (arith, taught-uses t (taught 1 u b) (after-sorted u b (its-sorted ws os b t g)), ap used swapped, second .1)
+  alone-room = omega (arith, taught-uses t (taught 1 u b) (taught-in-order 1 u b (omega arith) (its-sorted ws os b t g)), ap used swapped, second .1)
 
   -- The first is taught after it, and the words are the same in the end.
   same-end : teachOf (lay (length ws) (taught 1 u b)) os ≡ teachOf (lay (length ws) (taught 1 t b)) ps

@@ -1,11 +1,10 @@
 -- Teaching and withdrawing answer exactly by the rows of 01's table, as specs/Whys.antt states them, for any words: every answer has its row,
 -- and what has a row is the answer. Assumes nothing.
 use Prim.Native.Nat.{ℕ}
-use mathlib.Core.Path.{_≡_, refl, sym, ap₂, _∙_}
+use mathlib.Core.Path.{_≡_, refl, sym, _∙_}
 use mathlib.Core.List.{List}
 use native.Mathlib.Omega.{arith}
 use Rattle.figures.specs.Numbers.{done, book-size, not-in-form}
-use Rattle.figures.specs.Answers.{answered}
 use Rattle.trees.specs.Trees.{Tree}
 use Rattle.trees.specs.Reading.{causeOf}
 use Rattle.trees.specs.Causes.{Cause}
@@ -16,10 +15,11 @@ use Rattle.book.specs.Book.{Book}
 use Rattle.book.specs.Decoding.{bookFormOf}
 use Rattle.book.specs.Sound.{IsBook, WhyForm, shorter, longer, formless, book}
 use Rattle.book.specs.Taught.{taught}
-use Rattle.book.specs.Opening.{Outcome, outcome, leave}
+use Rattle.book.specs.Opening.{Outcome, leave}
 use Rattle.book.specs.declared.BookForm.the-variants.{Refused}
 use Rattle.book.proofs.Heads.{is-sized}
 use Rattle.book.proofs.Sound.{sound-form, book-decode, why-is, why-only}
+use Rattle.book.proofs.Openings.{outcome-is}
 use Rattle.effects.specs.Calls.{onOrder, teachTree, teachOf, withdrawTree, withdrawOf}
 use Rattle.effects.proofs.Outcomes.{unheld, by-cause}
 use Rattle.effects.specs.Conditions.{BookAndOrder}
@@ -27,10 +27,6 @@ use Rattle.effects.specs.Whys.{WhyTaught, teach-no-book, teach-no-order,
 use Rattle.effects.proofs.Calling.{TeachCase, passing, crowded, teaches, teach-case, WithdrawCase, untaught, lacks, withdraws, withdraw-case}
 use Rattle.effects.proofs.Conditions.{teach-7, teach-6, teach-0, teach-writes, teach-refusal-leaves, teach-line, withdraw-8, withdraw-9, withdraw-0, withdraw-writes, withdraw-refusal-leaves, withdraw-line}
 use Rattle.effects.proofs.Reasons.{within-none, not-within, fails-missing, passes-none}
-
--- An outcome of line 0 is its number and its words.
-outcome-is : (o : Outcome) (n : ℕ) (vs : List ℕ) → o .answer .number ≡ n → o .answer .line ≡ 0 → o .words ≡ vs → o ≡ outcome (answered n) vs
-outcome-is o n vs e l w = ap₂ outcome (ap₂ (λ (m i : ℕ). record { number = m; line = i }) e l) w
 
 module _ (ws os : List ℕ) where
   -- ---- the book and the order

@@ -14,10 +14,8 @@ use Rattle.trees.specs.Reading.{byOrder, orderOf}
 use Rattle.trees.specs.Parts.{top, lowParts, middleParts}
 use Rattle.book.specs.Book.{Book, used}
 use Rattle.book.specs.Decoding.{onBook}
-use Rattle.book.specs.Taught.{taught, anyTree}
+use Rattle.book.specs.Taught.{taught}
 use Rattle.book.specs.Opening.{Outcome, leave, writeBook}
-use Rattle.book.specs.declared.Section.{Section}
-use Rattle.book.specs.declared.Section.the-variants.{Taught, Tops, Lows, Middles}
 
 -- 4, 5, 1 and 2, and then what a call does with the book and the order.
 unfoldable pub onOrder : List ℕ → List ℕ → (Book → Tree → Outcome) → Outcome
@@ -72,16 +70,3 @@ withdrawTree ws b t =
 -- "Withdraw: 4, 5, 1, 2, 8, 9."
 unfoldable pub withdrawOf : List ℕ → List ℕ → Outcome
 withdrawOf ws os = onOrder ws os (withdrawTree ws)
-
--- ---- what a teaching counts
-
--- The trees that a teaching of an order counts in a section: the order, its top, its low parts, its middle parts.
-abbrev pub treesIn : Section → ℕ → Tree → List Tree
-treesIn Taught k t = t ∷ []
-treesIn Tops k t = top k t ∷ []
-treesIn Lows k t = lowParts k t
-treesIn Middles k t = middleParts k t
-
--- How often n teachings of an order count a tree in a section, each once.
-unfoldable pub timesIn : Section → ℕ → ℕ → Tree → Tree → ℕ
-timesIn s k n t u = if anyTree u (treesIn s k t) then n else 0

@@ -14,7 +14,7 @@ use Rattle.trees.specs.Parts.{top, lowParts, middleParts}
 use Rattle.book.specs.Book.{Book, sectionOf, live}
 use Rattle.book.specs.Decoding.{sized, decode}
 use Rattle.book.specs.declared.Section.{Section}
-use Rattle.effects.specs.Calls.{treesIn}
+use Rattle.book.specs.Taught.{treesIn}
 
 infix 1 _exactly-when_
 -- "Given exactly when": each follows from the other.

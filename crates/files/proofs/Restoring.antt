@@ -3,26 +3,28 @@ use Prim.Native.Nat.{ℕ, _*_, _-_, _≤_, _<_}
 use mathlib.Core.Path.{_≡_, refl, sym, ap, ap₂, _∙_}
 use mathlib.Core.Bool.{Bool, true, false}
 use mathlib.Core.List.{List, _++_}
+use mathlib.Core.Option.{Option, none, some}
 use native.Mathlib.Omega.{arith}
 use borrow.Author.Tests.{le-leb, lt-leb, eqb-true, eq-eqb}
 use lib.Dec.{eqb}
-use lib.ListN.{length, replicate}
+use lib.ListN.{length, replicate, drop}
 use Rattle.words.specs.Base.{if_then_else_}
-use Rattle.words.proofs.Tests.{no-test}
+use Rattle.words.proofs.Tests.{no-test, either-way}
 use Rattle.figures.specs.Limits.{most-book-words}
 use Rattle.figures.specs.Numbers.{done, no-room, not-agreeing, no-stored-book}
 use Rattle.figures.specs.Answers.{answered}
 use Rattle.book.specs.Book.{Book, used, encode, lay}
-use Rattle.book.specs.Decoding.{bookIn, byBook, placesOf, bookFormOf}
-use Rattle.book.specs.Opening.{outcome, leave, writeBook}
+use Rattle.book.specs.Decoding.{bookIn, byBook, placesOf, bookFormOf, sized}
+use Rattle.book.specs.Opening.{outcome, leave, writeBook, Outcome}
 use Rattle.book.specs.Sound.{book}
 use Rattle.book.specs.Taught.{agreeing}
 use Rattle.book.specs.declared.Places.{Places}
 use Rattle.book.specs.declared.BookForm.the-variants.{Refused, InForm}
 use Rattle.book.proofs.Holding.{holds}
 use Rattle.book.proofs.Sound.{encode-length, held-book, why-only}
+use Rattle.book.proofs.Openings.{no-line}
 use Rattle.octets.specs.Octets.{bytesOf}
-use Rattle.files.specs.Files.{readBookOf, readRestOf, storedNumber}
+use Rattle.files.specs.Files.{readBookOf, readRestOf, storedNumber, front-bytes, storedIn, isMarked, readFileOf}
 use Rattle.octets.proofs.Bytes.{bytes-long, bytes-one}
 use Rattle.files.proofs.Stored.{Stored, stored-some, none-stored, stored-long, stored-book, book-stored}
 
@@ -134,3 +136,19 @@ module _ (ws : List ℕ) where
             restore-some (bytesOf ws) v (bookIn ws) done-stored
             ∙ restored-written v (bookIn ws) (done-means .1) (omega (arith, h, stored-long ws (bookIn ws) done-stored))
             ∙ ap (outcome (answered done)) (stored-laid (bookIn ws) done-stored (length v))
+
+-- ---- the line that is answered
+
+-- Reading the book that was found in a file: line 0.
+book-line : (ws : List ℕ) (o : Option Book) (a : Outcome) → no-line a → no-line (byBook o a (readBookOf ws))
+unfolding byBook readBookOf
+book-line ws none a z = z
+book-line ws (some b) a z = either-way no-line (agreeing b) _ _ (either-way no-line _ _ _ refl refl) refl
+
+-- Reading a file: line 0.
+pub restored-line : (file ws : List ℕ) → readFileOf file ws .answer .line ≡ 0
+unfolding readFileOf readRestOf
+restored-line file ws =
+    either-way no-line (sized ws) _ _
+    (either-way no-line (isMarked file) _ _ (either-way no-line _ _ _ (book-line ws (storedIn (drop front-bytes file)) _ refl) refl) refl)
+    refl

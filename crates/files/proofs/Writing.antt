@@ -8,13 +8,16 @@ use lib.ListN.{length, getD, set, take, drop, replicate, drop-of-length-le}
 use lib.Seq.{sets-eq, take-at, drop-at, drop-drop}
 use borrow.Rule.Slice.PartMut.{putMid}
 use Rattle.words.specs.Base.{if_then_else_, over}
+use Rattle.words.proofs.Tests.{either-way}
 use Rattle.figures.specs.Numbers.{done, book-size, not-in-form, not-agreeing}
 use Rattle.figures.specs.Answers.{answered, wrote}
 use Rattle.figures.specs.declared.Answer.{Answer}
 use Rattle.figures.specs.declared.Written.{Written}
+use Rattle.figures.specs.Limits.{most-book-words}
 use Rattle.octets.specs.Octets.{bytesOf}
 use Rattle.octets.proofs.Bytes.{bytes-long}
-use Rattle.trees.specs.Answers.{writing, refuse, write}
+use Rattle.trees.specs.Answers.{writing, refuse, write, Writing}
+use Rattle.trees.proofs.Writing.{write-line, write-count}
 use Rattle.book.specs.Book.{Book, used, encode, lay}
 use Rattle.book.specs.Decoding.{bookFormOf}
 use Rattle.book.specs.Sound.{IsBook, WhyForm, shorter, longer, formless, book}
@@ -22,7 +25,7 @@ use Rattle.book.specs.Taught.{agreeing}
 use Rattle.book.specs.declared.BookForm.the-variants.{Refused}
 use Rattle.book.proofs.Meaning.{used-fits}
 use Rattle.book.proofs.Holding.{refused-book}
-use Rattle.book.proofs.Sound.{on-any, why-is, head-says, encode-length}
+use Rattle.book.proofs.Sound.{on-any, why-is, head-says, encode-length, by-book}
 use Rattle.book.specs.Checking.{checkOf}
 use Rattle.book.proofs.Checking.{check-unheld, check-held}
 use Rattle.files.specs.Files.{mark, version, front-bytes, fileOf, writeFileOf}
@@ -148,3 +151,21 @@ file-over ws out front last b t e f =
     let bytes : last ≡ bytesOf (encode b) = f ∙ ap bytesOf (ap (λ (m : ℕ). take m ws) whole ∙ t .words) in
     let end : front-bytes + (front-bytes + 2 * n - front-bytes) ≡ length (fileOf b) = omega (arith, t .size) in
     rw (start, rest, drop-drop, end, bytes, e) refl
+
+-- ---- the figures of what is answered
+
+module _ (ws out : List ℕ) where
+  -- Writing a file: line 0.
+  pub filed-line : writeFileOf ws out .answer .line ≡ 0
+  unfolding writeFileOf
+  filed-line =
+      let P : Writing → Type 0 = λ w. w .answer .line ≡ 0 in
+      by-book P ws (λ n. refuse n out) _ (λ n. refl) (λ b i. either-way P (agreeing b) _ _ (write-line (fileOf b) out) refl)
+
+  -- Writing a file: at most the bytes of its front and two for each word of the longest slice.
+  pub filed-count : writeFileOf ws out .answer .count ≤ front-bytes + 2 * most-book-words
+  unfolding writeFileOf
+  filed-count =
+      let P : Writing → Type 0 = λ w. w .answer .count ≤ front-bytes + 2 * most-book-words in
+      by-book P ws (λ n. refuse n out) _ (λ n. omega arith)
+      (λ b i. either-way P (agreeing b) _ _ (omega (arith, write-count (fileOf b) out, file-long b, used-fits ws b (i .laid), i .short)) (omega arith))

@@ -18,3 +18,4 @@ pub mod Letters
 pub mod Turn
 pub mod LineBytes
 pub mod Answers
+pub mod Figures

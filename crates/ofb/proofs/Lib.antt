@@ -1,4 +1,3 @@
 -- What the proofs of several functions, and those of other crates, use.
-pub mod Figures
 pub mod Parts
 pub mod Handing

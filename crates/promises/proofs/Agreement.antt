@@ -17,17 +17,15 @@ use Rattle.trees.specs.Paper.{IsR, IsL, IsP}
 use Rattle.trees.proofs.Fitting.{fits-order-of}
 use Rattle.book.specs.Book.{Book, sectionOf, inForm}
 use Rattle.book.specs.Sound.{SoundBook}
-use Rattle.book.specs.Taught.{Teaching, bookOf, teachingsIn, anyTree, agreeing}
+use Rattle.book.specs.Taught.{Teaching, bookOf, teachingsIn, anyTree, agreeing, treesIn, timesIn}
 use Rattle.book.specs.declared.Section.{Section}
 use Rattle.book.specs.declared.Section.the-variants.{Tops, Lows, Middles}
 use Rattle.book.proofs.Sound.{form-sound, sound-form, sound-section}
 use Rattle.book.proofs.Taught.{any-in, in-any, taught-k, each-keys, section-same, none-in}
-use Rattle.effects.specs.Calls.{treesIn, timesIn}
-use Rattle.effects.proofs.Adds.{taught-section}
-use Rattle.amend.proofs.Sections.{form-sorted}
+use Rattle.book.proofs.Teachings.{taught-section, times-counted, times-other, count-after-taught}
+use Rattle.book.proofs.Sections.{form-sorted}
+use Rattle.book.proofs.Agreeing.{TaughtOrders, form-orders, later-taught, first, teachings-sorted, agreeing-is}
 use Rattle.effects.specs.Conditions.{_exactly-when_}
-use Rattle.effects.proofs.Undoing.{times-counted, times-other, count-after-taught}
-use Rattle.effects.proofs.Agreeing.{TaughtOrders, form-orders, later-taught, first, teachings-sorted, agreeing-is}
 use Rattle.promises.specs.Remaining.{HasPart}
 use Rattle.promises.specs.Agreement.{CountsOf, no-entry, counts, counts-not, Agrees}
 use Rattle.promises.proofs.Orders.{top-part, part-top, low-part, part-low, middle-part, part-middle}

@@ -28,12 +28,11 @@ use Rattle.book.specs.Book.{Book, used}
 use Rattle.book.specs.Opening.{outcome, openOf}
 use Rattle.book.specs.Taught.{bookOf}
 use Rattle.book.proofs.Sound.{head-says}
-use Rattle.book.proofs.Openings.{opened-book, opened-used}
+use Rattle.book.proofs.Openings.{opened-book, opened-used, number-is}
 use Rattle.verdicts.specs.Judging.{Doubt, no-doubt, doubt, leastToFix, verdictOn, verdict, judgeOf}
 use Rattle.verdicts.proofs.Judgements.{by-verdict}
 use Rattle.effects.specs.Calls.{teachOf, withdrawOf}
 use Rattle.effects.specs.Conditions.{_exactly-when_}
-use Rattle.effects.proofs.Calling.{number-is}
 use Rattle.effects.proofs.Conditions.{teach-refusal-leaves, withdraw-refusal-leaves}
 use Rattle.reply.specs.Replies.{reply}
 use Rattle.sheet.specs.Sheets.{letter-K, letterByte, Call as Asking, Handed, faulty, handed, handedIn, openingBy, openingOf, frontAnswer}

@@ -28,18 +28,19 @@ use Rattle.trees.proofs.Paper.{top-is-r, r-only, low-is-l, l-is-low, middle-is-
 use Rattle.book.specs.Book.{Book, sectionOf, body, used, live, encode, lay}
 use Rattle.book.specs.Sound.{IsBook}
 use Rattle.book.specs.Decoding.{placesOf}
-use Rattle.book.specs.Taught.{taught}
+use Rattle.book.specs.Taught.{taught, treesIn}
 use Rattle.book.specs.declared.Section.{Section}
 use Rattle.book.specs.declared.Section.the-variants.{Taught, Tops, Lows, Middles}
 use Rattle.book.proofs.Sound.{sound-form, book-decode, decode-book}
 use Rattle.book.proofs.Heads.{is-sized}
 use Rattle.book.proofs.Meaning.{lay-long, used-fits}
-use Rattle.amend.proofs.Sections.{form-sorted}
-use Rattle.effects.specs.Calls.{teachOf, withdrawOf, lowerEach, withdrawn, treesIn}
+use Rattle.book.proofs.Sections.{form-sorted}
+use Rattle.book.proofs.Teachings.{live-taught, times-counted, times-other, count-after-taught}
+use Rattle.effects.specs.Calls.{teachOf, withdrawOf, lowerEach, withdrawn}
 use Rattle.effects.specs.Conditions.{_exactly-when_, BookAndOrder, PartMissing, from-tops, from-lows, from-middles}
-use Rattle.effects.proofs.Adds.{live-taught, live-withdrawn}
+use Rattle.effects.proofs.Adds.{live-withdrawn}
 use Rattle.effects.proofs.Conditions.{teach-0, teach-writes, withdraw-0, withdraw-writes}
-use Rattle.effects.proofs.Undoing.{times-counted, times-other, count-after-taught, count-after-withdrawn}
+use Rattle.effects.proofs.Undoing.{count-after-withdrawn}
 use Rattle.promises.specs.Books.{LowerThan, ends-first, less, same-word, StandsAt, OneTeachingMore}
 
 -- ---- word by word

@@ -22,12 +22,12 @@ use Rattle.book.specs.Sound.{IsBook}
 use Rattle.book.specs.Taught.{taught, agreeing}
 use Rattle.book.specs.declared.Section.the-variants.{Taught}
 use Rattle.book.proofs.Sound.{sound-form}
+use Rattle.book.proofs.Openings.{number-is}
 use Rattle.effects.specs.Calls.{teachOf, withdrawOf}
 use Rattle.effects.specs.Conditions.{_exactly-when_, BookAndOrder, WouldPass, lives}
 use Rattle.effects.proofs.Conditions.{teach-7, teach-6, teach-0, withdraw-0, withdraw-8}
 use Rattle.effects.proofs.Reasons.{within-none}
 use Rattle.effects.proofs.Sequences.{agreeing-withdraws}
-use Rattle.effects.proofs.Calling.{number-is}
 use Rattle.sums.specs.Joining.{joined, joinOf}
 use Rattle.sums.proofs.Joined.{grown as joined-from}
 use Rattle.sums.proofs.Joins.{Both, join-passes, join-crowded, join-does}

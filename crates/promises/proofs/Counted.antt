@@ -7,15 +7,18 @@ use native.Mathlib.Omega.{arith}
 use lib.ListN.{length, replicate, length-append, length-replicate}
 use Rattle.figures.specs.Limits.{greatest-depth}
 use Rattle.section.specs.Entries.{Entry, total}
+use Rattle.section.proofs.Sorting.{sorted-some}
 use Rattle.trees.specs.Trees.{Tree}
 use Rattle.trees.specs.Fits.{Fits, IsOrder}
 use Rattle.trees.proofs.Fitting.{fits-order-of}
 use Rattle.book.specs.Book.{Book}
 use Rattle.book.specs.Taught.{taught, bookOf, teachingsIn}
-use Rattle.book.proofs.Taught.{sorted-some, taught-k, none-in}
-use Rattle.amend.proofs.Sums.{InOrder, added, added-turns, none-added}
+use Rattle.book.proofs.Taught.{taught-k, none-in}
+use Rattle.book.proofs.Agreeing.{TaughtOrders, later-taught, first, teachings-sorted}
+use Rattle.book.proofs.Teachings.{taught-twice}
+use Rattle.book.proofs.Sections.{InOrder}
+use Rattle.amend.proofs.Sums.{added, added-turns, none-added}
 use Rattle.effects.proofs.Adds.{taught-added}
-use Rattle.effects.proofs.Agreeing.{TaughtOrders, later-taught, first, teachings-sorted, taught-twice}
 use Rattle.promises.specs.Remaining.{ordersIn, booked}
 use Rattle.promises.proofs.Orders.{Orders, one-order-more, booked-first, booked-k, booked-sorted}
 

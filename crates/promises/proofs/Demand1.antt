@@ -26,6 +26,7 @@ use Rattle.trees.specs.Answers.{checkOf, subtreeOf, Writing, writing, cutIntoOf
 use Rattle.trees.specs.declared.PartWritten.{PartWritten}
 use Rattle.form.specs.Reading.{readOf}
 use Rattle.form.specs.Writing.{writeOf}
+use Rattle.form.proofs.Figures.{print-line}
 use Rattle.book.specs.Sound.{WhyForm}
 use Rattle.book.specs.Decoding.{bookFormOf}
 use Rattle.book.specs.Opening.{Outcome, outcome, openOf}
@@ -41,8 +42,11 @@ use Rattle.effects.proofs.Conditions.{teach-refusal-leaves, withdraw-refusal-le
 use Rattle.sums.specs.Joining.{joinOf}
 use Rattle.sums.proofs.Joins.{join-line, join-leaves as join-refusal-leaves}
 use Rattle.book.specs.Checking.{checkOf as agreesOf}
+use Rattle.book.proofs.Openings.{open-line}
+use Rattle.book.proofs.Checking.{check-line as agrees-line}
 use Rattle.files.specs.Files.{writeFileOf, readFileOf}
-use Rattle.ofb.proofs.Figures.{open-line, check-line as agrees-line, print-line, filed-line, restored-line}
+use Rattle.files.proofs.Writing.{filed-line}
+use Rattle.files.proofs.Restoring.{restored-line}
 use Rattle.reply.specs.Replies.{reply-room}
 use Rattle.sheet.specs.Sheets.{Handed, faulty, handed, handedIn, openingBy, openingOf}
 use Rattle.sheet.specs.Places.{letterAt}

@@ -8,11 +8,12 @@ use lib.ListN.{length, getD}
 use Rattle.figures.specs.Limits.{most-nodes, desk-book-words, used-word}
 use Rattle.figures.specs.Numbers.{middle-unknown}
 use Rattle.form.specs.Reading.{Form, fault, form, byForm, formOf, wordsOf}
+use Rattle.form.proofs.Figures.{text-line}
 use Rattle.book.specs.Opening.{outcome}
 use Rattle.book.proofs.Meaning.{used-fits}
 use Rattle.book.proofs.Sound.{head-says}
 use Rattle.effects.proofs.Conditions.{teach-line, withdraw-line}
-use Rattle.ofb.proofs.Figures.{text-line, judge-line-most}
+use Rattle.verdicts.proofs.Figures.{judge-line-most}
 use Rattle.reply.specs.Replies.{most-digits, decimal}
 use Rattle.reply.specs.Meaning.{valueOf}
 use Rattle.reply.proofs.Meaning.{decimal-value}

@@ -26,14 +26,14 @@ use Rattle.book.specs.Opening.{outcome, openOf}
 use Rattle.book.proofs.Meaning.{read-back, lay-long}
 use Rattle.book.proofs.Sound.{form-sound}
 use Rattle.book.proofs.Heads.{is-sized}
-use Rattle.book.proofs.Openings.{opened as opening-is}
+use Rattle.book.proofs.Openings.{opened as opening-is, words-are}
 use Rattle.verdicts.specs.Judging.{verdict}
 use Rattle.verdicts.proofs.Judgements.{by-verdict}
 use Rattle.amend.specs.Counts.{withinCounts}
 use Rattle.effects.specs.Calls.{withdrawn, hasParts}
 use Rattle.section.specs.Entries.{has}
 use Rattle.effects.specs.Conditions.{BookAndOrder}
-use Rattle.effects.proofs.Calling.{words-are, teach-does, withdraw-does}
+use Rattle.effects.proofs.Calling.{teach-does, withdraw-does}
 use Rattle.reply.specs.Replies.{reply}
 use Rattle.sheet.specs.Sheets.{letter-K, letterByte, Call, faulty, handed, handedIn, openingOf}
 use Rattle.sheet.specs.declared.Front.the-variants.{Fault}

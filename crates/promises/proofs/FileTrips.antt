@@ -15,7 +15,7 @@ use Rattle.book.specs.Sound.{IsBook}
 use Rattle.book.specs.Opening.{Outcome, outcome, leave}
 use Rattle.book.proofs.Meaning.{lay-long, used-fits}
 use Rattle.book.proofs.Sound.{head-says, refused-4-5}
-use Rattle.effects.proofs.Calling.{number-is, words-are}
+use Rattle.book.proofs.Openings.{number-is, words-are}
 use Rattle.files.specs.Files.{front-bytes, fileOf, writeFileOf, readFileOf}
 use Rattle.files.proofs.Writing.{file-long}
 use Rattle.promises.specs.Agreement.{Agrees}

@@ -15,13 +15,13 @@ use Rattle.book.specs.Opening.{Outcome, leave}
 use Rattle.book.specs.declared.Section.{Section}
 use Rattle.book.specs.declared.Section.the-variants.{Taught, Tops, Lows, Middles}
 use Rattle.book.proofs.Sound.{sound-form}
+use Rattle.book.proofs.Sections.{form-sorted}
+use Rattle.book.proofs.Openings.{words-are, number-is}
 use Rattle.verdicts.specs.Judging.{judgeOf}
 use Rattle.verdicts.specs.Verdicts.{In, Passes}
 use Rattle.verdicts.proofs.Answers.{answered-passes}
-use Rattle.amend.proofs.Sections.{form-sorted}
 use Rattle.effects.specs.Calls.{teachOf}
 use Rattle.effects.specs.Whys.{WhyTaught, teach-no-book, teach-no-order, would-pass, needs-more, book-taught}
-use Rattle.effects.proofs.Calling.{words-are, number-is}
 use Rattle.effects.proofs.Whys.{teach-why}
 use Rattle.sums.specs.Joining.{joinOf}
 use Rattle.promises.specs.Books.{OneMore, OneTeachingMore}

@@ -20,8 +20,8 @@ use Rattle.book.specs.Sound.{SoundSection, SoundBook}
 use Rattle.book.specs.declared.Section.{Section}
 use Rattle.book.specs.declared.Section.the-variants.{Tops, Lows, Middles}
 use Rattle.book.proofs.Sound.{sound-form}
+use Rattle.book.proofs.Sections.{form-sorted}
 use Rattle.verdicts.specs.Verdicts.{In, Passes}
-use Rattle.amend.proofs.Sections.{form-sorted}
 use Rattle.effects.specs.Conditions.{_exactly-when_}
 use Rattle.promises.specs.Remaining.{HasPart, SomeHas, MadeOf}
 use Rattle.promises.specs.Agreement.{CountsOf, no-entry, counts, counts-not, Agrees}

@@ -35,7 +35,7 @@ use Rattle.book.specs.Book.{Book, sectionOf}
 use Rattle.book.specs.Sound.{SoundBook}
 use Rattle.book.specs.declared.Section.the-variants.{Tops, Lows, Middles}
 use Rattle.book.proofs.Sound.{sound-form}
-use Rattle.amend.proofs.Sections.{form-sorted}
+use Rattle.book.proofs.Sections.{form-sorted}
 use Rattle.verdicts.specs.Judging.{doubt, leastToFix, verdictOn, verdict, judgeOf}
 use Rattle.verdicts.specs.Expecting.{nearPart, nearTop, expectedOn, expected, expectedOf}
 use Rattle.verdicts.specs.Verdicts.{Lent}

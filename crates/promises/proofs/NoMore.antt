@@ -20,11 +20,11 @@ use Rattle.learnt.proofs.Least.{includes, least, only-these, fewer-deeper}
 use Rattle.book.specs.Book.{Book}
 use Rattle.book.specs.Sound.{IsBook}
 use Rattle.book.proofs.Sound.{refused-4-5}
+use Rattle.book.proofs.Openings.{one-number}
 use Rattle.verdicts.specs.Judging.{judgeOf}
 use Rattle.effects.specs.Calls.{teachOf, withdrawOf}
 use Rattle.effects.specs.Conditions.{_exactly-when_}
 use Rattle.effects.specs.Whys.{WhyWithdrawn, withdraw-no-book, withdraw-no-order, no-entry, part-missing, book-withdrawn}
-use Rattle.effects.proofs.Calling.{one-number}
 use Rattle.effects.proofs.Sequences.{agreeing-no-9}
 use Rattle.effects.proofs.Whys.{withdraw-why}
 use Rattle.sums.specs.Joining.{joinOf}

@@ -20,19 +20,17 @@ use Rattle.trees.proofs.Orders.{words-read}
 use Rattle.trees.proofs.Unique.{words-unique}
 use Rattle.trees.proofs.Paper.{top-is-r, r-only, low-is-l, l-is-low, middle-is-p, p-is-middle}
 use Rattle.book.specs.Book.{Book, sectionOf, used, live, inForm}
-use Rattle.book.specs.Taught.{taught, bookOf, anyTree}
+use Rattle.book.specs.Taught.{taught, bookOf, anyTree, treesIn, timesIn}
 use Rattle.book.specs.declared.Section.{Section}
 use Rattle.book.specs.declared.Section.the-variants.{Taught, Tops, Lows, Middles}
 use Rattle.book.proofs.Openings.{opened-formed}
 use Rattle.book.proofs.Taught.{any-in, in-any, taught-sorted, none-in}
+use Rattle.book.proofs.Teachings.{live-taught, commute, times-counted, times-other, count-after-taught, taught-in-order}
 use Rattle.amend.specs.Counts.{withinCounts}
-use Rattle.effects.specs.Calls.{treesIn, timesIn}
-use Rattle.effects.proofs.Adds.{live-taught}
 use Rattle.effects.proofs.Formed.{taught-keeps-form}
 use Rattle.effects.specs.Conditions.{WouldPass, lives, touched}
-use Rattle.effects.proofs.Undoing.{commute, times-counted, times-other, count-after-taught}
 use Rattle.effects.proofs.Reasons.{none-passes}
-use Rattle.effects.proofs.Counted.{after-sorted, taught-uses}
+use Rattle.effects.proofs.Counted.{taught-uses}
 use Rattle.promises.specs.Remaining.{without, timesOf, SameOrders, booked, HowMany, none-left, one-more, not-this, HasPart}
 
 -- ---- orders within limits
@@ -119,7 +117,7 @@ unfolding booked
 booked-sorted k [] all s = taught-sorted k [] (λ o m. absurd (List·Memᴰ·not-nil m)) s
 booked-sorted k (os ∷ rest) all s =
     let f = all os (here refl) in
-    rw (booked-first k os rest (f .tree) (f .isOrder)) (after-sorted (f .tree) (booked k rest) (booked-sorted k rest (later os rest all)) s)
+    rw (booked-first k os rest (f .tree) (f .isOrder)) (taught-in-order 1 (f .tree) (booked k rest) (omega arith) (booked-sorted k rest (later os rest all)) s)
 
 -- As many teachings are live as there are orders.
 pub booked-live : (k : ℕ) (orders : List (List ℕ)) → Orders orders → live (booked k orders) ≡ length orders

@@ -17,10 +17,10 @@ use Rattle.book.specs.Sound.{IsBook}
 use Rattle.book.specs.declared.Section.{Section}
 use Rattle.book.specs.declared.Section.the-variants.{Tops, Lows, Middles}
 use Rattle.book.proofs.Sound.{sound-form, book-only}
+use Rattle.book.proofs.Sections.{form-sorted}
 use Rattle.verdicts.specs.Judging.{judgeOf}
 use Rattle.verdicts.specs.Verdicts.{In, Passes, PassesBy}
 use Rattle.verdicts.proofs.Answers.{answered-passes, passes-answered}
-use Rattle.amend.proofs.Sections.{form-sorted}
 use Rattle.effects.specs.Conditions.{_exactly-when_}
 use Rattle.promises.specs.Remaining.{HowMany, none-left, one-more, not-this, HasPart, ExactlyThese, SomeHas, MadeOf}
 use Rattle.promises.proofs.Orders.{one-tree}

@@ -27,19 +27,19 @@ use Rattle.book.specs.Sound.{IsBook}
 use Rattle.book.specs.Taught.{taught, bookOf, agreeing, teachingsIn, sameSection}
 use Rattle.book.specs.Opening.{Outcome, openOf}
 use Rattle.book.specs.declared.Section.the-variants.{Taught}
-use Rattle.book.proofs.Openings.{opened as opening, opened-book as opening-book, opened-used}
+use Rattle.book.proofs.Openings.{opened as opening, opened-book as opening-book, opened-used, one-number, words-are}
 use Rattle.book.proofs.Meaning.{decoded, laid-read, lay-long}
 use Rattle.book.proofs.Sound.{form-sound, sound-form, book-decode, book-only}
 use Rattle.book.proofs.Heads.{is-sized}
+use Rattle.book.proofs.Teachings.{live-taught}
+use Rattle.book.proofs.Agreeing.{form-orders}
 use Rattle.effects.specs.Calls.{teachOf, withdrawn, withdrawOf}
-use Rattle.effects.proofs.Adds.{live-taught}
 use Rattle.effects.specs.Conditions.{BookAndOrder}
-use Rattle.effects.proofs.Calling.{one-number, words-are, Met, met, refuses, goes, written-met, teach-does}
+use Rattle.effects.proofs.Calling.{Met, met, refuses, goes, written-met, teach-does}
 use Rattle.effects.proofs.Conditions.{teach-0, teach-writes, teach-refusal-leaves, withdraw-0, withdraw-writes, withdraw-refusal-leaves}
 use Rattle.effects.proofs.Counted.{taught-uses}
 use Rattle.effects.proofs.Undoing.{undo}
 use Rattle.effects.proofs.Sequences.{teach-agrees, withdraw-agrees}
-use Rattle.effects.proofs.Agreeing.{form-orders}
 use Rattle.amend.proofs.Sums.{added}
 use Rattle.sums.specs.Joining.{joined, joinOf}
 use Rattle.sums.proofs.Joined.{joined-adds, joined-live}

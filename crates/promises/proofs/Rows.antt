@@ -19,11 +19,11 @@ use Rattle.book.specs.Taught.{Teaching, bookOf, agreeing}
 use Rattle.verdicts.specs.Judging.{judgeOf}
 use Rattle.verdicts.specs.Expecting.{nearPart, nearTop, expectedOn, expected, expectedOf}
 use Rattle.effects.specs.Calls.{hasParts}
-use Rattle.effects.proofs.Outcomes.{laid-book}
 use Rattle.figures.specs.Limits.{most-book-words}
 use Rattle.figures.specs.Answers.{answered}
 use Rattle.book.specs.Checking.{checkOf}
 use Rattle.book.specs.Opening.{outcome, leave}
+use Rattle.book.proofs.Sound.{laid-book}
 use Rattle.sums.specs.Joining.{joinOf}
 use Rattle.promises.specs.NoMore.{FormOf, TaughtIn, IncludeTaught, setsOf}
 use Rattle.promises.specs.Heard.{A, B, C, single, opens, teaches, withdraws, slice, heard}

@@ -16,10 +16,9 @@ use Rattle.book.specs.Sound.{SoundBook}
 use Rattle.book.specs.Taught.{agreeing}
 use Rattle.book.specs.Opening.{Outcome, openOf}
 use Rattle.book.proofs.Meaning.{read-back}
-use Rattle.book.proofs.Openings.{opened as opening-is}
+use Rattle.book.proofs.Openings.{opened as opening-is, number-is}
 use Rattle.book.proofs.Sound.{sound-form}
-use Rattle.effects.proofs.Calling.{number-is}
-use Rattle.effects.proofs.Agreeing.{form-orders, agreeing-is}
+use Rattle.book.proofs.Agreeing.{form-orders, agreeing-is}
 use Rattle.files.specs.Files.{readFileOf}
 use Rattle.promises.specs.Remaining.{ordersIn, booked}
 use Rattle.promises.specs.Starts.{Start, opening, reading, startedBy, taughtFirst, startK}

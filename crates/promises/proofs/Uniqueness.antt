@@ -20,8 +20,7 @@ use Rattle.book.specs.Sound.{SoundBook}
 use Rattle.book.specs.declared.Section.{Section}
 use Rattle.book.specs.declared.Section.the-variants.{Taught, Tops, Lows, Middles}
 use Rattle.book.proofs.Sound.{form-sound, sound-form}
-use Rattle.book.proofs.Sections.{each-section, same-books}
-use Rattle.amend.proofs.Sections.{form-sorted}
+use Rattle.book.proofs.Sections.{each-section, same-books, form-sorted}
 use Rattle.promises.specs.Remaining.{timesOf, booked, HowMany, none-left, one-more, not-this, ExactlyThese}
 use Rattle.promises.proofs.Orders.{Orders, booked-k, booked-form, counts-taught, counts-tops, counts-lows, counts-middles}
 use Rattle.promises.proofs.Agreement.{same-trees, sound-trees}

@@ -15,11 +15,12 @@ use Rattle.book.specs.declared.Section.{Section}
 use Rattle.book.specs.declared.Section.the-variants.{Taught, Tops, Lows, Middles}
 use Rattle.book.proofs.Sound.{form-sound, sound-form}
 use Rattle.book.proofs.Taught.{taught-formed}
+use Rattle.book.proofs.Sections.{form-sorted, InOrder, by-counts}
+use Rattle.book.proofs.Agreeing.{agreeing-is}
 use Rattle.amend.specs.Counts.{withinCounts}
-use Rattle.amend.proofs.Sections.{form-sorted, form-fitting}
+use Rattle.amend.proofs.Sections.{form-fitting}
 use Rattle.amend.proofs.Changed.{live-changed}
-use Rattle.amend.proofs.Sums.{InOrder, added, added-k, added-counts, added-turns, added-groups, added-uses, by-counts}
-use Rattle.effects.proofs.Agreeing.{agreeing-is}
+use Rattle.amend.proofs.Sums.{added, added-k, added-counts, added-turns, added-groups, added-uses}
 use Rattle.sums.specs.Joining.{CountsAdded, joined}
 use Rattle.sums.proofs.Teachings.{Taken, both-taken, form-taken, append-adds, taken-agrees}
 

@@ -21,10 +21,9 @@ use Rattle.book.specs.Opening.{Outcome, outcome, leave, writeBook, openOf}
 use Rattle.book.specs.declared.BookForm.the-variants.{Refused}
 use Rattle.book.proofs.Meaning.{lay-long, used-fits}
 use Rattle.book.proofs.Holding.{refused-book}
-use Rattle.book.proofs.Openings.{opened-book}
+use Rattle.book.proofs.Openings.{opened-book, number-is, words-are}
 use Rattle.book.proofs.Sound.{form-sound, sound-form, on-any, why-is, why-only, book-only, book-decode}
 use Rattle.amend.specs.Counts.{withinCounts}
-use Rattle.effects.proofs.Calling.{number-is, words-are}
 use Rattle.sums.specs.Joining.{joined, joinBooks, joinOf}
 use Rattle.sums.proofs.Teachings.{none-taken, taken-agrees}
 use Rattle.sums.proofs.Joined.{Grown, grown, joined-k, joined-live, joined-passes, joined-grown, joined-within, joined-turns, second-uses, joined-groups, joined-empty}

@@ -20,10 +20,10 @@ use Rattle.book.specs.Opening.{outcome, leave}
 use Rattle.book.specs.declared.Places.{Places}
 use Rattle.book.specs.declared.BookForm.the-variants.{Refused}
 use Rattle.book.proofs.Sound.{form-sound, held-book}
+use Rattle.book.proofs.Around.{live-laid}
 use Rattle.amend.specs.Counts.{withinCounts}
 use Rattle.amend.specs.Changing.{changedBook}
 use Rattle.amend.specs.declared.Change.the-variants.{Teach}
-use Rattle.amend.proofs.Sections.{live-laid}
 use Rattle.sums.specs.Joining.{joined, joinOf}
 use Rattle.sums.proofs.Joined.{grown, joined-adds, joined-within}
 use Rattle.sums.proofs.Joins.{Both, second-unjoined, k-unjoined, first-unagreed, second-unagreed, join-passes, join-crowded, join-does}

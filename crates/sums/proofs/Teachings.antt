@@ -11,14 +11,14 @@ use Rattle.section.specs.Entries.{Entry, countOf}
 use Rattle.trees.specs.Trees.{Tree, words}
 use Rattle.trees.specs.Fits.{Fits}
 use Rattle.book.specs.Book.{Book, sectionOf, inForm}
-use Rattle.book.specs.Taught.{Teaching, addEach, taught, bookOf, teachingsIn, agreeing}
+use Rattle.book.specs.Taught.{Teaching, addEach, taught, bookOf, teachingsIn, agreeing, treesIn}
 use Rattle.book.specs.declared.Section.{Section}
 use Rattle.book.specs.declared.Section.the-variants.{Taught}
 use Rattle.book.proofs.Taught.{taught-k, taught-sorted, taught-fits, none-in}
-use Rattle.amend.proofs.Sums.{added, added-k, added-counts, added-sorted, by-counts}
-use Rattle.effects.specs.Calls.{treesIn}
-use Rattle.effects.proofs.Adds.{taught-section, count-each-apart}
-use Rattle.effects.proofs.Agreeing.{TaughtOrders, form-orders, later-taught, first, teachings-live, more-taught, is-agreeing}
+use Rattle.book.proofs.Teachings.{taught-section, count-each-apart}
+use Rattle.book.proofs.Agreeing.{TaughtOrders, form-orders, later-taught, first, teachings-live, more-taught, is-agreeing}
+use Rattle.book.proofs.Sections.{by-counts}
+use Rattle.amend.proofs.Sums.{added, added-k, added-counts, added-sorted}
 
 -- ---- teachings that a book can hold
 

@@ -150,3 +150,14 @@ has-tree s e = go (seen s)
     go : Seen s → HasTree s
     go (stopped h r) = absurd (h e)
     go (passed t h p) = record { tree = t; passes = p }
+
+-- What holds of every refusal and of what follows an order holds of what follows any words.
+pub by-order : {A : Type 0} (P : A → Type 0) (os : List ℕ) (r : ℕ → A) (f : Tree → A) → ((n : ℕ) → P (r n))
+    → ((t : Tree) → Passed os t → P (f t)) → P (byOrder (orderOf os) r f)
+unfolding byOrder
+by-order P os r f p q = go (seen os)
+  where
+    -- By whether the words are an order.
+    go : Seen os → P (byOrder (orderOf os) r f)
+    go (stopped h e) = rw e (p _)
+    go (passed t h o) = rw (o .is) (q t o)

@@ -206,3 +206,7 @@ middle-fits k t u least greatest f m =
       above = omega arith;
       below = omega arith;
     }
+
+-- The words of an order that passes are within the limits.
+pub passed-fits : (ws : List ℕ) (t : Tree) → Passed ws t → Fits 0 greatest-depth (words t)
+passed-fits ws t p = subst (Fits 0 greatest-depth) (p .spelt) (order-fits (passed-order ws t p))

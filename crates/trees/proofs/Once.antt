@@ -2,10 +2,11 @@
 use mathlib.Core.Path.{_≡_, refl, ap, sym, _∙_}
 use mathlib.Core.Bool.{Bool, true, false, not}
 use mathlib.Core.List.{List, [], _∷_, List·Memᴰ·head as here, List·Memᴰ·tail as there, List·Memᴰ·not-nil}
+use Prim.Native.Nat.{ℕ}
 use Rattle.words.specs.Base.{if_then_else_, keep, _∈_}
 use Rattle.words.proofs.Tests.{no-test}
 use Rattle.trees.specs.Trees.{Tree}
-use Rattle.trees.specs.Parts.{sameTree, eachOnce}
+use Rattle.trees.specs.Parts.{sameTree, eachOnce, lowParts, middleParts}
 use Rattle.trees.proofs.Unique.{same-tree, tree-same}
 
 module _ {A : Type 0} where
@@ -68,3 +69,13 @@ pub once-no-repeats : (ts : List Tree) → NoRepeats (eachOnce ts)
 unfolding eachOnce NoRepeats
 once-no-repeats [] = tt
 once-no-repeats (t ∷ ts) = (λ m. no-test (sym (ap not (same-tree t)) ∙ kept-in _ _ m .1), kept-no-repeats _ _ (once-no-repeats ts))
+
+-- The low parts of an order have no repeats.
+pub lows-once : (k : ℕ) (t : Tree) → NoRepeats (lowParts k t)
+unfolding lowParts
+lows-once k t = once-no-repeats _
+
+-- The middle parts of an order have no repeats.
+pub middles-once : (k : ℕ) (t : Tree) → NoRepeats (middleParts k t)
+unfolding middleParts
+middles-once k t = once-no-repeats _

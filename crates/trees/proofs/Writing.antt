@@ -10,10 +10,11 @@ use lib.ListN.{length, take, drop, getD, set, length-drop, drop-of-length-le}
 use lib.Seq.{take-all as whole-take, drop-cons, drop-drop}
 use native.Mathlib.Numerals.{add-one, add-two}
 use Rattle.words.specs.Base.{if_then_else_, over}
+use Rattle.words.proofs.Tests.{either-way}
 use Rattle.figures.specs.Numbers.{done, short-output}
 use Rattle.figures.specs.Answers.{wrote}
 use Rattle.figures.specs.declared.Written.{Written}
-use Rattle.trees.specs.Answers.{writing, write}
+use Rattle.trees.specs.Answers.{writing, write, Writing}
 
 -- Two words stand at a place.
 pub two : (s : List ℕ) (at : ℕ) → at + 2 ≤ length s → drop at s ≡ getD s at 0 ∷ getD s (at + 1) 0 ∷ drop (at + 2) s
@@ -54,3 +55,16 @@ module _ (w l : List ℕ) (r : Written) where
   pub has-room : (n : ℕ) (last : List ℕ) → r ≡ wrote done n → length w ≡ n → n ≤ length l → last ≡ over w l → writing r last ≡ write w l
   unfolding write if_then_else_
   has-room n last a e h o = let z : leb (length w) (length l) ≡ true = le-leb (length w) (length l) (omega arith) in rw (a, o, z, e) refl
+
+-- ---- the figures of what is answered
+
+module _ (new out : List ℕ) where
+  -- The line is 0.
+  pub write-line : write new out .answer .line ≡ 0
+  unfolding write
+  write-line = either-way (λ (w : Writing). w .answer .line ≡ 0) (leb (length new) (length out)) _ _ refl refl
+
+  -- No more is counted than there is to write.
+  pub write-count : write new out .answer .count ≤ length new
+  unfolding write
+  write-count = either-way (λ (w : Writing). w .answer .count ≤ length new) (leb (length new) (length out)) _ _ (omega arith) (omega arith)

@@ -8,3 +8,4 @@ pub mod Rounds
 pub mod Judgements
 pub mod Verdicts
 pub mod Answers
+pub mod Figures

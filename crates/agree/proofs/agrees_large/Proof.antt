@@ -7,7 +7,7 @@ use Rattle.book.specs.Decoding.{bookIn}
 use Rattle.book.specs.Holding.{Holds}
 use Rattle.book.specs.declared.Places.{Places}
 use Rattle.book.proofs.Meaning.{used-fits}
-use Rattle.amend.proofs.Stages.{uses}
+use Rattle.book.proofs.Holding.{uses}
 use Rattle.agree.specs.Agreeing.{most-entries, Roomy}
 use Rattle.agree.proofs.Counting.{few-entries}
 use Rattle.agree.proofs.agrees_large.Statement.{statement}

@@ -19,11 +19,11 @@ use Rattle.book.specs.Decoding.{bookIn, startOf, slotOf}
 use Rattle.book.specs.Holding.{Holds}
 use Rattle.book.specs.declared.Section.{Section}
 use Rattle.book.specs.declared.Places.{Places}
-use Rattle.amend.proofs.Sections.{slot-small}
-use Rattle.amend.proofs.Weights.{slot-within, ends-within}
+use Rattle.book.proofs.Holding.{slot-small, slot-within, ends-within}
+use Rattle.book.proofs.Sections.{keys-filled}
 use Rattle.recount.specs.Tallies.{allKnown, talliedAll}
 use Rattle.agree.specs.Agreeing.{agreeingIn}
-use Rattle.agree.proofs.Counting.{tallied-few, agreeing-tallied, keys-filled}
+use Rattle.agree.proofs.Counting.{tallied-few, agreeing-tallied}
 use Rattle.agree.proofs.section_agrees.Statement.{statement}
 use Rattle.agree.proofs.section_agrees.Tie as tie
 

@@ -1,13 +1,14 @@
 -- `amend::add_book` meets its contract, by whether there is room. Assumes nothing.
 use mathlib.Core.Path.{refl}
 use borrow.Author.Needs.{needs}
-use Rattle.amend.proofs.Room.{room-used, no-room-for, room-for, can-add, lacks-so, if-true, if-false}
+use Rattle.amend.proofs.Room.{no-room-for, room-for, can-add, lacks-so, if-true, if-false}
 use Rattle.amend.proofs.add_book.Statement.{statement}
 use Rattle.amend.proofs.add_book.Tie as tie
 use Rattle.amend.proofs.add_book.Reads as reads
 use Rattle.amend.proofs.add_book.Lts as lts
 use Rattle.amend.proofs.change_book.Reads as change-book-reads
 use Rattle.amend.proofs.weigh_book.Reads as weigh-book-reads
+use Rattle.book.proofs.Holding.{used-room}
 
 -- src/lib.rt:24:9
 weigh-book-requires : tie.Need-weigh-book-requires
@@ -17,7 +18,7 @@ weigh-book-requires c κs = search needs
 sub-if1 : tie.Need-sub-if1
 sub-if1 c =
     let s = c .before .before .before .before .before in
-    room-used _ _ _ _ (s .pre .0) (s .pre .1 .0)
+    used-room _ _ (s .pre .0)
 
 -- src/lib.rt:26:9
 same-length : tie.Need-same-length

@@ -5,8 +5,9 @@ use borrow.Author.Needs.{needs}
 use Rattle.book.specs.Book.{Book}
 use Rattle.book.specs.Decoding.{bookIn}
 use Rattle.book.specs.declared.Section.the-variants.{Taught, Tops, Lows, Middles}
+use Rattle.book.proofs.Holding.{uses}
 use Rattle.amend.specs.Changing.{changedIn, changedBook}
-use Rattle.amend.proofs.Stages.{Stage, first-stage, starts, uses, held-stands, stage-stands, stage-ready, stage-lacks, next-stage, next-used, lows-start, tops-start, middles-lack, lows-lack, tops-lack, taught-lacks}
+use Rattle.amend.proofs.Stages.{Stage, first-stage, starts, held-stands, stage-stands, stage-ready, stage-lacks, next-stage, next-used, lows-start, tops-start, middles-lack, lows-lack, tops-lack, taught-lacks}
 use Rattle.amend.proofs.change_book.Statement.{statement}
 use Rattle.amend.proofs.change_book.Tie as tie
 

@@ -7,8 +7,8 @@ use borrow.Author.Needs.{needs}
 use Rattle.words.proofs.Shifts.{tail-all}
 use Rattle.book.specs.Book.{used}
 use Rattle.book.specs.Decoding.{bookIn}
+use Rattle.book.proofs.Holding.{slot-small}
 use Rattle.amend.specs.Changing.{changedIn}
-use Rattle.amend.proofs.Sections.{slot-small}
 use Rattle.amend.proofs.Standing.{stand-fits, stand-start, lives-ready, entries-ready, lacks-ready, end-then, many-then, words-then}
 use Rattle.amend.proofs.change_section.Statement.{statement}
 use Rattle.amend.proofs.change_section.Tie as tie

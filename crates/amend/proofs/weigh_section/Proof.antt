@@ -6,8 +6,8 @@ use lib.ListN.{length}
 use borrow.Author.Needs.{needs}
 use Rattle.figures.specs.Limits.{head-words}
 use Rattle.changes.specs.Editing.{weighed}
-use Rattle.amend.proofs.Sections.{slot-small}
-use Rattle.amend.proofs.Weights.{slot-within, start-within, lent-within, lent-are, lent-sorted, lent-fitting}
+use Rattle.book.proofs.Holding.{slot-small, slot-within, start-within}
+use Rattle.amend.proofs.Weights.{lent-within, lent-are, lent-sorted, lent-fitting}
 use Rattle.amend.proofs.weigh_section.Statement.{statement}
 use Rattle.amend.proofs.weigh_section.Tie as tie
 

@@ -2,7 +2,7 @@
 use mathlib.Core.Path.{sym, _∙_}
 use borrow.Author.Needs.{needs}
 use Rattle.book.proofs.Holding.{holds}
-use Rattle.effects.proofs.Outcomes.{told}
+use Rattle.book.proofs.Openings.{told}
 use Rattle.sums.proofs.Joins.{first-unjoined}
 use Rattle.sums.proofs.Outcomes.{second-unheld}
 use Rattle.join.proofs.join.Statement.{statement}

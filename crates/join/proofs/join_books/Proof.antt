@@ -2,7 +2,7 @@
 use mathlib.Core.Path.{_∙_}
 use borrow.Author.Needs.{needs}
 use Rattle.book.specs.Decoding.{bookIn}
-use Rattle.effects.proofs.Outcomes.{told}
+use Rattle.book.proofs.Openings.{told}
 use Rattle.sums.proofs.Joins.{Both}
 use Rattle.sums.proofs.Outcomes.{second-few, k-differs, one-disagrees, both-agree, too-many-live, may-add, join-no-room, join-done}
 use Rattle.join.proofs.join_books.Statement.{statement}

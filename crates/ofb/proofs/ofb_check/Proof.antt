@@ -3,7 +3,7 @@ use mathlib.Core.Path.{ap, _∙_}
 use native.Mathlib.Omega.{arith}
 use Rattle.figures.specs.declared.Answer.{Answer}
 use Rattle.ofb.specs.Interface.{toldOf}
-use Rattle.ofb.proofs.Figures.{check-line}
+use Rattle.book.proofs.Checking.{check-line}
 use borrow.Author.Needs.{needs}
 use Rattle.ofb.proofs.ofb_check.Statement.{statement}
 use Rattle.ofb.proofs.ofb_check.Tie as tie

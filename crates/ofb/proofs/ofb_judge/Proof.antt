@@ -4,8 +4,8 @@ use mathlib.Core.Path.{ap, sym, subst, _∙_}
 use native.Mathlib.Omega.{arith}
 use Rattle.section.specs.Near.{Small}
 use Rattle.verdicts.specs.declared.Judgement.{Judgement}
+use Rattle.verdicts.proofs.Figures.{judge-line-most, expected-fits}
 use Rattle.ofb.specs.Interface.{toldJudgedOf}
-use Rattle.ofb.proofs.Figures.{judge-line-most, expected-fits}
 use borrow.Author.Needs.{needs}
 use Rattle.ofb.proofs.ofb_judge.Statement.{statement}
 use Rattle.ofb.proofs.ofb_judge.Tie as tie

@@ -1,5 +1,5 @@
 -- `ofb_open` meets its contract: the line is 0. Assumes nothing.
-use Rattle.ofb.proofs.Figures.{open-line}
+use Rattle.book.proofs.Openings.{open-line}
 use Rattle.ofb.proofs.Handing.{outcome-fits, outcome-handed}
 use borrow.Author.Needs.{needs}
 use Rattle.ofb.proofs.ofb_open.Statement.{statement}

@@ -22,9 +22,9 @@ use Rattle.book.specs.Holding.{Holds}
 use Rattle.book.specs.declared.Section.{Section}
 use Rattle.book.specs.declared.Section.the-variants.{Taught}
 use Rattle.book.specs.declared.Places.{Places}
-use Rattle.effects.proofs.Outcomes.{allowed}
+use Rattle.book.proofs.Holding.{allowed}
+use Rattle.book.proofs.Agreeing.{taught-cause}
 use Rattle.recount.specs.Tallies.{partsIn, allKnown, talliedAll, markedAll}
-use Rattle.recount.proofs.Taught.{taught-cause}
 use Rattle.recount.proofs.tally_taught.Statement.{statement}
 use Rattle.recount.proofs.tally_taught.Tie as tie
 

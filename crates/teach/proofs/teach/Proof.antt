@@ -2,7 +2,8 @@
 use mathlib.Core.Path.{sym, _∙_}
 use borrow.Author.Needs.{needs}
 use Rattle.book.proofs.Holding.{holds}
-use Rattle.effects.proofs.Outcomes.{told, teach-unheld}
+use Rattle.book.proofs.Openings.{told}
+use Rattle.effects.proofs.Outcomes.{teach-unheld}
 use Rattle.teach.proofs.teach.Statement.{statement}
 use Rattle.teach.proofs.teach.Tie as tie
 

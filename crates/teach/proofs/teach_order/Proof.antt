@@ -7,9 +7,11 @@ use Rattle.trees.specs.Reading.{causeOf}
 use Rattle.trees.specs.Spans.{GoneOver}
 use Rattle.trees.proofs.Spots.{passed-short}
 use Rattle.book.specs.Holding.{Holds}
+use Rattle.book.proofs.Holding.{used-room, allowed}
+use Rattle.book.proofs.Openings.{told}
 use Rattle.own.specs.Own.{own-words}
 use Rattle.amend.specs.declared.BookWeighed.{BookWeighed}
-use Rattle.effects.proofs.Outcomes.{all-zeros, told, teach-refused, used-room, allowed, teach-full, own-holds, teach-overfull, teach-crowded, teach-ready, teach-done}
+use Rattle.effects.proofs.Outcomes.{all-zeros, teach-refused, teach-full, own-holds, teach-overfull, teach-crowded, teach-ready, teach-done}
 use Rattle.teach.proofs.teach_order.Statement.{statement}
 use Rattle.teach.proofs.teach_order.Tie as tie
 

@@ -2,7 +2,8 @@
 use mathlib.Core.Path.{sym, _∙_}
 use borrow.Author.Needs.{needs}
 use Rattle.book.proofs.Holding.{holds}
-use Rattle.effects.proofs.Outcomes.{told, withdraw-unheld}
+use Rattle.book.proofs.Openings.{told}
+use Rattle.effects.proofs.Outcomes.{withdraw-unheld}
 use Rattle.teach.proofs.withdraw.Statement.{statement}
 use Rattle.teach.proofs.withdraw.Tie as tie
 

@@ -7,8 +7,10 @@ use Rattle.trees.specs.Reading.{causeOf}
 use Rattle.trees.specs.Spans.{GoneOver}
 use Rattle.trees.proofs.Spots.{passed-short}
 use Rattle.book.specs.Holding.{Holds}
+use Rattle.book.proofs.Holding.{allowed}
+use Rattle.book.proofs.Openings.{told}
 use Rattle.own.specs.Own.{own-words}
-use Rattle.effects.proofs.Outcomes.{all-zeros, told, withdraw-refused, allowed, own-holds, withdraw-untaught, withdraw-ready, withdraw-disagrees, withdraw-done}
+use Rattle.effects.proofs.Outcomes.{all-zeros, withdraw-refused, own-holds, withdraw-untaught, withdraw-ready, withdraw-disagrees, withdraw-done}
 use Rattle.teach.proofs.withdraw_order.Statement.{statement}
 use Rattle.teach.proofs.withdraw_order.Tie as tie
 
