@@ -23,14 +23,14 @@ use Rattle.book.specs.declared.Section.{Section}
 use Rattle.book.proofs.Taught.{taught-k, none-in}
 use Rattle.book.proofs.Teachings.{taught-section, own-section, trees-once, count-each-apart, each-count}
 use Rattle.book.proofs.Agreeing.{TaughtOrders, later-taught, first}
-use Rattle.own.specs.Own.{ownBook, ownOf}
+use Rattle.book_listing.specs.Own.{ownBook, ownOf}
 use Rattle.recount.specs.Tallies.{partsIn, allKnown, talliedAll}
 
 -- ---- what the orders of a T count
 
 -- n teachings of an order count n more in a section for each key that one teaching counts there, and nothing for others.
 count-own : (n : ℕ) (t : Tree) (b : Book) (s : Section) (z : List ℕ)
-    → countOf z (sectionOf s (taught n t b)) ≡ (if has z (sectionOf s (ownBook (b .k) t)) then n else 0) + countOf z (sectionOf s b)
+    → countOf z (sectionOf s (taught n t b)) ≡ (if has z (sectionOf s (ownBook (b .k) 1 t)) then n else 0) + countOf z (sectionOf s b)
 count-own n t b s z =
     let ts : List Tree = treesIn s (b .k) t in
     rw (taught-section n t b s, own-section 1 (b .k) t s) (omega (arith, count-each-apart n z ts (sectionOf s b), each-count n z ts (trees-once (b .k) t s)))
@@ -40,7 +40,7 @@ abbrev pub countedIn : Section → ℕ → List Entry → List Entry
 countedIn s k ts = sectionOf s (bookOf k (teachingsIn ts))
 
 -- What the order with these words counts is the section of its own book.
-own-parts : (s : Section) (k : ℕ) (os : List ℕ) (t : Tree) → os ≡ words t → Fits 0 greatest-depth os → partsIn s k os ≡ sectionOf s (ownBook k t)
+own-parts : (s : Section) (k : ℕ) (os : List ℕ) (t : Tree) → os ≡ words t → Fits 0 greatest-depth os → partsIn s k os ≡ sectionOf s (ownBook k 1 t)
 unfolding ownOf byOrder
 own-parts s k os t e f = rw (order-read os t (fits-order-of os t e f))
 
@@ -52,7 +52,7 @@ count-more s k e ts o z =
     let f = first e ts o in
     let B : Book = bookOf k (teachingsIn ts) in
     let same = own-parts s k (e .key) (f .tree) (f .spelt) (o .limits e (here refl)) in
-    let own : sectionOf s (ownBook (B .k) (f .tree)) ≡ partsIn s k (e .key) = ap (λ (n : ℕ). sectionOf s (ownBook n (f .tree))) (taught-k k (teachingsIn ts)) ∙ sym same in
+    let own : sectionOf s (ownBook (B .k) 1 (f .tree)) ≡ partsIn s k (e .key) = ap (λ (n : ℕ). sectionOf s (ownBook n 1 (f .tree))) (taught-k k (teachingsIn ts)) ∙ sym same in
     ap (λ (os : List Teaching). countOf z (sectionOf s (bookOf k os))) (f .reads) ∙ count-own (e .count) (f .tree) B s z
     ∙ ap (λ (es : List Entry). (if has z es then e .count else 0) + countOf z (sectionOf s B)) own
 

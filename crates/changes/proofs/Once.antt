@@ -1,54 +1,22 @@
--- An entry that is entered once: what the section is then, and the words of a part once the entry stands where a search has its place.
--- Assumes nothing.
+-- An entry that is entered once: the words of a part once it stands where a search has its place. Assumes nothing.
 use Prim.Native.Nat.{ℕ, _+_, _-_, _≤_}
 use mathlib.Core.Path.{_≡_, refl, sym, ap, _∙_}
-use mathlib.Core.Bool.{Bool, true, false}
 use mathlib.Core.List.{List, [], _∷_, _++_, append-assoc, List·Memᴰ·head as here, List·Memᴰ·tail as there}
 use native.Mathlib.Omega.{arith}
 use lib.ListN.{length, take, drop}
 use lib.Seq.{take-all}
-use Rattle.words.specs.Base.{if_then_else_, sameWords, _∈_}
+use Rattle.words.specs.Base.{_∈_}
 use Rattle.words.specs.Compare.{_≺_}
-use Rattle.words.proofs.Tests.{words-same}
-use Rattle.section.specs.Entries.{Entry, counted, entryWords, sectionWords, width, firstEntry, entries, has, look, Below, Sorted, add}
-use Rattle.changes.specs.Editing.{addOnce, Laid, Edited}
+use Rattle.section.specs.Entries.{Entry, counted, entryWords, sectionWords, width, firstEntry, entries, look, Below, Sorted, add, addOnce}
+use Rattle.changes.specs.Editing.{Laid, Edited}
 use Rattle.section.specs.declared.Found.the-variants.{At, Absent}
-use Rattle.section.proofs.Counts.{has-add}
 use Rattle.section.proofs.Searches.{look-gap}
 use Rattle.section.proofs.Near.{there-told}
-use Rattle.section.proofs.Sorting.{sorted-add, add-below}
+use Rattle.section.proofs.Sorting.{add-below}
+use Rattle.section.proofs.Once.{once-has, once-lacks}
 use Rattle.changes.proofs.Relaying.{Reached, behind, first-words, reached-few, reached-none, reached-over, reached-enter, reached-edited}
 
 -- ---- entries
-
-module _ (e : Entry) (es : List Entry) where
-  -- An entry whose key has one is not entered.
-  pub once-has : has (e .key) es ≡ true → addOnce e es ≡ es
-  unfolding addOnce if_then_else_
-  once-has h = rw h
-
-  -- An entry whose key has none is entered.
-  pub once-lacks : has (e .key) es ≡ false → addOnce e es ≡ add (e .count) (e .key) es
-  unfolding addOnce if_then_else_
-  once-lacks h = rw h
-
-  -- With an entry once more a section is still sorted.
-  pub sorted-add-once : 1 ≤ e .count → Sorted es → Sorted (addOnce e es)
-  sorted-add-once p s = go (has (e .key) es) refl
-    where
-      go : (b : Bool) → has (e .key) es ≡ b → Sorted (addOnce e es)
-      go true h = rw (once-has h) s
-      go false h = rw (once-lacks h) (sorted-add (e .count) (e .key) es p s)
-
--- With an entry once more a section has its key, and those it had.
-pub has-once : (e : Entry) (es : List Entry) (z : List ℕ) → has z (addOnce e es) ≡ (if sameWords (e .key) z then true else has z es)
-unfolding if_then_else_
-has-once e es z = go (has (e .key) es) refl (sameWords (e .key) z) refl
-  where
-    go : (b : Bool) → has (e .key) es ≡ b → (c : Bool) → sameWords (e .key) z ≡ c → has z (addOnce e es) ≡ (if sameWords (e .key) z then true else has z es)
-    go true h true t = rw (once-has e es h, t, ← words-same (e .key) z t) h
-    go true h false t = rw (once-has e es h, t)
-    go false h c t = rw (once-lacks e es h) (has-add (e .count) (e .key) z es)
 
 -- n more of a key that has no entry are entered between the entries with lower keys and the others.
 pub add-gap : (n : ℕ) (key : List ℕ) (front back : List Entry) → ((e : Entry) → e ∈ front → e .key ≺ key) → Below key back

@@ -28,10 +28,6 @@ unfoldable pub lowerAll : List Entry → List Entry → List Entry
 lowerAll [] es = es
 lowerAll (o ∷ os) es = lower (o .key) (lowerAll os es)
 
--- An entry more, unless its key has one: "once per teaching however often it occurs in it".
-unfoldable pub addOnce : Entry → List Entry → List Entry
-addOnce e es = if has (e .key) es then es else add (e .count) (e .key) es
-
 -- "count (1 to 65,535)": every count is at most 65,535.
 unfoldable pub fitting : List Entry → Bool
 fitting [] = true
@@ -77,6 +73,10 @@ pub record Edited (ws : List ℕ) (n used : ℕ) (es : List Entry) (now : List �
   pub words : now ≡ relaid n used es ws
   pub uses : size .used ≡ length (sectionWords es) + (used - span n ws)
   pub counts : size .many ≡ length es
+
+-- How many words and entries a list has.
+abbrev pub extentOf : List Entry → Size
+extentOf es = record { used = length (sectionWords es); many = length es }
 
 -- ---- a gap in the words
 

@@ -28,7 +28,7 @@ use Rattle.book.proofs.Sections.{each-section, same-books, form-sorted, InOrder
 use Rattle.book.proofs.Taught.{sorted-each, each-keys}
 use Rattle.book.proofs.Teachings.{each-count, each-sorted, own-section, taught-section, trees-once, live-taught, count-each-apart}
 use Rattle.effects.specs.Calls.{lowerEach, withdrawn, hasEach, hasParts}
-use Rattle.own.specs.Own.{ownBook}
+use Rattle.book_listing.specs.Own.{ownBook}
 use Rattle.amend.specs.Counts.{withinCounts}
 use Rattle.amend.specs.Changing.{changedIn, changedBook, lackingParts, lackingAll, overfullAny}
 use Rattle.amend.specs.declared.Change.the-variants.{Teach, Withdraw}
@@ -71,7 +71,7 @@ lower-each-all ts es r s =
 -- ---- changes by the order's own book
 
 -- The book of one teaching has sorted sections.
-own-sorted : (k : ℕ) (t : Tree) (s : Section) → Sorted (sectionOf s (ownBook k t))
+own-sorted : (k : ℕ) (t : Tree) (s : Section) → Sorted (sectionOf s (ownBook k 1 t))
 own-sorted k t s = rw (own-section 1 k t s) (each-sorted 1 (treesIn s k t) (omega arith))
 
 module _ (t : Tree) (b : Book) (sorted : (s : Section) → Sorted (sectionOf s b)) where
@@ -83,7 +83,7 @@ module _ (t : Tree) (b : Book) (sorted : (s : Section) → Sorted (sectionOf s b
       ∙ sym (changed-section Teach _ b s ∙ ap (λ (os : List Entry). addAll os (sectionOf s b)) (own-section n (b .k) t s)))
 
   -- Withdrawing an order takes its own book away.
-  pub withdrawn-changed : withdrawn t b ≡ changedBook Withdraw (ownBook (b .k) t) b
+  pub withdrawn-changed : withdrawn t b ≡ changedBook Withdraw (ownBook (b .k) 1 t) b
   unfolding withdrawn changedBook changedIn withSection
   withdrawn-changed = same-books _ _ refl (λ s.
       withdrawn-section t b s ∙ lower-each-all (treesIn s (b .k) t) (sectionOf s b) (trees-once (b .k) t s) (sorted s)
@@ -104,8 +104,8 @@ taught-added n t x b p sx sb same =
 -- ---- the words used
 
 -- Once an order is taught the book uses the words more that its own book has and the book lacked.
-pub used-taught : (t : Tree) (b : Book) → ((s : Section) → Sorted (sectionOf s b)) → used (taught 1 t b) ≡ used b + lackingAll (ownBook (b .k) t) b
-used-taught t b sorted = ap used (taught-changed t b sorted 1 (omega arith)) ∙ used-changed (ownBook (b .k) t) b (own-sorted (b .k) t) sorted
+pub used-taught : (t : Tree) (b : Book) → ((s : Section) → Sorted (sectionOf s b)) → used (taught 1 t b) ≡ used b + lackingAll (ownBook (b .k) 1 t) b
+used-taught t b sorted = ap used (taught-changed t b sorted 1 (omega arith)) ∙ used-changed (ownBook (b .k) 1 t) b (own-sorted (b .k) t) sorted
 
 -- ---- the counts
 
@@ -116,21 +116,21 @@ live-withdrawn t b sorted entry = total-lower (words t) (b .T) sorted entry
 
 module _ (t : Tree) (b : Book) (form : inForm b ≡ true) where
   -- Once an order is taught a section's counts fit just if its own book would make none of them pass 65,535.
-  fitting-taught : (s : Section) → fitting (sectionOf s (taught 1 t b)) ≡ not (overfull (sectionOf s (ownBook (b .k) t)) (sectionOf s b))
+  fitting-taught : (s : Section) → fitting (sectionOf s (taught 1 t b)) ≡ not (overfull (sectionOf s (ownBook (b .k) 1 t)) (sectionOf s b))
   fitting-taught s =
       let sorted = form-sorted b form in
       ap (λ (c : Book). fitting (sectionOf s c)) (taught-changed t b sorted 1 (omega arith))
-      ∙ ap fitting (changed-section Teach (ownBook (b .k) t) b s)
+      ∙ ap fitting (changed-section Teach (ownBook (b .k) 1 t) b s)
       ∙ overfull-fitting _ _ (own-sorted (b .k) t s) (sorted s) (form-fitting b form s)
 
   -- Once an order is taught the counts are within 65,535 just if one live teaching more is, and its own book would make none of them pass.
-  within-is : withinCounts (taught 1 t b) ≡ (leb (live b + 1) greatest-count and not (overfullAny (ownBook (b .k) t) b))
+  within-is : withinCounts (taught 1 t b) ≡ (leb (live b + 1) greatest-count and not (overfullAny (ownBook (b .k) 1 t) b))
   unfolding withinCounts overfullAny sectionOf
   within-is =
       rw (live-taught 1 t b, fitting-taught Taught, fitting-taught Tops, fitting-taught Lows, fitting-taught Middles) (ap (λ (r : Bool). leb (live b + 1) greatest-count and r) (sym (not-any _ _ _ _)))
 
   -- Where one live teaching more has room and no count would pass, the counts are within 65,535 once the order is taught.
-  pub within-taught : live b < greatest-count → overfullAny (ownBook (b .k) t) b ≡ false → withinCounts (taught 1 t b) ≡ true
+  pub within-taught : live b < greatest-count → overfullAny (ownBook (b .k) 1 t) b ≡ false → withinCounts (taught 1 t b) ≡ true
   within-taught h o = within-is ∙ and-both (le-leb (live b + 1) greatest-count (omega arith)) (ap not o)
 
   -- Where one live teaching more has no room, they are not.
@@ -138,7 +138,7 @@ module _ (t : Tree) (b : Book) (form : inForm b ≡ true) where
   lives-pass h = within-is ∙ fails-left _ _ (lt-leb (live b + 1) greatest-count (omega arith))
 
   -- Where a count would pass, they are not.
-  pub count-passes : overfullAny (ownBook (b .k) t) b ≡ true → withinCounts (taught 1 t b) ≡ false
+  pub count-passes : overfullAny (ownBook (b .k) 1 t) b ≡ true → withinCounts (taught 1 t b) ≡ false
   count-passes o = within-is ∙ fails-right _ _ (ap not o)
 
 -- ---- what is lacking
@@ -179,24 +179,24 @@ no-tree-lacking ts es h = none-lacking _ es (each-keys (λ z. has z es ≡ true)
 
 module _ (t : Tree) (b : Book) where
   -- The order has an entry in T where its own T lacks no words there.
-  pub has-own : lackingWords (ownBook (b .k) t .T) (b .T) ≡ 0 → has (words t) (b .T) ≡ true
+  pub has-own : lackingWords (ownBook (b .k) 1 t .T) (b .T) ≡ 0 → has (words t) (b .T) ≡ true
   unfolding bookOf taught addEach hasEach
   has-own h = and-left _ _ (lacking-no-tree (t ∷ []) (b .T) h)
 
   -- It has none where words are lacking.
-  pub has-no-own : 0 < lackingWords (ownBook (b .k) t .T) (b .T) → has (words t) (b .T) ≡ false
+  pub has-no-own : 0 < lackingWords (ownBook (b .k) 1 t .T) (b .T) → has (words t) (b .T) ≡ false
   unfolding bookOf taught addEach hasEach
   has-no-own h = fails-some _ _ (λ e. no-tree-lacking (t ∷ []) (b .T) (and-both e refl)) h
 
   -- Every part has an entry where the own R, L and P lack no words.
-  pub has-own-parts : lackingParts (ownBook (b .k) t) b ≡ 0 → hasParts t b ≡ true
+  pub has-own-parts : lackingParts (ownBook (b .k) 1 t) b ≡ 0 → hasParts t b ≡ true
   unfolding bookOf taught addEach hasEach hasParts lackingParts
   has-own-parts h =
       and-both (and-left _ _ (lacking-no-tree (top (b .k) t ∷ []) (b .R) (omega arith)))
       (and-both (lacking-no-tree (lowParts (b .k) t) (b .L) (omega arith)) (lacking-no-tree (middleParts (b .k) t) (b .P) (omega arith)))
 
   -- A part is missing where words are lacking.
-  pub has-no-own-parts : 0 < lackingParts (ownBook (b .k) t) b → hasParts t b ≡ false
+  pub has-no-own-parts : 0 < lackingParts (ownBook (b .k) 1 t) b → hasParts t b ≡ false
   unfolding bookOf taught addEach hasEach hasParts lackingParts
   has-no-own-parts h = fails-some _ _ (λ e.
       let f = and-right _ _ e in

@@ -9,7 +9,7 @@ use Rattle.words.specs.Base.{_∈_}
 use Rattle.figures.specs.Limits.{greatest-depth, least-k, greatest-k}
 use Rattle.trees.specs.Trees.{Tree, words}
 use Rattle.trees.specs.Fits.{Fits}
-use Rattle.section.specs.Entries.{has, total, add}
+use Rattle.section.specs.Entries.{has, add}
 use Rattle.section.proofs.Counts.{total-lowers}
 use Rattle.changes.specs.Editing.{lowerAll}
 use Rattle.changes.proofs.Lowering.{sorted-lower-all, fitting-lower-all}
@@ -20,7 +20,8 @@ use Rattle.book.proofs.Sound.{form-sound}
 use Rattle.book.proofs.Sections.{form-keys, sections-form, form-sorted}
 use Rattle.book.proofs.Taught.{taught-k, taught-formed}
 use Rattle.effects.specs.Calls.{withdrawn}
-use Rattle.own.specs.Own.{ownBook}
+use Rattle.book_listing.specs.Own.{ownBook}
+use Rattle.book_listing.proofs.Owning.{own-live}
 use Rattle.amend.specs.Counts.{withinCounts}
 use Rattle.amend.specs.Changing.{changedIn, changedBook, ReadyAll}
 use Rattle.amend.specs.declared.Change.the-variants.{Teach, Withdraw}
@@ -31,14 +32,9 @@ use Rattle.effects.proofs.Adds.{taught-changed, withdrawn-changed, live
 -- ---- the order's own book
 
 module _ (k : ℕ) (t : Tree) where
-  -- It has one live teaching.
-  pub own-live : live (ownBook k t) ≡ 1
-  unfolding live bookOf taught add total
-  own-live = refl
-
   -- It is in form.
-  pub own-form : least-k ≤ k → k ≤ greatest-k → Fits 0 greatest-depth (words t) → inForm (ownBook k t) ≡ true
-  own-form l g fits = taught-formed k (record { order = t; times = 1 } ∷ []) times limits (omega (arith, own-live)) l g
+  pub own-form : least-k ≤ k → k ≤ greatest-k → Fits 0 greatest-depth (words t) → inForm (ownBook k 1 t) ≡ true
+  own-form l g fits = taught-formed k (record { order = t; times = 1 } ∷ []) times limits (omega (arith, own-live k 1 t)) l g
     where
       times : (o : Teaching) → o ∈ (record { order = t; times = 1 } ∷ []) → 1 ≤ o .times
       times o (here q) = rw q (omega arith)
@@ -49,28 +45,28 @@ module _ (k : ℕ) (t : Tree) where
       limits o (there m) = absurd (List·Memᴰ·not-nil m)
 
 -- At the k of a book in form it is in form.
-pub beside-form : (t : Tree) (b : Book) → inForm b ≡ true → Fits 0 greatest-depth (words t) → inForm (ownBook (b .k) t) ≡ true
+pub beside-form : (t : Tree) (b : Book) → inForm b ≡ true → Fits 0 greatest-depth (words t) → inForm (ownBook (b .k) 1 t) ≡ true
 beside-form t b form limits = let sound = form-sound b form in own-form (b .k) t (sound .least) (sound .greatest) limits
 
 -- ---- changes that can be made
 
 -- A book from which an order's own book is taken has the live teachings of the one from which the order is withdrawn.
-live-taken : (t : Tree) (b : Book) → live (changedIn Withdraw Taught (ownBook (b .k) t) b) ≡ live (withdrawn t b)
+live-taken : (t : Tree) (b : Book) → live (changedIn Withdraw Taught (ownBook (b .k) 1 t) b) ≡ live (withdrawn t b)
 unfolding live changedIn withSection sectionOf bookOf taught add lowerAll withdrawn
 live-taken t b = refl
 
 module _ (n : ℕ) (t : Tree) (b : Book) (form : inForm b ≡ true) (limits : Fits 0 greatest-depth (words t)) where
   -- The order's own book can be added to a book, if the counts stay within 65,535 and there is room.
-  pub ready-teach : withinCounts (taught 1 t b) ≡ true → used (taught 1 t b) ≤ n → ReadyAll n Teach (ownBook (b .k) t) b
+  pub ready-teach : withinCounts (taught 1 t b) ≡ true → used (taught 1 t b) ≤ n → ReadyAll n Teach (ownBook (b .k) 1 t) b
   ready-teach within room =
-      let is : taught 1 t b ≡ changedBook Teach (ownBook (b .k) t) b = taught-changed t b (form-sorted b form) 1 (omega arith) in
-      ready-add n (ownBook (b .k) t) b (beside-form t b form limits) form (taught-k (b .k) _) (rw is at within) (rw is at room)
+      let is : taught 1 t b ≡ changedBook Teach (ownBook (b .k) 1 t) b = taught-changed t b (form-sorted b form) 1 (omega arith) in
+      ready-add n (ownBook (b .k) 1 t) b (beside-form t b form limits) form (taught-k (b .k) _) (rw is at within) (rw is at room)
 
   -- It can be taken from a book that has an entry of the order.
-  pub ready-withdraw : has (words t) (b .T) ≡ true → used b ≤ n → ReadyAll n Withdraw (ownBook (b .k) t) b
+  pub ready-withdraw : has (words t) (b .T) ≡ true → used b ≤ n → ReadyAll n Withdraw (ownBook (b .k) 1 t) b
   unfolding changedBook sectionOf
   ready-withdraw entry room =
-      let own : Book = ownBook (b .k) t in
+      let own : Book = ownBook (b .k) 1 t in
       let b1 : Book = changedIn Withdraw Middles own b in
       let b2 : Book = changedIn Withdraw Lows own b1 in
       let b3 : Book = changedIn Withdraw Tops own b2 in
@@ -79,7 +75,7 @@ module _ (n : ℕ) (t : Tree) (b : Book) (form : inForm b ≡ true) (limits : Fi
       let t3 : used b3 ≤ n = omega (arith, used-shrinks Tops own b2) in
       let t4 : used (changedBook Withdraw own b) ≤ n = omega (arith, used-shrinks Taught own b3) in
       let lives : live (changedIn Withdraw Taught own b) + 1 ≡ live b = rw (live-taken t b) (live-withdrawn t b (form-sorted b form Taught) entry) in
-      let one : live own ≡ 1 = own-live (b .k) t in
+      let one : live own ≡ 1 = own-live (b .k) 1 t in
       ready-all n Withdraw own b (beside-form t b form limits) form (taught-k (b .k) _) (λ s. fitting-lower-all (sectionOf s own) (sectionOf s b) (form-fitting b form s))
       (omega (arith, form-sound b form .few)) (omega arith) (omega arith) t1 t2 t3 t4
 
@@ -97,5 +93,5 @@ unfolding withdrawn live
 withdrawn-keeps-form t b form =
     let sound = form-sound b form in
     sections-form (b .k) (withdrawn t b) refl (sound .least) (sound .greatest) (omega (arith, sound .few, total-lowers (words t) (b .T))) (λ s.
-    rw (ap (sectionOf s) (withdrawn-changed t b (form-sorted b form)) ∙ changed-section Withdraw (ownBook (b .k) t) b s)
+    rw (ap (sectionOf s) (withdrawn-changed t b (form-sorted b form)) ∙ changed-section Withdraw (ownBook (b .k) 1 t) b s)
     (sorted-sound _ _ _ (sorted-lower-all _ _ (form-sorted b form s)) (fitting-lower-all _ _ (form-fitting b form s)) (lower-all-keys _ _ _ (form-keys b form s))))

@@ -37,11 +37,11 @@ use Rattle.book.proofs.Sections.{form-sorted}
 use Rattle.book.proofs.Around.{live-laid}
 use Rattle.amend.specs.Counts.{withinCounts}
 use Rattle.effects.specs.Calls.{onOrder, teachTree, teachOf, withdrawn, hasParts, withdrawTree, withdrawOf}
-use Rattle.own.specs.Own.{own-words, ownBook, ownOf}
+use Rattle.book_listing.specs.Own.{own-words, ownBook, ownOf}
 use Rattle.amend.specs.Changing.{changedBook, ReadyAll, weighedIn, weighedBook, lackingParts, lackingAll, overfullAny}
 use Rattle.amend.specs.declared.Change.the-variants.{Teach, Withdraw}
 use Rattle.amend.specs.declared.BookWeighed.{BookWeighed}
-use Rattle.own.proofs.Owning.{own-short}
+use Rattle.book_listing.proofs.Owning.{own-short}
 use Rattle.effects.proofs.Adds.{taught-changed, withdrawn-changed, used-taught, within-taught, lives-pass, count-passes, has-own, has-no-own, has-own-parts, has-no-own-parts}
 use Rattle.effects.proofs.Formed.{beside-form, ready-teach, ready-withdraw}
 
@@ -113,7 +113,7 @@ module _ (ws os : List ℕ) (p : Places) (H : Holds ws p) (e : causeOf os ≡ do
 
   -- Its own book, at the book's k.
   abbrev own-book : Book
-  own-book = ownBook (bookIn ws .k) tree
+  own-book = ownBook (bookIn ws .k) 1 tree
 
   -- The order's words are within the limits.
   limits : Fits 0 greatest-depth (words tree)
@@ -125,12 +125,12 @@ module _ (ws os : List ℕ) (p : Places) (H : Holds ws p) (e : causeOf os ≡ do
   by-tree f = by-order ws os (bookIn ws) (held-book ws p H) f ∙ rw (has-tree os e .passes .is)
 
   -- What the order's words list is its own book.
-  own-listed : ownOf (p .k .k) os ≡ own-book
+  own-listed : ownOf (p .k .k) 1 os ≡ own-book
   unfolding ownOf byOrder
   own-listed = rw (has-tree os e .passes .is, H .depth)
 
   -- It is in form.
-  own-formed : inForm (ownOf (p .k .k) os) ≡ true
+  own-formed : inForm (ownOf (p .k .k) 1 os) ≡ true
   own-formed = ap inForm own-listed ∙ beside-form tree (bookIn ws) (H .form) limits
 
   -- Where one more live teaching has no room teaching answers 7.
@@ -141,14 +141,14 @@ module _ (ws os : List ℕ) (p : Places) (H : Holds ws p) (e : causeOf os ≡ do
       sym (by-tree (teachTree ws) ∙ rw w)
 
   -- The order's own book stands in a slice.
-  module _ (own : List ℕ) (owns : Places) (came : owns ≡ placesOf (ownOf (p .k .k) os)) (wrote : own ≡ lay own-words (ownOf (p .k .k) os)) where
+  module _ (own : List ℕ) (owns : Places) (came : owns ≡ placesOf (ownOf (p .k .k) 1 os)) (wrote : own ≡ lay own-words (ownOf (p .k .k) 1 os)) where
     -- The slice holds it.
     pub own-holds : Holds own owns
-    own-holds = rw (came, wrote) (laid-holds own-words (ownOf (p .k .k) os) own-formed (own-short os e (p .k .k) (allowed ws p H .0) (allowed ws p H .1)) (omega arith))
+    own-holds = rw (came, wrote) (laid-holds own-words (ownOf (p .k .k) 1 os) own-formed (own-short os e (p .k .k) 1 (omega arith) (allowed ws p H .0) (allowed ws p H .1)) (omega arith))
 
     -- It is read there.
     own-read : bookIn own ≡ own-book
-    own-read = ap bookIn wrote ∙ laid-read own-words (ownOf (p .k .k) os) own-formed ∙ own-listed
+    own-read = ap bookIn wrote ∙ laid-read own-words (ownOf (p .k .k) 1 os) own-formed ∙ own-listed
 
     -- ---- teaching
     module _ (w : BookWeighed) (weighs : w ≡ weighedBook (bookIn own) (bookIn ws)) where

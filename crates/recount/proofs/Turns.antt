@@ -9,17 +9,16 @@ use Rattle.words.specs.Base.{_and_, if_then_else_, sameWords}
 use Rattle.words.proofs.Tests.{no-test, same-words, words-same}
 use Rattle.figures.specs.Limits.{least-k}
 use Rattle.figures.specs.Numbers.{done}
-use Rattle.section.specs.Entries.{Entry, counted, has, Sorted}
-use Rattle.changes.specs.Editing.{addOnce}
-use Rattle.changes.proofs.Once.{has-once}
+use Rattle.section.specs.Entries.{Entry, counted, has, Sorted, addOnce}
+use Rattle.section.proofs.Once.{has-once}
 use Rattle.tally.specs.Tallying.{soughtIn, hasAll, onEach, tallied, marked, Few, onOne, talliedOnce, markedOnce, Ready, Taken}
 use Rattle.tally.proofs.Tallies.{length-each, each-none, tallied-more, once-more, all-known, one-unknown}
 use Rattle.trees.specs.Trees.{Tree}
 use Rattle.trees.specs.Reading.{causeOf}
 use Rattle.trees.specs.Standing.{cutOf}
 use Rattle.trees.proofs.Causes.{has-tree}
-use Rattle.own.specs.Own.{listOf}
-use Rattle.own.proofs.Listing.{Gone, gone-none, gone-all, gone-has, gone-passed, TellsLow, gone-entered, partHere}
+use Rattle.book_listing.specs.Own.{listOf}
+use Rattle.book_listing.proofs.Parts.{Gone, gone-none, gone-all, gone-has, gone-passed, TellsLow, gone-entered, partHere}
 
 -- ---- one key
 
@@ -60,7 +59,7 @@ refused-taken turn n os es cs ms cs′ ms′ unknown = record { told = unknown; 
 pub record Turning (low : Bool) (k : ℕ) (os : List ℕ) (es : List Entry) (turn n : ℕ) (cs₀ ms₀ cs ms : List ℕ) (line : ℕ) : Type 0 where
   pub tree : Tree
   pub entered : List Entry
-  pub gone : Gone low k os tree line entered
+  pub gone : Gone low k 1 os tree line entered
   pub counts : cs ≡ tallied n entered es cs₀
   pub marks : ms ≡ marked turn entered es ms₀
   pub known : (z : List ℕ) → has z entered ≡ true → has z es ≡ true
@@ -77,7 +76,7 @@ module _ (low : Bool) (k : ℕ) (os : List ℕ) (es : List Entry) (turn n : ℕ)
   turn-start cs ms e = let x = has-tree os e in record {
     tree = x .tree;
     entered = [];
-    gone = gone-none low k os (x .tree) (x .passes);
+    gone = gone-none low k 1 os (x .tree) (omega arith) (x .passes);
     counts = sym (each-none (λ (c : ℕ). c + n) es cs);
     marks = sym (each-none (λ (m : ℕ). turn) es ms);
     known = λ z h. no-test h;
@@ -93,9 +92,9 @@ module _ (low : Bool) (k : ℕ) (os : List ℕ) (es : List Entry) (turn n : ℕ)
     turn-marks = ap length (st .marks) ∙ length-each (λ (m : ℕ). turn) (st .entered) es ms₀
 
     -- Past the last line the turn is taken.
-    pub turn-end : length os / 2 ≤ line → Taken turn n (listOf low k os) es cs₀ ms₀ cs ms true
+    pub turn-end : length os / 2 ≤ line → Taken turn n (listOf low k 1 os) es cs₀ ms₀ cs ms true
     turn-end past =
-        let all = gone-all low k os (st .tree) line (st .entered) (st .gone) past in
+        let all = gone-all low k 1 os (st .tree) line (st .entered) (st .gone) past in
         record {
           told = sym (ap (λ (ps : List Entry). hasAll ps es) (sym all) ∙ all-known (st .entered) es (st .known));
           counted = λ e. st .counts ∙ ap (λ (ps : List Entry). tallied n ps es cs₀) all;
@@ -108,7 +107,7 @@ module _ (low : Bool) (k : ℕ) (os : List ℕ) (es : List Entry) (turn n : ℕ)
       turn-passed other = record {
         tree = st .tree;
         entered = st .entered;
-        gone = gone-passed low k os (st .tree) line (st .entered) (st .gone) more b least is other;
+        gone = gone-passed low k 1 os (st .tree) line (st .entered) (st .gone) more b least is other;
         counts = st .counts;
         marks = st .marks;
         known = st .known;
@@ -117,7 +116,7 @@ module _ (low : Bool) (k : ℕ) (os : List ℕ) (es : List Entry) (turn n : ℕ)
       module _ (same : Bool·beq b low ≡ true) (d : ℕ) (deep : d ≡ k - 1) where
         -- The line's part.
         abbrev this : Entry
-        this = partHere k os line
+        this = partHere k 1 os line
 
         -- The parts with it.
         abbrev with-this : List Entry
@@ -128,19 +127,19 @@ module _ (low : Bool) (k : ℕ) (os : List ℕ) (es : List Entry) (turn n : ℕ)
         key-is = ap (cutOf os (line * 2)) deep
 
         -- The lines gone over with this one.
-        gone-on : Gone low k os (st .tree) (line + 1) with-this
-        gone-on = gone-entered low k os (st .tree) line (st .entered) (st .gone) more b least is same
+        gone-on : Gone low k 1 os (st .tree) (line + 1) with-this
+        gone-on = gone-entered low k 1 os (st .tree) line (st .entered) (st .gone) more b least is same
 
         -- It is one of the parts.
-        this-there : has (this .key) (listOf low k os) ≡ true
+        this-there : has (this .key) (listOf low k 1 os) ≡ true
         unfolding if_then_else_
-        this-there = gone-has low k os (st .tree) (line + 1) with-this gone-on (this .key) (has-once this (st .entered) (this .key) ∙ rw (same-words (this .key)))
+        this-there = gone-has low k 1 os (st .tree) (line + 1) with-this gone-on (this .key) (has-once this (st .entered) (this .key) ∙ rw (same-words (this .key)))
 
         -- If it has no entry not all parts have one.
-        pub turn-unknown : false ≡ has (cutOf os (line * 2) d) es → false ≡ hasAll (listOf low k os) es
-        turn-unknown lacks = sym (one-unknown (this .key) (listOf low k os) es this-there (ap (λ (z : List ℕ). has z es) (sym key-is) ∙ sym lacks))
+        pub turn-unknown : false ≡ has (cutOf os (line * 2) d) es → false ≡ hasAll (listOf low k 1 os) es
+        turn-unknown lacks = sym (one-unknown (this .key) (listOf low k 1 os) es this-there (ap (λ (z : List ℕ). has z es) (sym key-is) ∙ sym lacks))
 
-        module _ (sorted : Sorted es) (ready : Ready turn n (listOf low k os) es cs₀ ms₀) where
+        module _ (sorted : Sorted es) (ready : Ready turn n (listOf low k 1 os) es cs₀ ms₀) where
           -- What is changed for its entry, once a turn, is changed for the parts with it.
           one-more : (f : ℕ → ℕ) (xs₀ xs : List ℕ) → length xs₀ ≡ length es → xs ≡ onEach f (st .entered) es xs₀
               → onOne f turn (soughtIn (cutOf os (line * 2) d) es) ms xs ≡ onEach f with-this es xs₀
@@ -155,7 +154,7 @@ module _ (low : Bool) (k : ℕ) (os : List ℕ) (es : List Entry) (turn n : ℕ)
               omega (
                 arith,
                 ready .few i,
-                tallied-more n with-this (listOf low k os) es cs₀ (gone-has low k os (st .tree) (line + 1) with-this gone-on) i,
+                tallied-more n with-this (listOf low k 1 os) es cs₀ (gone-has low k 1 os (st .tree) (line + 1) with-this gone-on) i,
                 ap (λ (l : List ℕ). getD l i 0) (one-more (λ (c : ℕ). c + n) cs₀ cs (ready .counts) (st .counts)),
               )
 

@@ -8,11 +8,11 @@ use Rattle.section.specs.Entries.{Entry}
 use Rattle.tally.specs.Tallying.{hasAll, tallied, marked}
 use Rattle.book.specs.Book.{sectionOf}
 use Rattle.book.specs.declared.Section.{Section}
-use Rattle.own.specs.Own.{ownOf}
+use Rattle.book_listing.specs.Own.{ownOf}
 
 -- What one teaching of the order with these words counts in a section.
 abbrev pub partsIn : Section → ℕ → List ℕ → List Entry
-partsIn s k os = sectionOf s (ownOf k os)
+partsIn s k os = sectionOf s (ownOf k 1 os)
 
 -- All that the orders of a T count in a section has an entry there.
 unfoldable pub allKnown : Section → ℕ → List Entry → List Entry → Bool

@@ -14,7 +14,7 @@ ghost use Rattle.trees.specs.Spans.{GoneOver};
 ghost use Rattle.trees.specs.Standing.{cutOf};
 ghost use Rattle.book.specs.Decoding.{bookIn};
 ghost use Rattle.book.specs.Holding.{Holds};
-ghost use Rattle.own.specs.Own.{listOf};
+ghost use Rattle.book_listing.specs.Own.{listOf};
 ghost use Rattle.recount.specs.Tallies.{partsIn, allKnown, talliedAll, markedAll};
 use book::Places;
 use book::Section;
@@ -86,8 +86,8 @@ fn tally_parts(
     requires { ⌜ LinesLevelled (now order) (now levels) ⌝ }
     requires { ⌜ most-words ≤ length (now part) ⌝ }
     requires { ⌜ Indexed (now starts) (now book) ⌝ }
-    requires { ⌜ Ready (turn .number) (turn .by) (listOf low (k .k) (now order)) (listed (now starts) (now book)) (now counts) (now marks) ⌝ }
-    ensures { λ r. ⌜ Taken (turn .number) (turn .by) (listOf low (k .k) (now (order .entry))) (listed (now (starts .entry)) (now (book .entry))) (now (counts .entry)) (now (marks .entry)) (now (counts .exit)) (now (marks .exit)) r ⌝ }
+    requires { ⌜ Ready (turn .number) (turn .by) (listOf low (k .k) 1 (now order)) (listed (now starts) (now book)) (now counts) (now marks) ⌝ }
+    ensures { λ r. ⌜ Taken (turn .number) (turn .by) (listOf low (k .k) 1 (now (order .entry))) (listed (now (starts .entry)) (now (book .entry))) (now (counts .entry)) (now (marks .entry)) (now (counts .exit)) (now (marks .exit)) r ⌝ }
 {
     let lines = order.len() / 2;
     let mut line: usize = 0;

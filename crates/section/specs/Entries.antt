@@ -116,6 +116,10 @@ add n key [] = counted key n ∷ []
 add n key (e ∷ es) =
     byCompared (compareOf (e .key) key) (e ∷ add n key es) (counted (e .key) (e .count + n) ∷ es) (counted key n ∷ e ∷ es)
 
+-- An entry more, unless its key has one: "once per teaching however often it occurs in it".
+unfoldable pub addOnce : Entry → List Entry → List Entry
+addOnce e es = if has (e .key) es then es else add (e .count) (e .key) es
+
 -- One less of an entry: "takes out an entry that comes to 0".
 abbrev pub lessened : Entry → List Entry → List Entry
 lessened e es = if leb (e .count) 1 then es else counted (e .key) (e .count - 1) ∷ es

@@ -30,7 +30,7 @@ fn teach_order(book: &mut [u16], places: Places, order: &[u16]) -> Answer
     let mut levels = [0u8; limits::MOST_NODES];
     order::level_lines(order, &spans, &mut levels);
     let mut own = [0u16; own::OWN_WORDS];
-    let owns = own::list_own(order, &spans, &levels, places.k, &mut own);
+    let owns = own::list_own(order, &spans, &levels, places.k, 1, &mut own);
     let weighed = amend::weigh_book(book, places, &own, owns);
     if weighed.overfull {
         return answered(numbers::TOO_MANY);
@@ -55,7 +55,7 @@ fn withdraw_order(book: &mut [u16], places: Places, order: &[u16]) -> Answer
     let mut levels = [0u8; limits::MOST_NODES];
     order::level_lines(order, &spans, &mut levels);
     let mut own = [0u16; own::OWN_WORDS];
-    let owns = own::list_own(order, &spans, &levels, places.k, &mut own);
+    let owns = own::list_own(order, &spans, &levels, places.k, 1, &mut own);
     let taught = amend::weigh_section(book, Section::Taught, places, &own, owns);
     if 0 < taught.lacking {
         return answered(numbers::NOT_TAUGHT);

@@ -8,23 +8,23 @@ use native.Mathlib.Omega.{arith}
 use lib.ListN.{length}
 use borrow.Author.Needs.{needs}
 use Rattle.section.specs.Entries.{Entry, sectionWords}
-use Rattle.changes.specs.Editing.{padded}
+use Rattle.changes.specs.Editing.{padded, extentOf}
 use Rattle.changes.specs.declared.Size.{Size}
 use Rattle.trees.proofs.LineSpans.{spans-room}
 use Rattle.trees.proofs.LineCuts.{line-short}
-use Rattle.own.specs.Own.{sizeOf}
-use Rattle.own.proofs.Listing.{TellsLow, span-tells, Listing, list-start, list-end, listing-named, line-passed, enter-ready, line-entered}
+use Rattle.book_listing.proofs.Parts.{TellsLow, span-tells}
+use Rattle.own.proofs.Listing.{Listing, list-start, list-end, listing-named, line-passed, enter-ready, line-entered}
 use Rattle.own.proofs.list_parts.Statement.{statement}
 use Rattle.own.proofs.list_parts.Tie as tie
 
 -- The parts listed, and those of the lines left, come to all parts.
 abbrev Inv-loop : tie.InvT-loop
-Inv-loop order spans levels k low out₀ entry₀ lines line₀ used₀ many₀ out entry line used many =
-    Listing low (k .k) order out₀ out entry line used many
+Inv-loop order spans levels k low times out₀ entry₀ lines line₀ used₀ many₀ out entry line used many =
+    Listing low (k .k) times order out₀ out entry line used many
 
 -- The lines left.
 abbrev μ-loop : tie.MeasureT-loop
-μ-loop order spans levels k low out₀ entry₀ lines line₀ used₀ many₀ out entry line used many = lines - line
+μ-loop order spans levels k low times out₀ entry₀ lines line₀ used₀ many₀ out entry line used many = lines - line
 
 -- What the function was called with, seen from the loop.
 abbrev called : tie.In-loop Inv-loop μ-loop → tie.Start Inv-loop μ-loop
@@ -35,7 +35,7 @@ tells : (i : tie.After-is-low Inv-loop μ-loop) → let b = called (i .before) i
 tells i = span-tells _ _ _ _ _ (called (i .before) .pre .1 .0) (i .before .loop-test .taken) (i .is-low .ensures)
 
 loop-holds : tie.Need-loop-holds Inv-loop μ-loop
-loop-holds c = let b = c .before .before .before .before in list-start _ _ _ _ _ (b .pre .1 .0 .sound) (b .pre .1 .1 .1 .0) (b .pre .1 .1 .1 .1) refl
+loop-holds c = let b = c .before .before .before .before in list-start _ _ _ _ _ _ (b .pre .1 .1 .1 .0) (b .pre .1 .0 .sound) (b .pre .1 .1 .1 .1 .0) (b .pre .1 .1 .1 .1 .1) refl
 
 is-low-requires : tie.Need-is-low-requires Inv-loop μ-loop
 is-low-requires c κs = omega (arith, c .loop-test .taken, spans-room _ _ (called c .pre .1 .0))
@@ -50,7 +50,7 @@ write-entry-requires : tie.Need-write-entry-requires Inv-loop μ-loop
 write-entry-requires c κs =
     let l = c .before .before .before .before in
     let b = called l in
-    (b .pre .1 .0, (b .pre .1 .1 .0, (l .loop-test .taken, omega (arith, l .before .loop .inv .spare))))
+    (b .pre .1 .0, (b .pre .1 .1 .0, (l .loop-test .taken, omega (arith, l .before .loop .inv .spare, line-short _ _ (c .before .of-middles .result) (b .pre .1 .0 .sound) (l .loop-test .taken)))))
 
 sub-enter-once : tie.Need-sub-enter-once Inv-loop μ-loop
 sub-enter-once c = search needs
@@ -69,7 +69,7 @@ enter-once-requires c κs =
     let w = c .before .before .before .before in
     let i = w .before .before .before .before in
     let l = i .before in
-    enter-ready _ _ _ _ _ _ _ _ _ (l .before .loop .inv) (l .loop-test .taken) _ (called l .pre .0) (tells i) (w .before .before .before .if1 .taken) _ _ _ (w .before .before .of-middles .ensures) (w .write-entry .ensures .0) (w .write-entry .ensures .1)
+    enter-ready _ _ _ _ _ _ _ _ _ _ (l .before .loop .inv) (l .loop-test .taken) _ (called l .pre .0) (tells i) (w .before .before .before .if1 .taken) _ _ _ (w .before .before .of-middles .ensures) (w .write-entry .ensures .0) (w .write-entry .ensures .1)
 
 add-line : tie.Need-add-line Inv-loop μ-loop
 add-line c = search needs
@@ -85,22 +85,22 @@ loop-again c =
     let least = called l .pre .0 in
     ⊎-elim
     (λ w.
-    listing-named _ _ _ _ _ _ _ _ _ _ _ _ _ (w .11) (w .12) (w .13) (w .14)
-    (line-entered _ _ _ _ _ _ _ _ _ st (l .loop-test .taken) _ least (tells i) (w .0 .taken) _ _ _ (w .1 .ensures) (w .3 .ensures .0) (w .3 .ensures .1) _ _ (w .8 .ensures)))
-    (λ w. listing-named _ _ _ _ _ _ _ _ _ _ _ _ _ (w .1) (w .2) (w .3) (w .4) (line-passed _ _ _ _ _ _ _ _ _ st (l .loop-test .taken) _ least (tells i) (w .0 .left)))
+    listing-named _ _ _ _ _ _ _ _ _ _ _ _ _ _ (w .11) (w .12) (w .13) (w .14)
+    (line-entered _ _ _ _ _ _ _ _ _ _ st (l .loop-test .taken) _ least (tells i) (w .0 .taken) _ _ _ (w .1 .ensures) (w .3 .ensures .0) (w .3 .ensures .1) _ _ (w .8 .ensures)))
+    (λ w. listing-named _ _ _ _ _ _ _ _ _ _ _ _ _ _ (w .1) (w .2) (w .3) (w .4) (line-passed _ _ _ _ _ _ _ _ _ _ st (l .loop-test .taken) _ least (tells i) (w .0 .left)))
     (c .if1 .came)
 
 same-length : tie.Need-same-length Inv-loop μ-loop
 same-length c = search needs
 
 -- The size of a list by another name.
-sized : (used many : ℕ) (es fs : List Entry) → used ≡ length (sectionWords es) → many ≡ length es → es ≡ fs → _≡_ {A = Size} (record { used = used; many = many }) (sizeOf fs)
+sized : (used many : ℕ) (es fs : List Entry) → used ≡ length (sectionWords es) → many ≡ length es → es ≡ fs → _≡_ {A = Size} (record { used = used; many = many }) (extentOf fs)
 sized used many es fs u m e = rw (u, m, e)
 
 returns : tie.Need-returns Inv-loop μ-loop
 returns c =
     let st = c .before .loop .inv in
-    let is = list-end _ _ _ _ _ _ _ _ _ st (c .loop-test .left) in
+    let is = list-end _ _ _ _ _ _ _ _ _ _ st (c .loop-test .left) in
     (sized _ _ _ _ (st .uses) (st .counts) is, st .words ∙ ap (λ (es : List Entry). padded (length (c .before .before .before .before .before .before .args .out .now)) (sectionWords es)) is)
 
 pub list-parts-spec : {M : Type 1} → statement M

@@ -1,4 +1,4 @@
--- `own::write_entry` meets its contract: the cut is written behind two words, which are then its number of nodes and 1. Assumes nothing.
+-- `own::write_entry` meets its contract: the cut is written behind two words, which are then its number of nodes and its count. Assumes nothing.
 use Prim.Native.Nat.{ℕ, _+_, _-_, _*_, _/_, _≤_}
 use mathlib.Core.Path.{_≡_, refl, ap, _∙_}
 use mathlib.Core.List.{List, _++_, append-assoc}
@@ -16,16 +16,16 @@ use Rattle.own.proofs.write_entry.Statement.{statement}
 use Rattle.own.proofs.write_entry.Tie as tie
 
 -- An entry of a cut that was written behind two words, once these are written too.
-entry-over : (w l last : List ℕ) → 2 + length w ≤ length l → last ≡ over w (take (length l - 2) (drop 2 l))
-    → set (set (take 2 l ++ (last ++ drop (length l - 2) (drop 2 l))) 0 (length w / 2)) 1 1 ≡ over (entryWords (counted w 1)) l
-entry-over w l last fits is =
+entry-over : (n : ℕ) (w l last : List ℕ) → 2 + length w ≤ length l → last ≡ over w (take (length l - 2) (drop 2 l))
+    → set (set (take 2 l ++ (last ++ drop (length l - 2) (drop 2 l))) 0 (length w / 2)) 1 n ≡ over (entryWords (counted w n)) l
+entry-over n w l last fits is =
     let new : take 2 l ++ (last ++ drop (length l - 2) (drop 2 l)) ≡ (take 2 l ++ w) ++ drop (2 + length w) l = part-back 2 l w last fits is in
     let two : length (take 2 l) ≡ 2 = length-take-le 2 l (omega arith) in
     let long : 2 ≤ length ((take 2 l ++ w) ++ drop (2 + length w) l) = simp (length-append, length-take) (omega arith) in
     let rest : drop 2 ((take 2 l ++ w) ++ drop (2 + length w) l) ≡ w ++ drop (2 + length w) l =
     ap (drop 2) (append-assoc (take 2 l) w (drop (2 + length w) l)) ∙ drop-at (take 2 l) (w ++ drop (2 + length w) l) 2 two in
-    let past : 2 + length w ≡ length (entryWords (counted w 1)) = omega arith in
-    rw (new, set-two ((take 2 l ++ w) ++ drop (2 + length w) l) (length w / 2) 1 long, rest, past) refl
+    let past : 2 + length w ≡ length (entryWords (counted w n)) = omega arith in
+    rw (new, set-two ((take 2 l ++ w) ++ drop (2 + length w) l) (length w / 2) n long, rest, past) refl
 
 -- What the function was called with, seen from where the cut is written.
 abbrev called : tie.After-put-line → tie.Start
@@ -70,7 +70,7 @@ returns c =
     let b = called p in
     let w = cutOf (b .args .order .now) (b .args .line * 2) (b .args .d) in
     let is : p .put-line .result ≡ length w = p .put-line .ensures .0 in
-    (rw is refl, rw is (entry-over w (b .args .out .now) _ (omega (arith, is, count-short p, b .pre .1 .1 .1)) (p .put-line .ensures .1)))
+    (rw is refl, rw is (entry-over (b .args .times) w (b .args .out .now) _ (omega (arith, is, count-short p, b .pre .1 .1 .1)) (p .put-line .ensures .1)))
 
 pub write-entry-spec : {M : Type 1} → statement M
 write-entry-spec =

@@ -9,7 +9,7 @@ use borrow.Author.Tests.{not-true, not-false}
 use Rattle.tally.specs.Tallying.{listed}
 use Rattle.tally.proofs.Starts.{length-listed}
 use Rattle.trees.proofs.LineSpans.{spans-room}
-use Rattle.own.proofs.Listing.{TellsLow, span-tells}
+use Rattle.book_listing.proofs.Parts.{TellsLow, span-tells}
 use Rattle.recount.proofs.Turns.{Turning, turning-named, turn-start, turn-counts, turn-marks, turn-end, turn-passed, refused-taken, turn-unknown, turn-few, turn-tallied}
 use Rattle.recount.proofs.tally_parts.Statement.{statement}
 use Rattle.recount.proofs.tally_parts.Tie as tie

@@ -1,50 +1,32 @@
 -- `recount::tally_section` meets its contract: what one teaching counts in a section is a cut of the order, or its parts of a kind. Assumes nothing.
 use Prim.Native.Nat.{ℕ, _-_}
-use mathlib.Core.Path.{_≡_, refl, sym, ap, ap₂, subst, _∙_}
-use mathlib.Core.Bool.{Bool, true, false}
+use mathlib.Core.Path.{_≡_, sym, ap, subst, _∙_}
+use mathlib.Core.Bool.{Bool}
 use mathlib.Core.List.{List, [], _∷_}
 use lib.ListN.{length}
 use borrow.Author.Needs.{needs}
-use Rattle.figures.specs.Limits.{greatest-depth}
 use Rattle.section.specs.Entries.{Entry, counted}
 use Rattle.tally.specs.Tallying.{listed, Ready, Taken}
 use Rattle.tally.proofs.Starts.{length-listed}
 use Rattle.trees.specs.Standing.{cutOf}
-use Rattle.book.specs.Book.{Book, sectionOf}
+use Rattle.book.specs.Book.{sectionOf}
 use Rattle.book.specs.declared.Section.{Section}
 use Rattle.book.specs.declared.Section.the-variants.{Taught, Tops, Lows, Middles}
-use Rattle.own.specs.Own.{ownOf, listOf}
-use Rattle.own.proofs.Owning.{first-line, own-is}
+use Rattle.book_listing.specs.Own.{ownOf}
+use Rattle.book_listing.proofs.Owning.{first-line, listedIn, section-is}
 use Rattle.recount.proofs.Turns.{key-few, key-taken}
 use Rattle.recount.proofs.tally_section.Statement.{statement}
 use Rattle.recount.proofs.tally_section.Tie as tie
 
 -- ---- what is counted
 
--- The order's own book, section by section.
-abbrev own : tie.Start → Book
-own b =
-    let os = b .args .order .now in
-    let k = b .args .k .k in
-    record { k = k; T = counted (cutOf os 0 greatest-depth) 1 ∷ []; R = counted (cutOf os 0 (k - 2)) 1 ∷ []; L = listOf true k os; P = listOf false k os }
-
--- What is counted in a section: a cut of the order, or its parts of a kind.
+-- What is counted in a section.
 abbrev counts-in : Section → tie.Start → List Entry
-counts-in Taught b = counted (cutOf (b .args .order .now) 0 greatest-depth) 1 ∷ []
-counts-in Tops b = counted (cutOf (b .args .order .now) 0 (b .args .k .k - 2)) 1 ∷ []
-counts-in Lows b = listOf true (b .args .k .k) (b .args .order .now)
-counts-in Middles b = listOf false (b .args .k .k) (b .args .order .now)
+counts-in s b = listedIn s (b .args .k .k) 1 (b .args .order .now)
 
 -- The section that is asked for has what is counted in it.
-section-is : (b : tie.Start) (s : Section) → b .args .section ≡ s → counts-in s b ≡ sectionOf (b .args .section) (ownOf (b .args .k .k) (b .args .order .now))
-unfolding sectionOf
-section-is b s told = is s ∙ sym (ap₂ sectionOf told (own-is (b .args .order .now) (b .pre .1 .0 .sound) (b .args .k .k) (b .pre .0)))
-  where
-    is : (s : Section) → counts-in s b ≡ sectionOf s (own b)
-    is Taught = refl
-    is Tops = refl
-    is Lows = refl
-    is Middles = refl
+counted-is : (b : tie.Start) (s : Section) → b .args .section ≡ s → counts-in s b ≡ sectionOf (b .args .section) (ownOf (b .args .k .k) 1 (b .args .order .now))
+counted-is b s told = section-is (b .args .order .now) (b .pre .1 .0 .sound) (b .args .k .k) 1 s (b .args .section) told
 
 -- The entries listed.
 abbrev es : tie.Start → List Entry
@@ -56,7 +38,7 @@ ReadyFor b ps = Ready (b .args .turn .number) (b .args .turn .by) ps (es b) (b .
 
 -- It is so for the section that is asked for.
 ready-in : (b : tie.Start) (s : Section) → b .args .section ≡ s → ReadyFor b (counts-in s b)
-ready-in b s told = subst (ReadyFor b) (sym (section-is b s told)) (b .pre .1 .1 .1 .1 .1)
+ready-in b s told = subst (ReadyFor b) (sym (counted-is b s told)) (b .pre .1 .1 .1 .1 .1)
 
 -- The turn was taken for what is counted in a section.
 abbrev TakenFor : tie.Start → List ℕ → List ℕ → Bool → List Entry → Type 0
@@ -133,7 +115,7 @@ returns c =
     let b = e .before .before .before .before .before .before .before .before .before .before in
     let told = e .enum-told .given .1 in
     let a = t .tally-cut .ensures in
-    subst (TakenFor b _ _ _) (section-is b Taught told)
+    subst (TakenFor b _ _ _) (counted-is b Taught told)
     (key-taken _ _ _ _ _ _ (b .pre .1 .1 .1 .1 .0 .sorted) (ready-in b Taught told) _ _ _ (a .0) (a .1 .0) (a .1 .1))
 
 same-length-4 : tie.Need-same-length-4
@@ -154,7 +136,7 @@ returns-2 c =
     let told = e .enum-told2 .given .1 in
     let one = top-is b _ (o .of-tops .ensures) in
     let a = t .tally-cut2 .ensures in
-    subst (TakenFor b _ _ _) (one ∙ section-is b Tops told)
+    subst (TakenFor b _ _ _) (one ∙ counted-is b Tops told)
     (key-taken _ _ _ _ _ _ (b .pre .1 .1 .1 .1 .0 .sorted) (subst (ReadyFor b) (sym one) (ready-in b Tops told)) _ _ _ (a .0) (a .1 .0) (a .1 .1))
 
 same-length-7 : tie.Need-same-length-7
@@ -171,7 +153,7 @@ returns-3 c =
     let t = c .before .before .before .before .before .before in
     let e = t .before .before .before .before in
     let b = e .before .before .before .before .before .before .before .before .before .before in
-    subst (TakenFor b _ _ _) (section-is b Lows (e .enum-told3 .given .1)) (t .tally-parts .ensures)
+    subst (TakenFor b _ _ _) (counted-is b Lows (e .enum-told3 .given .1)) (t .tally-parts .ensures)
 
 same-length-10 : tie.Need-same-length-10
 same-length-10 c = search needs
@@ -187,7 +169,7 @@ returns-4 c =
     let t = c .before .before .before .before .before .before in
     let e = t .before .before .before .before in
     let b = e .before .before .before .before .before .before .before .before .before .before in
-    subst (TakenFor b _ _ _) (section-is b Middles (e .enum-told4 .given .1)) (t .tally-parts2 .ensures)
+    subst (TakenFor b _ _ _) (counted-is b Middles (e .enum-told4 .given .1)) (t .tally-parts2 .ensures)
 
 pub tally-section-spec : {M : Type 1} → statement M
 tally-section-spec =

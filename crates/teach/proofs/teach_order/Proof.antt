@@ -9,7 +9,7 @@ use Rattle.trees.proofs.Spots.{passed-short}
 use Rattle.book.specs.Holding.{Holds}
 use Rattle.book.proofs.Holding.{used-room, allowed}
 use Rattle.book.proofs.Openings.{told}
-use Rattle.own.specs.Own.{own-words}
+use Rattle.book_listing.specs.Own.{own-words}
 use Rattle.amend.specs.declared.BookWeighed.{BookWeighed}
 use Rattle.effects.proofs.Outcomes.{all-zeros, teach-refused, teach-full, own-holds, teach-overfull, teach-crowded, teach-ready, teach-done}
 use Rattle.teach.proofs.teach_order.Statement.{statement}
@@ -24,7 +24,7 @@ gone : (c : tie.Else1) → GoneOver (c .before .before .before .before .before .
 gone c = c .before .before .cause-into .ensures .1 .0 (ordered c)
 
 -- Past the listing its own book stands in its slice.
-listed : (c : tie.After-list-own) → Holds (c .list-own .last .1 .1 .1 .1 .0) (c .list-own .result)
+listed : (c : tie.After-list-own) → Holds (c .list-own .last .1 .1 .1 .1 .1 .0) (c .list-own .result)
 listed c =
     let o = c .before .before .before .before .before .before .before .before .before .before in
     own-holds _ _ _ (o .before .before .before .before .before .before .pre) (ordered o) _ _ (c .list-own .ensures .0) (c .list-own .ensures .1)
@@ -76,7 +76,7 @@ list-own-requires : tie.Need-list-own-requires
 list-own-requires c κs =
     let o = c .before .before .before .before .before .before .before .before .before in
     let s = o .before .before .before .before .before .before in
-    (allowed _ _ (s .pre), (gone o, (c .before .before .before .before .level-lines .ensures .0, (all-zeros own-words, refl))))
+    (allowed _ _ (s .pre), (gone o, (c .before .before .before .before .level-lines .ensures .0, (omega arith, (all-zeros own-words, refl)))))
 
 slice-aggregate-weigh-book : tie.Need-slice-aggregate-weigh-book
 slice-aggregate-weigh-book c = search needs

@@ -1,15 +1,16 @@
--- An order's own book: what one teaching of it counts, and how it is listed. Assumes nothing: these are definitions.
+-- An order's own book: what some teachings of it count, and how it is listed. Assumes nothing: these are definitions.
 use Prim.Native.Nat.{ℕ, _+_, _*_}
 use mathlib.Core.Bool.{Bool, true, false}
 use mathlib.Core.List.{List, [], _∷_}
 use lib.ListN.{length}
 use Rattle.figures.specs.Limits.{most-nodes, most-words, head-words, greatest-k}
-use Rattle.section.specs.Entries.{Entry, sectionWords}
-use Rattle.changes.specs.declared.Size.{Size}
+use Rattle.section.specs.Entries.{Entry}
 use Rattle.trees.specs.Trees.{Tree, words}
 use Rattle.trees.specs.Reading.{byOrder, orderOf}
 use Rattle.trees.specs.Parts.{lows, middles, lowParts, middleParts}
 use Rattle.book.specs.Book.{Book}
+use Rattle.book.specs.declared.Section.{Section}
+use Rattle.book.specs.declared.Section.the-variants.{Taught, Tops, Lows, Middles}
 use Rattle.book.specs.Taught.{emptyBook, addEach, bookOf}
 
 -- The most words that an entry takes.
@@ -25,13 +26,13 @@ list-words = most-nodes * (2 + 2 * greatest-k)
 abbrev pub own-words : ℕ
 own-words = head-words + 2 * entry-words + list-words
 
--- The book of one teaching of an order.
-abbrev pub ownBook : ℕ → Tree → Book
-ownBook k t = bookOf k (record { order = t; times = 1 } ∷ [])
+-- The book of n teachings of an order.
+abbrev pub ownBook : ℕ → ℕ → Tree → Book
+ownBook k n t = bookOf k (record { order = t; times = n } ∷ [])
 
 -- The same by the order's words; the empty book where they are no order.
-unfoldable pub ownOf : ℕ → List ℕ → Book
-ownOf k os = byOrder (orderOf os) (λ n. emptyBook k) (ownBook k)
+unfoldable pub ownOf : ℕ → ℕ → List ℕ → Book
+ownOf k n os = byOrder (orderOf os) (λ number. emptyBook k) (ownBook k n)
 
 -- The low parts or the middle parts of an order, as often as they occur.
 abbrev pub occurring : Bool → ℕ → Tree → List Tree
@@ -52,10 +53,13 @@ eachWords (t ∷ ts) = 2 + length (words t) + eachWords ts
 unfoldable pub partWords : Bool → ℕ → List ℕ → ℕ
 partWords low k os = byOrder (orderOf os) (λ n. 0) (λ t. eachWords (occurring low k t))
 
--- The entries of one teaching for the order's parts of a kind.
-unfoldable pub listOf : Bool → ℕ → List ℕ → List Entry
-listOf low k os = byOrder (orderOf os) (λ n. []) (λ t. addEach 1 (partsOnce low k t) [])
+-- The entries of n teachings for the order's parts of a kind.
+unfoldable pub listOf : Bool → ℕ → ℕ → List ℕ → List Entry
+listOf low k n os = byOrder (orderOf os) (λ number. []) (λ t. addEach n (partsOnce low k t) [])
 
--- How many words and entries a list has.
-abbrev pub sizeOf : List Entry → Size
-sizeOf es = record { used = length (sectionWords es); many = length es }
+-- No more words are needed to list a section of an order's own book.
+abbrev pub roomFor : Section → ℕ → List ℕ → ℕ
+roomFor Taught k os = entry-words
+roomFor Tops k os = entry-words
+roomFor Lows k os = partWords true k os
+roomFor Middles k os = partWords false k os

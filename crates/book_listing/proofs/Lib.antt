@@ -1,0 +1,3 @@
+-- What the proofs of other crates use.
+pub mod Parts
+pub mod Owning
