@@ -76,7 +76,10 @@ ofb_answer ofb_open(uint16_t *book, size_t words, uint16_t k);
 /* Teaches an order to the book. Refused by 4, 5, 1, 2, 7, 6, looked for in this order. */
 ofb_answer ofb_teach(uint16_t *book, size_t words, const uint16_t *order, size_t order_words);
 
-/* Withdraws one teaching of an order; the book is then as if that had never been taught. Refused by 4, 5, 1, 2, 8, 9, looked for in this order. */
+/*
+ * Withdraws one teaching of an order; a book that agrees with itself (see ofb_check) is then as if that had never been taught. Refused by 4, 5, 1, 2, 8, 9,
+ * looked for in this order.
+ */
 ofb_answer ofb_withdraw(uint16_t *book, size_t words, const uint16_t *order, size_t order_words);
 
 /*

@@ -8,6 +8,8 @@ use lib.ListN.{length, getD, drop}
 use Rattle.words.specs.Base.{_and_, if_then_else_, within, sameWords}
 use Rattle.figures.specs.Limits.{head-words, k-word, taught-word, tops-word, lows-word, middles-word, most-book-words}
 use Rattle.figures.specs.Numbers.{done, book-size, not-in-form}
+use Rattle.figures.specs.Answers.{answered}
+use Rattle.figures.specs.declared.Answer.{Answer}
 use Rattle.section.specs.Entries.{sectionWords, entries, span}
 use Rattle.book.specs.Book.{Book, lay, inForm, used}
 use Rattle.book.specs.declared.Section.{Section}
@@ -94,7 +96,7 @@ slotOf Middles = middles-word
 unfoldable pub bookFormOf : List ℕ → BookForm
 bookFormOf ws = onBook Refused ws (λ b. InForm (placesOf b))
 
--- 01's number for each case of it.
-abbrev pub formNumber : BookForm → ℕ
-formNumber (Refused n) = n
-formNumber (InForm p) = done
+-- 01's number and line for each case of it, and the places of a book in form.
+abbrev pub formTold : BookForm → Answer × Option Places
+formTold (Refused n) = (answered n, none)
+formTold (InForm p) = (answered done, some p)

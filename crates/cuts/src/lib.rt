@@ -2,6 +2,7 @@
 // inner function.
 ghost use mathlib.Core.Path.{_≡_};
 ghost use Prim.Native.Nat.{_+_, _*_, _/_, _≤_, _<_};
+ghost use denote.Ref.{ptr};
 ghost use lib.ListN.{length, getD};
 ghost use lib.Dec.{leb};
 ghost use Rattle.words.specs.Base.{over, if_then_else_};
@@ -11,7 +12,7 @@ ghost use Rattle.trees.specs.Reading.{causeOf};
 ghost use Rattle.trees.specs.Levels.{LinesLevelled};
 ghost use Rattle.trees.specs.Spans.{GoneOver};
 ghost use Rattle.trees.specs.Standing.{cutOf, placeOf};
-ghost use Rattle.trees.specs.Answers.{subtreeOf, writing, write, cutIntoOf};
+ghost use Rattle.trees.specs.Answers.{subtreeOf, pieceAt, writing, write, cutIntoOf};
 use figures::Written;
 use figures::limits;
 use figures::numbers;
@@ -51,7 +52,7 @@ pub fn line_end(spans: &[u16], line: usize) -> usize
 // The subtree of a line, counted from 1, as that part of the order; an empty part for an order with a cause of 1 or 2 and for a line
 // that the order lacks.
 pub fn subtree(order: &[u16], line: usize) -> &[u16]
-    ensures { λ r. ⌜ now r ≡ subtreeOf (now (order .entry)) line ⌝ }
+    ensures { λ r. ⌜ (ptr r, now r) ≡ pieceAt (ptr (order .entry)) (subtreeOf (now (order .entry)) line) ⌝ }
 {
     let mut spans = [0u16; limits::MOST_WORDS];
     match find_line(order, line, &mut spans) {

@@ -1,5 +1,6 @@
 -- What asking for a k gives, and answers as calls make them. Assumes nothing: these are definitions.
 use Prim.Native.Nat.{ℕ}
+use mathlib.Core.Option.{Option, none, some}
 use Rattle.words.specs.Base.{if_then_else_, within}
 use Rattle.figures.specs.Limits.{least-k, greatest-k}
 use Rattle.figures.specs.Numbers.{done, k-outside}
@@ -20,6 +21,11 @@ numberOf Outside = k-outside
 -- A number with line 0: "for every other answer, 0 and 11 included, it is 0".
 abbrev pub answered : ℕ → Answer
 answered n = record { number = n; line = 0 }
+
+-- 01's number and line for each case, and the k that is allowed.
+abbrev pub askedTold : Asked → Answer × Option ℕ
+askedTold (Allowed d) = (answered (numberOf (Allowed d)), some (d .k))
+askedTold Outside = (answered (numberOf Outside), none)
 
 -- A number with line 0, and how many words or bytes were written.
 abbrev pub wrote : ℕ → ℕ → Written

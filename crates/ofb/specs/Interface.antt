@@ -1,13 +1,12 @@
 -- What a program in C gets of each call: the answer in C's numbers, and what was lent, as they are below the interface. Assumes nothing: these are
 -- definitions.
-use Prim.Native.Nat.{ℕ, _*_, _-_}
+use Prim.Native.Nat.{ℕ}
 use mathlib.Core.List.{List}
-use lib.Dec.{eqb}
 use lib.ListN.{length}
 use Rattle.words.specs.Base.{if_then_else_}
 use Rattle.figures.specs.declared.Answer.{Answer}
 use Rattle.figures.specs.declared.Written.{Written}
-use Rattle.trees.specs.Answers.{Writing, subtreeOf}
+use Rattle.trees.specs.Answers.{Writing, Piece}
 use Rattle.book.specs.Opening.{Outcome}
 use Rattle.verdicts.specs.declared.Judgement.{Judgement}
 use Rattle.ofb.specs.declared.OfbAnswer.{OfbAnswer}
@@ -51,8 +50,6 @@ outcomeInC o = handed (toldOf (o .answer)) (o .words)
 abbrev pub writingInC : Writing → Handed
 writingInC w = handed (toldWrittenOf (w .answer)) (w .out)
 
--- Where the subtree of a line lies in the order, and how many words it has: the lines before it take two words each. An empty part lies at the front.
-unfoldable pub partInC : List ℕ → ℕ → OfbPart
-partInC os line =
-    let n : ℕ = length (subtreeOf os line) in
-    record { start = if eqb n 0 then 0 else (line - 1) * 2; words = n }
+-- A part of an order, as C gets it: the word at which it starts, and how many words it has.
+abbrev pub partInC : Piece → OfbPart
+partInC p = record { start = p .start; words = length (p .words) }

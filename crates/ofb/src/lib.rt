@@ -2,6 +2,7 @@
 // slice is a pointer and a length to C. Assumes nothing beyond each inner function's `requires`.
 ghost use mathlib.Core.Path.{_≡_};
 ghost use Prim.Native.Nat.{_^_, _<_};
+ghost use Rattle.trees.specs.Answers.{subtreeOf};
 ghost use Rattle.book.specs.Opening.{openOf};
 ghost use Rattle.section.specs.Near.{Small};
 ghost use Rattle.verdicts.specs.Expecting.{judgementOf};
@@ -177,7 +178,7 @@ pub extern "C" fn ofb_write_text(order: &[u16], out: &mut [u8]) -> OfbAnswer
 // The place of the subtree of a line: `cuts::subtree`.
 #[no_mangle]
 pub extern "C" fn ofb_subtree(order: &[u16], line: usize) -> OfbPart
-    ensures { λ r. ⌜ r ≡ partInC (now (order .entry)) line ⌝ }
+    ensures { λ r. ⌜ r ≡ partInC (subtreeOf (now (order .entry)) line) ⌝ }
 {
     let words = cuts::subtree(order, line).len();
     if words == 0 {

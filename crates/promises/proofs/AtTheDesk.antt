@@ -44,9 +44,9 @@ use Rattle.calls.specs.Desk.{lineFor, linesFor, printedFor, deskOf}
 use Rattle.promises.specs.Remaining.{after, remaining, timesOf, booked, ExactlyThese, MadeOf}
 use Rattle.promises.specs.Starts.{opening}
 use Rattle.promises.specs.AtTheDesk.{madeBy, bookAfter, DeskNumber, is-done, is-no-room, is-not-taught, is-top, is-low, is-middle}
-use Rattle.promises.proofs.Handing.{allowed-k, few-calls, forms-after, forms-make, forms-one, few-left, book-then, lines-split, asks-order, text-refused-by}
+use Rattle.promises.proofs.Laws.Handing.{allowed-k, few-calls, forms-after, forms-make, forms-one, few-left, book-then, lines-split, asks-order, text-refused-by}
 use Rattle.promises.proofs.Demand3.{opening-done, parts-and-counts, taught-exactly, refused-by-6, refused-by-8, withdrawn-exactly}
-use Rattle.promises.proofs.Passing.{passes-made}
+use Rattle.promises.proofs.Laws.Passing.{passes-made}
 use Rattle.promises.proofs.Uniqueness.{booked-is}
 
 -- ---- the book after forms

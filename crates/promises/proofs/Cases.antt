@@ -16,8 +16,8 @@ use Rattle.book.proofs.Openings.{opened-book}
 use Rattle.verdicts.specs.Judging.{judgeOf}
 use Rattle.verdicts.proofs.Judgements.{by-verdict}
 use Rattle.promises.specs.Heard.{A, B, C, single, pair, three, firstLeaf, opens, teaches, withdraws, judges, slice, heard, readAs}
-use Rattle.promises.proofs.Computed.{computes}
-use Rattle.promises.proofs.FirstLeaf.{leaf-verdict}
+use Rattle.promises.proofs.Tables.Computed.{computes}
+use Rattle.promises.proofs.Laws.FirstLeaf.{leaf-verdict}
 
 -- What the definitions say: of each call "answer, line, words used", and of a text that is read answer, line, words written and the output.
 -- Each slice has no word more than it needs.

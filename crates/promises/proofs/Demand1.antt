@@ -1,5 +1,5 @@
--- Demand 1: "Every call ends and touches only what it was lent, for any order, text or book. Bad input gets the refusal number listed for it, and a
--- refusal changes nothing lent to the call."
+-- Demand 1: "Every call ends and touches only what it was lent, for any order, text or book given to it. Bad input gets the refusal number listed for
+-- it, and a refusal changes nothing lent to the call."
 --
 -- That a call ends, reads and writes only within what it was lent and wraps no sum is the theorem of each function, which the prover checks before it
 -- passes a crate: proofs/Contracts.antt cites those of the public functions (`teach-meets` and the like), and shows that their contracts ask nothing
@@ -15,23 +15,21 @@ use lib.Dec.{ltb}
 use lib.ListN.{length, drop}
 use Rattle.words.specs.Base.{if_then_else_}
 use Rattle.figures.specs.Numbers.{done, too-large, no-form, top-unknown}
-use Rattle.figures.specs.Answers.{depthOf}
+use Rattle.figures.specs.Answers.{depthOf, askedTold}
 use Rattle.figures.specs.declared.depths.Asked.{Asked}
 use Rattle.figures.specs.declared.Answer.{Answer}
 use Rattle.figures.specs.declared.Written.{Written}
 use Rattle.trees.specs.Trees.{Tree, cut}
 use Rattle.trees.specs.Paper.{IsR}
 use Rattle.trees.proofs.Paper.{cut-is-r}
-use Rattle.trees.specs.Answers.{checkOf, subtreeOf, Writing, writing, cutIntoOf, PartWriting, partWriting, partIntoOf}
+use Rattle.trees.specs.Answers.{checkOf, subtreeOf, pieceAt, Writing, writing, cutIntoOf, PartWriting, partWriting, partIntoOf}
 use Rattle.trees.specs.declared.PartWritten.{PartWritten}
 use Rattle.form.specs.Reading.{readOf}
 use Rattle.form.specs.Writing.{writeOf}
 use Rattle.form.proofs.Figures.{print-line}
-use Rattle.book.specs.Sound.{WhyForm}
-use Rattle.book.specs.Decoding.{bookFormOf}
+use Rattle.book.specs.Decoding.{bookFormOf, formTold}
 use Rattle.book.specs.Opening.{Outcome, outcome, openOf}
 use Rattle.book.specs.declared.BookForm.{BookForm}
-use Rattle.book.proofs.Sound.{why-is, why-only}
 use Rattle.verdicts.specs.Judging.{judgeOf}
 use Rattle.verdicts.specs.Verdicts.{Judged}
 use Rattle.verdicts.proofs.Answers.{judged-is, judged-only}
@@ -59,15 +57,15 @@ use Rattle.calls.specs.Steps.{Stepping, stepping, idle, begunBy, beginOf, stepO
 use Rattle.calls.specs.declared.Printed.{Printed}
 use Rattle.calls.proofs.Runs.{begin-behind, step-behind}
 use Rattle.calls.proofs.Steps.{begin-short, step-short, step-other}
-use Rattle.promises.specs.Whys.{WhyNumbered, WhySubtree, WhyCut, WhyPart, WhyDepth, WhyOpened, WhyChecked, WhyJoined, WhyPrinted, WhyRead, WhyFiled, WhyRestored}
-use Rattle.promises.proofs.Whys.{depth-why, depth-only, opened-why, opened-only, printed-why, printed-only, read-why, read-only}
-use Rattle.promises.proofs.PartWhys.{numbered-why, numbered-only, subtree-why, subtree-only, cut-why, cut-only, part-why, part-only}
-use Rattle.promises.proofs.Checks.{checked-why, checked-only}
-use Rattle.promises.proofs.Joining.{joined-why, joined-only}
-use Rattle.promises.proofs.FileWhys.{filed-why, filed-only, restored-why, restored-only}
-use Rattle.promises.proofs.LineNumbers.{check-line, cut-line, part-line, judge-line, read-line}
-use Rattle.promises.proofs.Refusals.{read-refusal-leaves, print-refusal-leaves, cut-refusal-leaves, part-refusal-leaves, open-refusal-leaves}
-use Rattle.promises.proofs.FileTrips.{file-refusal-leaves, restore-refusal-leaves}
+use Rattle.promises.specs.Whys.{WhyNumbered, WhySubtree, WhyCut, WhyPart, WhyDepth, WhyLooked, WhyOpened, WhyChecked, WhyJoined, WhyPrinted, WhyRead, WhyFiled, WhyRestored}
+use Rattle.promises.proofs.Laws.Whys.{depth-why, depth-only, looked-why, looked-only, opened-why, opened-only, printed-why, printed-only, read-why, read-only}
+use Rattle.promises.proofs.Laws.PartWhys.{numbered-why, numbered-only, subtree-why, subtree-only, cut-why, cut-only, part-why, part-only}
+use Rattle.promises.proofs.Laws.Checks.{checked-why, checked-only}
+use Rattle.promises.proofs.Laws.Joining.{joined-why, joined-only}
+use Rattle.promises.proofs.Laws.FileWhys.{filed-why, filed-only, restored-why, restored-only}
+use Rattle.promises.proofs.Laws.LineNumbers.{check-line, cut-line, part-line, judge-line, read-line}
+use Rattle.promises.proofs.Laws.Refusals.{read-refusal-leaves, print-refusal-leaves, cut-refusal-leaves, part-refusal-leaves, open-refusal-leaves}
+use Rattle.promises.proofs.Laws.FileTrips.{file-refusal-leaves, restore-refusal-leaves}
 
 -- ---- "the refusal number listed for it"
 
@@ -94,12 +92,12 @@ module _ (ws os text file out : List ℕ) (k line d : ℕ) where
   pub part-rows : Exactly (WhyPart os out line k) (partIntoOf os line k out)
   part-rows = (part-why os out line k, part-only os out line k)
 
-  -- 4 and 5
-  pub form-rows : Exactly (WhyForm ws) (bookFormOf ws)
-  form-rows = (why-is ws, why-only ws)
+  -- 4 and 5: `look::in_form`, by the number, line and places that `formTold` gives each case
+  pub form-rows : Exactly (WhyLooked ws) (formTold (bookFormOf ws))
+  form-rows = (looked-why ws, looked-only ws)
 
-  -- "3: k outside 2 to 6"
-  pub depth-rows : Exactly (WhyDepth k) (depthOf k)
+  -- "3: k outside 2 to 6": `figures::Depth::new`, by the number, line and k that `askedTold` gives each case
+  pub depth-rows : Exactly (WhyDepth k) (askedTold (depthOf k))
   depth-rows = (depth-why k, depth-only k)
 
   -- "Open: 4, 3."
@@ -233,9 +231,9 @@ module _ (ws os text file out : List ℕ) (k line d : ℕ) where
   pub one-check : {r s : Answer} → r ≡ checkOf os → s ≡ checkOf os → r ≡ s
   one-check = same
 
-  -- `cuts::subtree`: the words that are handed out. Where in the order they stand the contract leaves open.
-  pub one-subtree : {r s : List ℕ} → r ≡ subtreeOf os line → s ≡ subtreeOf os line → r ≡ s
-  one-subtree = same
+  -- `cuts::subtree`: the place of the part that is handed out, behind that of the order, and its words
+  pub one-subtree : (at : ℕ × ℕ) {p q : ℕ × ℕ} {u v : List ℕ} → (p, u) ≡ pieceAt at (subtreeOf os line) → (q, v) ≡ pieceAt at (subtreeOf os line) → (p ≡ q) × (u ≡ v)
+  one-subtree at e f = (ap (λ (x : (ℕ × ℕ) × List ℕ). x .0) (same e f), ap (λ (x : (ℕ × ℕ) × List ℕ). x .1) (same e f))
 
   -- `cuts::cut_into`
   pub one-cut : {r s : Written} {u v : List ℕ} → writing r u ≡ cutIntoOf os line d out → writing s v ≡ cutIntoOf os line d out → (r ≡ s) × (u ≡ v)

@@ -1,8 +1,8 @@
--- Demand 2: "An order passes exactly when its top, its low parts and its middle parts are all in the book, as García's paper (document 000) defines
--- them. Codes are read as decimal. A sound form goes to text and back unchanged; so does a book that agrees with itself, to file and back into a slice of its own
--- length."
+-- Demand 2: "An order passes exactly when its top, its low parts and its middle parts are all in the book, as García's paper on k-testable tree sets
+-- defines them. Codes are read as decimal. A sound form goes to text and back unchanged; so does a book that agrees with itself, to file and back into
+-- a slice of its own length."
 --
--- Document 000's r, l and p are `IsR`, `IsL` and `IsP` (trees/specs/Paper.antt), said by positions and labels. A tree is in a section if one of its
+-- García's paper is document 000. Its r, l and p are `IsR`, `IsL` and `IsP` (trees/specs/Paper.antt), said by positions and labels. A tree is in a section if one of its
 -- entries has the tree's words (`In`, verdicts/specs/Verdicts.antt). Assumes nothing.
 use Prim.Native.Nat.{ℕ, suc, _+_, _*_, _-_, _/_, _%_, _≤_, _<_}
 use mathlib.Core.Path.{_≡_, refl, sym, ap, subst, _∙_}
@@ -45,11 +45,11 @@ use Rattle.effects.specs.Conditions.{_exactly-when_}
 use Rattle.files.specs.Files.{front-bytes, fileOf, writeFileOf, readFileOf}
 use Rattle.promises.specs.Agreement.{Agrees}
 use Rattle.promises.specs.Forms.{LevelInTens, InTens, Stands, ComesBack, LinesBelow, PartKnown, NoLineUnknown, LineWanted, Told}
-use Rattle.promises.proofs.FormLines.{level-tens, tens-level, tens-most, lines-below, below-by-lines}
-use Rattle.promises.proofs.LineNumbers.{unpassed, told, wanted-told, unknown-told, unknown-top}
-use Rattle.promises.proofs.FileWhys.{agrees-filed}
-use Rattle.promises.proofs.FileTrips.{file-back, filed-back, filed-bytes, read-back-filed, read-alike}
-use Rattle.promises.proofs.Refusals.{write-writes}
+use Rattle.promises.proofs.Laws.FormLines.{level-tens, tens-level, tens-most, lines-below, below-by-lines}
+use Rattle.promises.proofs.Laws.LineNumbers.{unpassed, told, wanted-told, unknown-told, unknown-top}
+use Rattle.promises.proofs.Laws.FileWhys.{agrees-filed}
+use Rattle.promises.proofs.Laws.FileTrips.{file-back, filed-back, filed-bytes, read-back-filed, read-alike}
+use Rattle.promises.proofs.Laws.Refusals.{write-writes}
 
 -- ---- passing
 

@@ -1,7 +1,7 @@
--- Demand 3: "Open an empty book of an allowed k and size, then teach and withdraw in any sequence, refused calls included. Its parts and counts are
--- exactly those of the orders that remain. In every word it is the book you get by teaching just the remaining orders, each as often as it remains,
--- in whichever order, and none of those teachings is refused." And 01: "A run that starts by reading a file counts that file's orders as taught first." And
--- 02, of joining: "From then on demand 3 counts the joined orders as taught."
+-- Demand 3: "Open an empty book of an allowed k and size, then teach and withdraw in any sequence, refused calls included, with nothing else writing to
+-- it. Its parts and counts are exactly those of the orders that remain. It is, in every word, the one you get from an empty book of the same k and size
+-- by teaching just the orders that remain, each as often as it remains, in whichever order; and none of those teachings is refused." And 01: "A run that
+-- starts by reading a file counts that file's orders as taught first." And 02, of joining: "From then on demand 3 counts the joined orders as taught."
 --
 -- A run starts with an opened book or a file that is read (`Start`, specs/Starts.antt). A call teaches, withdraws or joins, with any words as its order or as
 -- the other book; `after` is the slice after a list of calls, and `remaining` the orders that remain of those taught first and of the calls by the calls' own
@@ -34,14 +34,14 @@ use Rattle.promises.specs.Remaining.{Call, afterBy, after, ordersIn, rem
 use Rattle.promises.specs.Starts.{Start, opening, reading, startedBy, taughtFirst, startK}
 use Rattle.promises.specs.Agreement.{Agrees}
 use Rattle.promises.specs.Whys.{IsFile}
-use Rattle.promises.proofs.Remaining.{after-kept, after-long, holds-exactly, taught-alone}
-use Rattle.promises.proofs.Starting.{opens, begins, first-k}
-use Rattle.promises.proofs.GoingOn.{first-counts, stores, goes-back, same-k, same-first}
-use Rattle.promises.proofs.Passing.{passes-made, among-passes}
-use Rattle.promises.proofs.Conditions.{teaching-7, teaching-6, teaching-0, withdrawing-8, withdrawing-0, joining-7, joining-6, joining-0}
-use Rattle.promises.proofs.Agreement.{sound-agreeing}
-use Rattle.promises.proofs.Joining.{leaves-sum, joins-as-taught}
-use Rattle.promises.proofs.Checks.{grown-agrees}
+use Rattle.promises.proofs.Laws.Remaining.{after-kept, after-long, holds-exactly, taught-alone}
+use Rattle.promises.proofs.Laws.Starting.{opens, begins, first-k}
+use Rattle.promises.proofs.Laws.GoingOn.{first-counts, stores, goes-back, same-k, same-first}
+use Rattle.promises.proofs.Laws.Passing.{passes-made, among-passes}
+use Rattle.promises.proofs.Laws.Conditions.{teaching-7, teaching-6, teaching-0, withdrawing-8, withdrawing-0, joining-7, joining-6, joining-0}
+use Rattle.promises.proofs.Laws.Agreement.{sound-agreeing}
+use Rattle.promises.proofs.Laws.Joining.{leaves-sum, joins-as-taught}
+use Rattle.promises.proofs.Laws.Checks.{grown-agrees}
 use Rattle.promises.proofs.Demand2.{passing-line}
 
 -- "Open an empty book of an allowed k and size": it is done.
@@ -56,7 +56,7 @@ module _ (start : Start) (slice : List ℕ) (started : startedBy start slice .an
   abbrev pub k : ℕ
   k = startK start
 
-  -- "then teach and withdraw in any sequence, refused calls included", and join other books.
+  -- "then teach and withdraw in any sequence, refused calls included, with nothing else writing to it", and join other books.
   module _ (cs : List Call) where
     -- The slice then.
     abbrev pub book : List ℕ
@@ -75,8 +75,8 @@ module _ (start : Start) (slice : List ℕ) (started : startedBy start slice .an
     pub same-length : length book ≡ length slice
     same-length = after-long slice k (taughtFirst start) (startedBy start slice .words) (begins start slice started) cs
 
-    -- "In every word it is the book you get by teaching just the remaining orders, each as often as it remains, in whichever order, and none of those
-    -- teachings is refused": in any slice of the same length, whatever stood in it before it was opened.
+    -- "It is, in every word, the one you get from an empty book of the same k and size by teaching just the orders that remain, each as often as it
+    -- remains, in whichever order; and none of those teachings is refused": in any slice of the same length, whatever stood in it before it was opened.
     pub in-every-word : (other : List ℕ) → length other ≡ length slice → (qs : List (List ℕ)) → SameOrders qs orders
         → NoneRefused qs (openOf other k .words) × (taughtAll qs (openOf other k .words) ≡ book)
     in-every-word = taught-alone slice k (taughtFirst start) (startedBy start slice .words) (begins start slice started) cs
@@ -160,8 +160,8 @@ module _ (slice : List ℕ) (k : ℕ) (long : head-words ≤ length slice) (shor
   opens-by-0 : openOf slice k .answer .number ≡ done
   opens-by-0 = ap (λ (a : Answer). a .number) (opening-done slice k long short least greatest)
 
-  -- "Its parts and counts are exactly those of the orders that remain. In every word it is the book you get by teaching just the remaining orders, each
-  -- as often as it remains, in whichever order, and none of those teachings is refused."
+  -- "Its parts and counts are exactly those of the orders that remain. It is, in every word, the one you get from an empty book of the same k and size
+  -- by teaching just the orders that remain, each as often as it remains, in whichever order; and none of those teachings is refused."
   pub from-an-empty-book : ExactlyThese k (remaining cs opened []) (after cs opened)
       × ((other : List ℕ) → length other ≡ length slice → (qs : List (List ℕ)) → SameOrders qs (remaining cs opened [])
       → NoneRefused qs (openOf other k .words) × (taughtAll qs (openOf other k .words) ≡ after cs opened))

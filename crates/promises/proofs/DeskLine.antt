@@ -36,12 +36,12 @@ use Rattle.calls.proofs.Lines.{feeds-append, line-feeds, calls-feeds, letter-no
 use Rattle.calls.proofs.Runs.{Finished, run-goes-on, run-prints, run-from}
 use Rattle.promises.specs.AtTheDesk.{WhyAnswered, no-text, text-at-fault, teaches, withdraws, judges, InDecimal, Says, PrintedFor}
 use Rattle.promises.specs.Forms.{LineOfText, ComesBack, Told}
-use Rattle.promises.proofs.FormLines.{spell-feeds}
-use Rattle.promises.proofs.Handing.{asks-order, book-then}
+use Rattle.promises.proofs.Laws.FormLines.{spell-feeds}
+use Rattle.promises.proofs.Laws.Handing.{asks-order, book-then}
 use Rattle.promises.proofs.Demand1.{Exactly}
 use Rattle.promises.proofs.Demand2.{comes-back, doubted-least}
 use Rattle.promises.proofs.AtTheDesk.{blank, opened, desk-book, line-of-each}
-use Rattle.promises.proofs.DeskFigures.{desk-figures-small}
+use Rattle.promises.proofs.Laws.DeskFigures.{desk-figures-small}
 
 -- ---- the answer of a form
 

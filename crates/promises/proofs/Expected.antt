@@ -29,8 +29,8 @@ use Rattle.verdicts.proofs.Judgements.{none-by-cause, none-unheld}
 use Rattle.verdicts.proofs.Answers.{judged-is, answered-top, answered-low, answered-middle}
 use Rattle.effects.specs.Conditions.{_exactly-when_}
 use Rattle.promises.specs.Expected.{IsNear, Expected, of-top, of-low, of-middle, of-none}
-use Rattle.promises.proofs.Nearness.{near-of, near-once, tops-ascend, lows-ascend, middles-ascend, middle-is-r}
-use Rattle.promises.proofs.Nearness.{none-handed, top-handed, low-handed, middle-handed, Reported, for-top, for-low, for-middle, for-none, reported}
+use Rattle.promises.proofs.Laws.Nearness.{near-of, near-once, tops-ascend, lows-ascend, middles-ascend, middle-is-r}
+use Rattle.promises.proofs.Laws.Nearness.{none-handed, top-handed, low-handed, middle-handed, Reported, for-top, for-low, for-middle, for-none, reported}
 
 -- ---- comparing two parts
 

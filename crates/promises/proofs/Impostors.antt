@@ -34,10 +34,10 @@ use Rattle.promises.specs.Heard.{single, pair}
 use Rattle.promises.specs.Remaining.{Call, teach, withdraw, join, timesOf, outcomeOf, afterBy, ordersIn, remainBy, remainingBy, booked, ExactlyThese}
 use Rattle.promises.specs.Starts.{Start, opening, startedBy, taughtFirst, startK}
 use Rattle.promises.specs.Agreement.{Agrees}
-use Rattle.promises.proofs.Counted.{counted-length}
-use Rattle.promises.proofs.Remaining.{read-book}
-use Rattle.promises.proofs.Agreement.{sound-agreeing}
-use Rattle.promises.proofs.Computed.{computes}
+use Rattle.promises.proofs.Laws.Counted.{counted-length}
+use Rattle.promises.proofs.Laws.Remaining.{read-book}
+use Rattle.promises.proofs.Laws.Agreement.{sound-agreeing}
+use Rattle.promises.proofs.Tables.Computed.{computes}
 use Rattle.promises.proofs.Demand2.{passes-exactly}
 use Rattle.promises.proofs.Demand3.{opening-done, parts-and-counts, same-length, taught-exactly, withdrawn-exactly, joined-exactly}
 use Rattle.promises.proofs.Uniqueness.{booked-is}
@@ -242,7 +242,7 @@ module _ (g : List ℕ → List ℕ → Answer) (meets : Judging g) where
 
 -- ---- by demand 3's parts and counts
 
--- What answers calls so that, after any of them on a book that a run starts with, "its parts and counts are exactly those of the orders that remain",
+-- What answers calls so that, after any of them on a book that a run starts with, "Its parts and counts are exactly those of the orders that remain",
 -- and the slice has its length. What refuses every call and changes no word meets this too: `Accepts` shuts it out.
 abbrev pub Keeps : Start → (Call → List ℕ → Outcome) → Type 0
 Keeps start answers =

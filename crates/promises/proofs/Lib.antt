@@ -1,46 +1,19 @@
--- The demands, and the laws that they cite.
-pub mod Orders
-pub mod Counted
-pub mod Remaining
-pub mod Agreement
-pub mod Passing
-pub mod Learning
-pub mod Refusals
-pub mod Whys
-pub mod PartWhys
-pub mod Conditions
-pub mod Checks
-pub mod Joining
-pub mod Books
-pub mod FileWhys
-pub mod Starting
-pub mod FileTrips
-pub mod Wordings
-pub mod GoingOn
-pub mod LineNumbers
-pub mod FormLines
-pub mod Contracts
-pub mod InC
-pub mod Lent
-pub mod Handing
-mod Computed
-pub mod FirstLeaf
-pub mod Cases
+-- The demands and what a reader begins with; then what was computed, and the laws that all of these cite.
 pub mod Demand1
 pub mod Demand2
 pub mod Demand3
-pub mod Growing
 pub mod NoMore
-pub mod Nearness
 pub mod Expected
+pub mod Cases
 pub mod AtTheDesk
-pub mod DeskFigures
 pub mod DeskLine
-pub mod Uniqueness
+pub mod Contracts
+pub mod InC
+pub mod Lent
 pub mod Impostors
-mod Rows
-mod FileRows
-pub mod Numerals
-pub mod InOrder
-pub mod DeskRows
+pub mod Books
+pub mod Wordings
+pub mod Uniqueness
 pub mod DeskInput
+pub mod Tables
+pub mod Laws

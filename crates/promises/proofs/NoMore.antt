@@ -32,13 +32,13 @@ use Rattle.promises.specs.Remaining.{Call, after, remaining, taughtAll, 
 use Rattle.promises.specs.Starts.{Start, startedBy, taughtFirst, startK}
 use Rattle.promises.specs.Agreement.{Agrees}
 use Rattle.promises.specs.NoMore.{ThreeSets, FormOf, TaughtIn, IncludeTaught, setsOf, Remains}
-use Rattle.promises.proofs.Passing.{judged-exactly, passes-made}
-use Rattle.promises.proofs.Learning.{passes-learnt, passes-own-form, made-learnt}
-use Rattle.promises.proofs.Agreement.{sound-agreeing}
+use Rattle.promises.proofs.Laws.Passing.{judged-exactly, passes-made}
+use Rattle.promises.proofs.Laws.Learning.{passes-learnt, passes-own-form, made-learnt}
+use Rattle.promises.proofs.Laws.Agreement.{sound-agreeing}
 use Rattle.promises.proofs.Books.{its-met}
-use Rattle.promises.proofs.Growing.{taught-still-passes, joined-still-passes}
-use Rattle.promises.proofs.Remaining.{after-book, after-agrees}
-use Rattle.promises.proofs.Starting.{begins}
+use Rattle.promises.proofs.Laws.Growing.{taught-still-passes, joined-still-passes}
+use Rattle.promises.proofs.Laws.Remaining.{after-book, after-agrees}
+use Rattle.promises.proofs.Laws.Starting.{begins}
 use Rattle.promises.proofs.Demand2.{passing-line}
 
 -- ---- any three sets

@@ -22,8 +22,8 @@ use Rattle.book.specs.declared.Section.the-variants.{Taught, Tops, Lows, Middle
 use Rattle.book.proofs.Sound.{form-sound, sound-form}
 use Rattle.book.proofs.Sections.{each-section, same-books, form-sorted}
 use Rattle.promises.specs.Remaining.{timesOf, booked, HowMany, none-left, one-more, not-this, ExactlyThese}
-use Rattle.promises.proofs.Orders.{Orders, booked-k, booked-form, counts-taught, counts-tops, counts-lows, counts-middles}
-use Rattle.promises.proofs.Agreement.{same-trees, sound-trees}
+use Rattle.promises.proofs.Laws.Orders.{Orders, booked-k, booked-form, counts-taught, counts-tops, counts-lows, counts-middles}
+use Rattle.promises.proofs.Laws.Agreement.{same-trees, sound-trees}
 
 -- As many members of a list as have a property is one number only.
 pub how-many-once : {A : Type 0} (Q : A → Type 0) (l : List A) (m n : ℕ) → HowMany Q l m → HowMany Q l n → m ≡ n

@@ -14,7 +14,7 @@ use Rattle.section.specs.Entries.{Entry, countsFor, countOf}
 use Rattle.book.specs.Opening.{Outcome}
 use Rattle.effects.specs.Calls.{teachOf}
 use Rattle.promises.specs.Remaining.{Call, outcomeOf, afterBy, after, ordersIn, without, remainBy, remainingBy, remaining, timesOf, SameOrders, taughtAll, NoneRefused}
-use Rattle.promises.proofs.Orders.{times-without}
+use Rattle.promises.proofs.Laws.Orders.{times-without}
 
 -- ---- "in whichever order"
 

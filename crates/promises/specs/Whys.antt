@@ -5,27 +5,28 @@
 use Prim.Native.Nat.{ℕ, _+_, _-_, _*_, _≤_, _<_}
 use mathlib.Core.Path.{_≡_}
 use mathlib.Core.List.{List, [], _∷_, _++_}
+use mathlib.Core.Option.{Option, none, some}
 use lib.ListN.{length, take, drop}
 use Rattle.words.specs.Base.{over}
 use Rattle.figures.specs.Limits.{head-words, most-book-words, least-k, greatest-k, greatest-count}
 use Rattle.figures.specs.Numbers.{done, k-outside, book-size, no-room, too-many, not-agreeing, no-form, short-output, no-mark, other-version, no-stored-book, other-k}
 use Rattle.figures.specs.Answers.{answered, wrote, refusedAt}
 use Rattle.figures.specs.declared.Answer.{Answer}
-use Rattle.figures.specs.declared.depths.Asked.{Asked}
-use Rattle.figures.specs.declared.depths.Asked.the-variants.{Allowed, Outside}
 use Rattle.trees.specs.Trees.{Tree, words, depth, cut, subtrees}
 use Rattle.trees.specs.Reading.{found}
 use Rattle.trees.specs.Causes.{Cause}
 use Rattle.trees.specs.Fits.{IsOrder}
-use Rattle.trees.specs.Answers.{lineOf, Writing, writing, refuse, PartWriting, partWriting, noPart, ofKind}
+use Rattle.trees.specs.Answers.{lineOf, Piece, piece, Writing, writing, refuse, PartWriting, partWriting, noPart, ofKind}
 use Rattle.trees.specs.declared.Kind.the-variants.{Low, Middle}
 use Rattle.form.specs.Text.{textOf}
 use Rattle.form.specs.Faults.{FirstFault}
 use Rattle.book.specs.Book.{Book, used, live, encode}
+use Rattle.book.specs.Decoding.{placesOf}
 use Rattle.book.specs.Sound.{SoundBook, IsBook, WhyForm}
 use Rattle.book.specs.Taught.{emptyBook}
 use Rattle.book.specs.Opening.{Outcome, leave, writeBook}
 use Rattle.book.specs.declared.BookForm.the-variants.{Refused}
+use Rattle.book.specs.declared.Places.{Places}
 use Rattle.sums.specs.Joining.{CountsAdded}
 use Rattle.octets.specs.Octets.{bytesOf}
 use Rattle.files.specs.Files.{mark, mark-bytes, version, front-bytes, fileOf}
@@ -45,15 +46,16 @@ pub data Lacks (t : Tree) (line : ℕ) : Type 0 where
   -- It has no line past the one of its last node.
   past-last : length (subtrees t) < line → Lacks t line
 
--- Why `cuts::subtree` hands out w: "A subtree is a contiguous part of the order's words, and is handed out as that part, asked for by its
+-- Why `cuts::subtree` hands out p: "A subtree is a contiguous part of the order's words, and is handed out as that part, asked for by its
 -- line; for an order with a cause of 1 or 2, or a line the order lacks, an empty part is handed out". Lines count from 1, in preorder.
-pub data WhySubtree (os : List ℕ) (line : ℕ) (w : List ℕ) : Type 0 where
-  -- "for an order with a cause of 1 or 2": an empty part
-  subtree-no-order : (n : ℕ) → w ≡ [] → Cause os n → (n ≡ done → ⊥) → WhySubtree os line w
-  -- "or a line the order lacks": an empty part
-  subtree-lacks : (t : Tree) → w ≡ [] → IsOrder os t → Lacks t line → WhySubtree os line w
-  -- "is handed out as that part": the subtree's words, which stand in the order's from the two words of the line on
-  subtree : (t s : Tree) → w ≡ words s → IsOrder os t → lineOf line (subtrees t) ≡ found s → take (length (words s)) (drop ((line - 1) * 2) os) ≡ words s → WhySubtree os line w
+pub data WhySubtree (os : List ℕ) (line : ℕ) (p : Piece) : Type 0 where
+  -- "for an order with a cause of 1 or 2": an empty part, at the front
+  subtree-no-order : (n : ℕ) → p ≡ piece 0 [] → Cause os n → (n ≡ done → ⊥) → WhySubtree os line p
+  -- "or a line the order lacks": an empty part, at the front
+  subtree-lacks : (t : Tree) → p ≡ piece 0 [] → IsOrder os t → Lacks t line → WhySubtree os line p
+  -- "is handed out as that part": from the two words of the line on, the subtree's words, which stand there
+  subtree : (t s : Tree) → p ≡ piece ((line - 1) * 2) (words s) → IsOrder os t → lineOf line (subtrees t) ≡ found s
+      → take (length (words s)) (drop ((line - 1) * 2) os) ≡ words s → WhySubtree os line p
 
 -- Why writing the cut at d of a line's subtree gives w: 1, 2, 11. "Cut(t, d) keeps the nodes of depth at most d".
 pub data WhyCut (os out : List ℕ) (line d : ℕ) (w : Writing) : Type 0 where
@@ -89,14 +91,21 @@ pub data WhyPart (os out : List ℕ) (line k : ℕ) (w : PartWriting) : Type 0 w
 
 -- ---- books
 
--- Why asking for a k gives a: "3: k outside 2 to 6".
-pub data WhyDepth (k : ℕ) (a : Asked) : Type 0 where
-  -- "k outside 2 to 6": below
-  depth-below : a ≡ Outside → k < least-k → WhyDepth k a
-  -- or above
-  depth-above : a ≡ Outside → greatest-k < k → WhyDepth k a
-  -- "k is 2 to 6": the depth of that k
-  depth-allowed : a ≡ Allowed (record { k = k }) → least-k ≤ k → k ≤ greatest-k → WhyDepth k a
+-- Why asking for a k tells x: "3: k outside 2 to 6".
+pub data WhyDepth (k : ℕ) (x : Answer × Option ℕ) : Type 0 where
+  -- 3: "k outside 2 to 6": below
+  depth-below : x ≡ (answered k-outside, none) → k < least-k → WhyDepth k x
+  -- 3: or above
+  depth-above : x ≡ (answered k-outside, none) → greatest-k < k → WhyDepth k x
+  -- 0: "k is 2 to 6", and it is that k
+  depth-allowed : x ≡ (answered done, some k) → least-k ≤ k → k ≤ greatest-k → WhyDepth k x
+
+-- Why a look at a book's form tells x: 4 and 5.
+pub data WhyLooked (ws : List ℕ) (x : Answer × Option Places) : Type 0 where
+  -- 4 and 5, by the form: no places
+  look-no-book : (n : ℕ) → x ≡ (answered n, none) → WhyForm ws (Refused n) → WhyLooked ws x
+  -- 0: a book, and where its sections start
+  look-book : (b : Book) → x ≡ (answered done, some (placesOf b)) → IsBook ws b → WhyLooked ws x
 
 -- Why opening at k answers and leaves the words as o has them: "Open: 4, 3."
 pub data WhyOpened (ws : List ℕ) (k : ℕ) (o : Outcome) : Type 0 where

@@ -1,8 +1,8 @@
 -- What the public functions of `order`, `cuts` and `parts` answer, by where the line stands. Assumes nothing.
-use mathlib.Core.Path.{_≡_, refl, sym}
+use mathlib.Core.Path.{_≡_, refl, sym, ap, _∙_}
 use mathlib.Core.Bool.{Bool, true, false}
 use mathlib.Core.List.{List, []}
-use Prim.Native.Nat.{ℕ, _+_, _-_, _≤_}
+use Prim.Native.Nat.{ℕ, _+_, _-_, _*_, _≤_}
 use native.Mathlib.Omega.{arith}
 use borrow.Author.Tests.{leb-true}
 use lib.ListN.{length, take, drop}
@@ -13,7 +13,7 @@ use Rattle.trees.specs.Trees.{Tree, words, depth, cut}
 use Rattle.trees.specs.Reading.{byFound, refused, byOrder, orderOf}
 use Rattle.trees.specs.Parts.{isLow, middle, partOf}
 use Rattle.trees.specs.Standing.{cutOf}
-use Rattle.trees.specs.Answers.{subtreeOf, refuse, write, cutIntoOf, partWriting, noPart, ofKind, partIntoOf}
+use Rattle.trees.specs.Answers.{piece, noPiece, subtreeOf, refuse, write, cutIntoOf, partWriting, noPart, ofKind, partIntoOf}
 use Rattle.trees.specs.declared.Kind.the-variants.{Low, Middle}
 use Rattle.trees.proofs.Cutting.{cut-shallow}
 use Rattle.trees.proofs.Writing.{no-words}
@@ -24,7 +24,7 @@ use Rattle.trees.proofs.Spots.{spot-within, spot-words}
 
 module _ (s : List ℕ) (line n : ℕ) (stop : orderOf s ≡ refused n) where
   -- An empty part is handed out.
-  pub subtree-refused : subtreeOf s line ≡ []
+  pub subtree-refused : subtreeOf s line ≡ noPiece
   unfolding subtreeOf byOrder
   subtree-refused = rw stop
 
@@ -42,7 +42,7 @@ module _ (s : List ℕ) (line n : ℕ) (stop : orderOf s ≡ refused n) where
 
 module _ (s : List ℕ) (line : ℕ) (lack : LacksLine s line) where
   -- An empty part is handed out.
-  pub subtree-lacks : subtreeOf s line ≡ []
+  pub subtree-lacks : subtreeOf s line ≡ noPiece
   unfolding subtreeOf byOrder byFound
   subtree-lacks = rw (lack .is, lack .lacks)
 
@@ -81,10 +81,14 @@ module _ (s : List ℕ) (line at : ℕ) (has : HasLine s line at) where
   pub subtree-within : (e : ℕ) → at ≤ length s → e ≡ at + length (words (has .spot .tree)) → (at ≤ e) × (e ≤ length s)
   subtree-within e h z = (omega arith, omega (arith, spot-within s at _ (has .spot) h))
 
-  -- The words up to where it ends are handed out.
-  pub subtree-has : (e : ℕ) → e ≡ at + length (words (has .spot .tree)) → subtreeOf s line ≡ take (e - at) (drop at s)
+  -- Its words are handed out, from there on.
+  pub subtree-is : at ≡ (line - 1) * 2 → subtreeOf s line ≡ piece at (words (has .spot .tree))
   unfolding subtreeOf byOrder byFound
-  subtree-has e z = let w = spot-words s at _ (has .spot) e z in rw (has .is, has .spot .is, w) refl
+  subtree-is y = rw (has .is, has .spot .is, y) refl
+
+  -- They are the order's words up to where it ends.
+  pub subtree-has : at ≡ (line - 1) * 2 → (e : ℕ) → e ≡ at + length (words (has .spot .tree)) → subtreeOf s line ≡ piece at (take (e - at) (drop at s))
+  subtree-has y e z = subtree-is y ∙ ap (piece at) (sym (spot-words s at _ (has .spot) e z))
 
   -- The cut of the tree there is written.
   pub cut-has : (d : ℕ) (out : List ℕ) → cutIntoOf s line d out ≡ write (cutOf s at d) out

@@ -52,10 +52,12 @@ module _ (os : List ℕ) (at : ℕ) (x : Found) (p : Spot os at x) where
   spot-within h = omega (arith, simp (length-append, length-drop) at (ap length (p .here)))
 
   -- Its words are those from there on.
+  pub spot-part : take (length (words (p .tree))) (drop at os) ≡ words (p .tree)
+  spot-part = ap (take (length (words (p .tree)))) (p .here) ∙ take-append-seam (words (p .tree)) (p .after)
+
+  -- They are those up to where it ends.
   pub spot-words : (e : ℕ) → e ≡ at + length (words (p .tree)) → take (e - at) (drop at os) ≡ words (p .tree)
-  spot-words e h =
-      let n : e - at ≡ length (words (p .tree)) = omega arith in
-      rw (n, p .here) (take-append-seam (words (p .tree)) (p .after))
+  spot-words e h = let n : e - at ≡ length (words (p .tree)) = omega arith in rw n spot-part
 
   -- Any cut of it has at most 128 words.
   pub cut-short : (d : ℕ) → length os ≤ most-words → length (cutOf os at d) ≤ most-words

@@ -1,6 +1,6 @@
 -- What the public functions of `order`, `cuts` and `parts` answer, for all inputs. Assumes nothing: these are definitions.
 use mathlib.Core.List.{List, [], _∷_}
-use Prim.Native.Nat.{ℕ, zero, suc}
+use Prim.Native.Nat.{ℕ, zero, suc, _+_, _-_, _*_}
 use lib.Dec.{leb}
 use lib.ListN.{length}
 use Rattle.words.specs.Base.{if_then_else_, over}
@@ -34,9 +34,28 @@ unfoldable pub lineOf : ℕ → List Tree → Found
 lineOf zero ts = missing
 lineOf (suc i) ts = treeAt ts i
 
--- "handed out as that part, asked for by its line; for an order with a cause of 1 or 2, or a line the order lacks, an empty part"
-unfoldable pub subtreeOf : List ℕ → ℕ → List ℕ
-subtreeOf ws line = byOrder (orderOf ws) (λ n. []) (λ t. byFound (lineOf line (subtrees t)) [] words)
+-- A part of some words: the word at which it starts, and its own words.
+pub record Piece : Type 0 where
+  pub start : ℕ
+  pub words : List ℕ
+
+-- The part that starts at a word and has these words.
+abbrev pub piece : ℕ → List ℕ → Piece
+piece start ws = record { start = start; words = ws }
+
+-- The empty part, at the front.
+abbrev pub noPiece : Piece
+noPiece = piece 0 []
+
+-- "handed out as that part, asked for by its line; for an order with a cause of 1 or 2, or a line the order lacks, an empty part": the subtree's
+-- words, behind the two words of each line before it.
+unfoldable pub subtreeOf : List ℕ → ℕ → Piece
+subtreeOf ws line = byOrder (orderOf ws) (λ n. noPiece) (λ t. byFound (lineOf line (subtrees t)) noPiece (λ s. piece ((line - 1) * 2) (words s)))
+
+-- A part of lent words that begin at a place, a block and the bytes before it there, as it is handed out: the place where it begins, for a word
+-- has two bytes, and its words.
+abbrev pub pieceAt : ℕ × ℕ → Piece → (ℕ × ℕ) × List ℕ
+pieceAt at p = ((at .0, p .start * 2 + at .1), p .words)
 
 -- ---- writing words to the front of a lent output
 

@@ -2,9 +2,11 @@
 use Prim.Native.Nat.{ℕ, _+_, _*_, _≤_}
 use mathlib.Core.Path.{_≡_, ap, sym, _∙_}
 use native.Mathlib.Omega.{arith}
+use denote.Ref.{ptr}
 use lib.ListN.{length}
 use borrow.Author.Needs.{needs}
 use Rattle.trees.specs.Trees.{words}
+use Rattle.trees.specs.Answers.{pieceAt}
 use Rattle.trees.proofs.Lines.{HasLine, placed, StandsAt, stands-at}
 use Rattle.trees.proofs.LineSpans.{spans-room, stands-span}
 use Rattle.trees.proofs.Answers.{subtree-refused, subtree-lacks, subtree-within, subtree-has}
@@ -89,13 +91,15 @@ part-result-end-3 : tie.Need-part-result-end-3
 part-result-end-3 c = let w = within c in omega arith
 
 returns : tie.Need-returns
-returns c = sym (subtree-refused _ _ _ (placed _ _ _ _ (c .before .before .before .before .find-line .ensures .0) (c .before .enum-told .given .1)))
+returns c = ap (pieceAt (ptr (c .before .before .before .before .before .before .before .args .order))) (sym (subtree-refused _ _ _ (placed _ _ _ _ (c .before .before .before .before .find-line .ensures .0) (c .before .enum-told .given .1))))
 
 returns-2 : tie.Need-returns-2
-returns-2 c = sym (subtree-lacks _ _ (placed _ _ _ _ (c .before .before .before .before .find-line .ensures .0) (c .before .enum-told2 .given .1)))
+returns-2 c = ap (pieceAt (ptr (c .before .before .before .before .before .before .before .args .order))) (sym (subtree-lacks _ _ (placed _ _ _ _ (c .before .before .before .before .find-line .ensures .0) (c .before .enum-told2 .given .1))))
 
 returns-3 : tie.Need-returns-3
-returns-3 c = sym (subtree-has _ _ _ (has (c .before .before .before .before)) _ (ends (c .before)))
+returns-3 c =
+    let a = c .before .before .before .before in
+    ap (pieceAt (ptr (a .before .before .before .before .before .before .args .order))) (sym (subtree-has _ _ _ (has a) (stands a .word) _ (ends (c .before))))
 
 pub subtree-spec : {M : Type 1} → statement M
 subtree-spec =

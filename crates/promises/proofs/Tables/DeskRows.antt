@@ -42,9 +42,9 @@ use Rattle.sheet.specs.declared.Letter.the-variants.{Teach, Withdraw, Judge}
 use Rattle.ask.specs.Asking.{askOf, callOf}
 use Rattle.calls.specs.Desk.{lineFor, linesFor, deskOf}
 use Rattle.promises.specs.Heard.{A}
-use Rattle.promises.proofs.Handing.{asks-order}
+use Rattle.promises.proofs.Laws.Handing.{asks-order}
 use Rattle.promises.proofs.AtTheDesk.{blank, blank-long, fault-alone, first-line-printed}
-use Rattle.promises.proofs.Computed.{computes, desk-computes}
+use Rattle.promises.proofs.Tables.Computed.{computes, desk-computes}
 
 -- ---- books in a slice
 

@@ -1,9 +1,10 @@
--- Asking for a k, opening, and reading and writing a form, answer exactly by the rows of 01's table, as specs/Whys.antt states them, for any
+-- Asking for a k, looking at a book's form, opening, and reading and writing a form, answer exactly by the rows of 01's table, as specs/Whys.antt states them, for any
 -- words: every answer has its row, and what has a row is the answer. Assumes nothing.
 use Prim.Native.Nat.{ℕ, _≤_, _<_}
 use mathlib.Core.Path.{_≡_, refl, sym, ap, subst, _∙_}
 use mathlib.Core.Bool.{true, false}
 use mathlib.Core.List.{List, [], _∷_}
+use mathlib.Core.Option.{Option}
 use native.Mathlib.Decide.{decLt}
 use native.Mathlib.Omega.{arith}
 use borrow.Author.Tests.{le-leb, lt-leb}
@@ -11,9 +12,9 @@ use lib.ListN.{length}
 use Rattle.words.specs.Base.{if_then_else_, within}
 use Rattle.words.proofs.Tests.{and-both, fails-left, fails-right}
 use Rattle.figures.specs.Limits.{head-words, most-book-words, least-k, greatest-k}
-use Rattle.figures.specs.Numbers.{done, k-outside, book-size}
-use Rattle.figures.specs.Answers.{depthOf, answered}
-use Rattle.figures.specs.declared.depths.Asked.{Asked}
+use Rattle.figures.specs.Numbers.{done, k-outside, book-size, not-in-form}
+use Rattle.figures.specs.Answers.{depthOf, answered, askedTold}
+use Rattle.figures.specs.declared.Answer.{Answer}
 use Rattle.figures.specs.declared.depths.Asked.the-variants.{Allowed, Outside}
 use Rattle.trees.specs.Trees.{Tree, words}
 use Rattle.trees.specs.Reading.{causeOf}
@@ -27,12 +28,18 @@ use Rattle.form.specs.Reading.{Form, fault, form, formOf, wordsOf, readOf}
 use Rattle.form.specs.Writing.{writeOf}
 use Rattle.form.proofs.FirstFault.{first-fault, fault-first, no-bytes as none-read}
 use Rattle.form.proofs.Trips.{order-text, form-order, order-write, form-write, fault-write}
+use Rattle.book.specs.Sound.{WhyForm, shorter, longer, formless, book}
+use Rattle.book.specs.Decoding.{placesOf, bookFormOf, formTold}
+use Rattle.book.specs.declared.BookForm.{BookForm}
+use Rattle.book.specs.declared.BookForm.the-variants.{Refused, InForm}
+use Rattle.book.specs.declared.Places.{Places}
+use Rattle.book.proofs.Sound.{why-is, why-only}
 use Rattle.book.specs.Taught.{emptyBook, bookOf}
 use Rattle.book.specs.Opening.{Outcome, leave, writeBook, openOf}
 use Rattle.book.proofs.Heads.{too-short, too-long, is-sized}
 use Rattle.book.proofs.Openings.{open-unsized, no-depth, opened as opening}
-use Rattle.promises.specs.Whys.{WhyDepth, depth-below, depth-above, depth-allowed, WhyOpened, slice-short, slice-long, k-below, k-above, opened, WhyPrinted, print-no-order, print-short, printed, WhyRead, no-bytes, at-fault, read-short, read}
-use Rattle.promises.proofs.Refusals.{write-refuses, write-writes}
+use Rattle.promises.specs.Whys.{WhyDepth, depth-below, depth-above, depth-allowed, WhyLooked, look-no-book, look-book, WhyOpened, slice-short, slice-long, k-below, k-above, opened, WhyPrinted, print-no-order, print-short, printed, WhyRead, no-bytes, at-fault, read-short, read}
+use Rattle.promises.proofs.Laws.Refusals.{write-refuses, write-writes}
 
 -- ---- asking for a k
 
@@ -55,21 +62,40 @@ module _ (k : ℕ) where
   unfolding depthOf if_then_else_
   between-allowed a z = let e : within least-k greatest-k k ≡ true = and-both (le-leb least-k k a) (le-leb k greatest-k z) in rw e refl
 
-  -- Asking for a k gives what a row of 01's table says.
-  pub depth-why : WhyDepth k (depthOf k)
+  -- Asking for a k tells what a row of 01's table says.
+  pub depth-why : WhyDepth k (askedTold (depthOf k))
   depth-why = go (decLt k least-k) (decLt greatest-k k)
     where
       -- By whether k is too low or too high.
-      go : Dec (k < least-k) → Dec (greatest-k < k) → WhyDepth k (depthOf k)
-      go (yes h) d = depth-below (below-outside h) h
-      go (no h) (yes g) = depth-above (above-outside g) g
-      go (no h) (no g) = depth-allowed (between-allowed (omega arith) (omega arith)) (omega arith) (omega arith)
+      go : Dec (k < least-k) → Dec (greatest-k < k) → WhyDepth k (askedTold (depthOf k))
+      go (yes h) d = depth-below (ap askedTold (below-outside h)) h
+      go (no h) (yes g) = depth-above (ap askedTold (above-outside g)) g
+      go (no h) (no g) = depth-allowed (ap askedTold (between-allowed (omega arith) (omega arith))) (omega arith) (omega arith)
 
-  -- It gives by no other row: what has one is what it gives.
-  pub depth-only : (a : Asked) → WhyDepth k a → depthOf k ≡ a
-  depth-only a (depth-below e h) = below-outside h ∙ sym e
-  depth-only a (depth-above e h) = above-outside h ∙ sym e
-  depth-only a (depth-allowed e l g) = between-allowed l g ∙ sym e
+  -- It tells by no other row: what has one is what it tells.
+  pub depth-only : (x : Answer × Option ℕ) → WhyDepth k x → askedTold (depthOf k) ≡ x
+  depth-only x (depth-below e h) = ap askedTold (below-outside h) ∙ sym e
+  depth-only x (depth-above e h) = ap askedTold (above-outside h) ∙ sym e
+  depth-only x (depth-allowed e l g) = ap askedTold (between-allowed l g) ∙ sym e
+
+-- ---- a book's form
+
+module _ (ws : List ℕ) where
+  -- A look at the form tells what a row of 01's table says.
+  pub looked-why : WhyLooked ws (formTold (bookFormOf ws))
+  looked-why = go (why-is ws)
+    where
+      -- By what the words are.
+      go : {f : BookForm} → WhyForm ws f → WhyLooked ws (formTold f)
+      go (shorter r l) = look-no-book book-size (ap formTold r) (shorter refl l)
+      go (longer r l) = look-no-book book-size (ap formTold r) (longer refl l)
+      go (formless r l m n) = look-no-book not-in-form (ap formTold r) (formless refl l m n)
+      go (book b r i) = look-book b (ap formTold r) i
+
+  -- It tells by no other row: what has one is what it tells.
+  pub looked-only : (x : Answer × Option Places) → WhyLooked ws x → formTold (bookFormOf ws) ≡ x
+  looked-only x (look-no-book n e w) = ap formTold (why-only ws (Refused n) w) ∙ sym e
+  looked-only x (look-book b e i) = ap formTold (why-only ws (InForm (placesOf b)) (book b refl i)) ∙ sym e
 
 -- ---- opening
 

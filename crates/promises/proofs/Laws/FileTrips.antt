@@ -21,8 +21,8 @@ use Rattle.files.proofs.Writing.{file-long}
 use Rattle.promises.specs.Agreement.{Agrees}
 use Rattle.promises.specs.Whys.{IsFile, WhyFiled, file-no-book, file-disagrees, file-short, filed}
 use Rattle.promises.specs.Whys.{BookSized, WhyRestored, restore-shorter, restore-longer, few-bytes, wrong-mark, wrong-version, no-used-words, restore-disagrees, restore-no-room, restores}
-use Rattle.promises.proofs.Refusals.{writing-number}
-use Rattle.promises.proofs.FileWhys.{agrees-filed, filed-why, file-read, restored-why, restored-only}
+use Rattle.promises.proofs.Laws.Refusals.{writing-number}
+use Rattle.promises.proofs.Laws.FileWhys.{agrees-filed, filed-why, file-read, restored-why, restored-only}
 
 -- ---- a book that agrees with itself
 

@@ -25,9 +25,9 @@ use Rattle.sums.proofs.Joins.{first-unjoined, second-unjoined, k-unjoined, firs
 use Rattle.promises.specs.Remaining.{join, afterBy, ordersIn, remainBy, remainingBy, remaining, timesOf, SameOrders, taughtAll, NoneRefused}
 use Rattle.promises.specs.Agreement.{Agrees}
 use Rattle.promises.specs.Whys.{TwoBooks, WhyJoined, join-no-first, join-no-second, k-differs, first-disagrees, second-disagrees, lives-pass, sum-no-room, joins}
-use Rattle.promises.proofs.Agreement.{sound-agreeing}
-use Rattle.promises.proofs.Remaining.{read-book, Begun, taught-alone}
-use Rattle.promises.proofs.Starting.{book-begun}
+use Rattle.promises.proofs.Laws.Agreement.{sound-agreeing}
+use Rattle.promises.proofs.Laws.Remaining.{read-book, Begun, taught-alone}
+use Rattle.promises.proofs.Laws.Starting.{book-begun}
 
 -- ---- exactly by its rows
 

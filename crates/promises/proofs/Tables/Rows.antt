@@ -27,8 +27,8 @@ use Rattle.book.proofs.Sound.{laid-book}
 use Rattle.sums.specs.Joining.{joinOf}
 use Rattle.promises.specs.NoMore.{FormOf, TaughtIn, IncludeTaught, setsOf}
 use Rattle.promises.specs.Heard.{A, B, C, single, opens, teaches, withdraws, slice, heard}
-use Rattle.promises.proofs.Computed.{computes}
-use Rattle.promises.proofs.Agreement.{sound-agreeing}
+use Rattle.promises.proofs.Tables.Computed.{computes}
+use Rattle.promises.proofs.Laws.Agreement.{sound-agreeing}
 use Rattle.promises.proofs.NoMore.{own-sets}
 
 -- An order taught so many times.

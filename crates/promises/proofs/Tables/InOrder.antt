@@ -1,5 +1,5 @@
 -- "Order of checks", computed: for each call, inputs to which two of its checks apply at once, for each two that stand next to each other, so that the row
--- says which comes first; and each cause of 1, 2 and 10 by itself. Those of reading a file are in proofs/FileRows.antt. Assumes nothing.
+-- says which comes first; and each cause of 1, 2 and 10 by itself. Those of reading a file are in proofs/Tables/FileRows.antt. Assumes nothing.
 use Prim.Native.Nat.{ℕ}
 use mathlib.Core.Path.{_≡_, refl}
 use mathlib.Core.List.{List, [], _∷_, _++_, map}
@@ -23,9 +23,9 @@ use Rattle.octets.specs.Octets.{bytesOf}
 use Rattle.files.specs.Files.{fileOf, writeFileOf}
 use Rattle.sheet.specs.Sheets.{faulty, handedIn}
 use Rattle.promises.specs.Heard.{A, single, pair, slice}
-use Rattle.promises.proofs.Computed.{computes, desk-computes}
-use Rattle.promises.proofs.Rows.{times, taughtA, withL, lacksMiddle}
-use Rattle.promises.proofs.Numerals.{chain, levelled, down-to-12}
+use Rattle.promises.proofs.Tables.Computed.{computes, desk-computes}
+use Rattle.promises.proofs.Tables.Rows.{times, taughtA, withL, lacksMiddle}
+use Rattle.promises.proofs.Tables.Numerals.{chain, levelled, down-to-12}
 
 -- ---- orders
 
@@ -206,7 +206,7 @@ text-checks = refl
 -- ---- the desk
 
 -- "in this order": "K 7" LF "0" LF has a k out of range and bytes that begin with no letter line, and "K 3" LF "0" LF only these; "K-3" LF is otherwise spelt.
--- That a longer input comes first, whatever its bytes are, is `too-long` in proofs/DeskRows.antt.
+-- That a longer input comes first, whatever its bytes are, is `too-long` in proofs/Tables/DeskRows.antt.
 pub desk-checks : (handedIn (75 ∷ 32 ∷ 55 ∷ 10 ∷ 48 ∷ 10 ∷ []) ≡ faulty (answered 3)) × (handedIn (75 ∷ 32 ∷ 51 ∷ 10 ∷ 48 ∷ 10 ∷ []) ≡ faulty (record { number = 10; line = 2 }))
     × (handedIn (75 ∷ 45 ∷ 51 ∷ 10 ∷ []) ≡ faulty (answered 3))
 unfolding desk-computes

@@ -23,7 +23,7 @@ use Rattle.verdicts.specs.Verdicts.{In, Passes, PassesBy}
 use Rattle.verdicts.proofs.Answers.{answered-passes, passes-answered}
 use Rattle.effects.specs.Conditions.{_exactly-when_}
 use Rattle.promises.specs.Remaining.{HowMany, none-left, one-more, not-this, HasPart, ExactlyThese, SomeHas, MadeOf}
-use Rattle.promises.proofs.Orders.{one-tree}
+use Rattle.promises.proofs.Laws.Orders.{one-tree}
 
 -- ---- by one book
 

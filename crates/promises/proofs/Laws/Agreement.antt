@@ -28,7 +28,7 @@ use Rattle.book.proofs.Agreeing.{TaughtOrders, form-orders, later-taught, first
 use Rattle.effects.specs.Conditions.{_exactly-when_}
 use Rattle.promises.specs.Remaining.{HasPart}
 use Rattle.promises.specs.Agreement.{CountsOf, no-entry, counts, counts-not, Agrees}
-use Rattle.promises.proofs.Orders.{top-part, part-top, low-part, part-low, middle-part, part-middle}
+use Rattle.promises.proofs.Laws.Orders.{top-part, part-top, low-part, part-low, middle-part, part-middle}
 
 -- ---- the number that counts come to
 

@@ -7,7 +7,6 @@ use native.Mathlib.Decide.{decLt}
 use native.Mathlib.Omega.{arith}
 use borrow.Author.Tests.{le-leb, lt-leb}
 use lib.ListN.{length, take, drop}
-use lib.Seq.{take-append-seam}
 use Rattle.words.specs.Base.{if_then_else_}
 use Rattle.figures.specs.Numbers.{done}
 use Rattle.figures.specs.Answers.{answered, wrote}
@@ -17,18 +16,19 @@ use Rattle.trees.specs.Reading.{missing, found, byFound, refused, byOrder, orde
 use Rattle.trees.specs.Causes.{Cause}
 use Rattle.trees.specs.Fits.{IsOrder}
 use Rattle.trees.specs.Parts.{isLow, middle, partOf}
-use Rattle.trees.specs.Answers.{checkOf, lineOf, subtreeOf, Writing, writing, refuse, write, cutIntoOf, PartWriting, partWriting, noPart, ofKind, partIntoOf}
+use Rattle.trees.specs.Answers.{checkOf, lineOf, Piece, piece, noPiece, subtreeOf, Writing, writing, refuse, write, cutIntoOf, PartWriting, partWriting, noPart, ofKind, partIntoOf}
 use Rattle.trees.specs.Standing.{placeOf}
 use Rattle.trees.specs.declared.Kind.the-variants.{Low, Middle}
 use Rattle.trees.specs.declared.Place.the-variants.{Lacking, At}
 use Rattle.trees.proofs.Orders.{size}
 use Rattle.trees.proofs.Causes.{cause-is, cause-only, Seen, stopped, passed, seen, refused-by}
 use Rattle.trees.proofs.Fitting.{passed-order, order-read}
+use Rattle.trees.proofs.Spots.{spot-part}
 use Rattle.trees.proofs.Lines.{LacksLine, HasLine, placed, place-none, place-past, place-at}
 use Rattle.promises.specs.Whys.{WhyNumbered, numbered, Lacks, line-0, past-last, WhySubtree, subtree-no-order, subtree-lacks, subtree}
 use Rattle.promises.specs.Whys.{WhyCut, cut-no-order, cut-lacks, cut-short, cut-written}
 use Rattle.promises.specs.Whys.{WhyPart, part-no-order, part-lacks, low-short, low-written, middle-short, middle-written}
-use Rattle.promises.proofs.Refusals.{write-refuses, write-writes}
+use Rattle.promises.proofs.Laws.Refusals.{write-refuses, write-writes}
 
 -- ---- the number of an order
 
@@ -90,7 +90,7 @@ module _ (os : List ℕ) (t : Tree) (o : IsOrder os t) where
             record {
               of = q .spot .tree;
               is = ap (λ (u : Tree). lineOf line (subtrees u)) (sym e) ∙ q .spot .is;
-              part = ap (take (length (words (q .spot .tree)))) (q .spot .here) ∙ take-append-seam (words (q .spot .tree)) (q .spot .after);
+              part = spot-part os ((line - 1) * 2) _ (q .spot);
             }
 
 -- What a line of any words is: a refused order, a line that the order lacks, or one that it has.
@@ -118,18 +118,18 @@ asked os line = go (seen os)
 
 module _ (os : List ℕ) (line : ℕ) where
   -- Of words with a cause of 1 or 2 an empty part is handed out.
-  hands-none : (n : ℕ) → Cause os n → (n ≡ done → ⊥) → subtreeOf os line ≡ []
+  hands-none : (n : ℕ) → Cause os n → (n ≡ done → ⊥) → subtreeOf os line ≡ noPiece
   unfolding subtreeOf byOrder
   hands-none n c x = rw (refused-order os n c x)
 
   module _ (t : Tree) (o : IsOrder os t) where
     -- So it is for a line that the order lacks.
-    hands-empty : Lacks t line → subtreeOf os line ≡ []
+    hands-empty : Lacks t line → subtreeOf os line ≡ noPiece
     unfolding subtreeOf byOrder byFound
     hands-empty l = rw (order-read os t o, no-subtree os t o line l)
 
-    -- For any other line its subtree's words are.
-    hands-part : (s : Tree) → lineOf line (subtrees t) ≡ found s → subtreeOf os line ≡ words s
+    -- For any other line its subtree's words are, from the line's own on.
+    hands-part : (s : Tree) → lineOf line (subtrees t) ≡ found s → subtreeOf os line ≡ piece ((line - 1) * 2) (words s)
     unfolding subtreeOf byOrder byFound
     hands-part s e = rw (order-read os t o, e)
 
@@ -144,7 +144,7 @@ module _ (os : List ℕ) (line : ℕ) where
       go (there t o p) = subtree t (p .of) (hands-part t o (p .of) (p .is)) o (p .is) (p .part)
 
   -- It hands out by no other row: what has one is what it hands out.
-  pub subtree-only : (w : List ℕ) → WhySubtree os line w → subtreeOf os line ≡ w
+  pub subtree-only : (w : Piece) → WhySubtree os line w → subtreeOf os line ≡ w
   subtree-only w (subtree-no-order n e c x) = hands-none n c x ∙ sym e
   subtree-only w (subtree-lacks t e o l) = hands-empty t o l ∙ sym e
   subtree-only w (subtree t s e o i p) = hands-part t o s i ∙ sym e

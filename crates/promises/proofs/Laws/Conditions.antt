@@ -33,9 +33,9 @@ use Rattle.sums.proofs.Joined.{grown as joined-from}
 use Rattle.sums.proofs.Joins.{Both, join-passes, join-crowded, join-does}
 use Rattle.promises.specs.Remaining.{Call, after, ordersIn, remaining, timesOf, booked}
 use Rattle.promises.specs.Agreement.{Agrees}
-use Rattle.promises.proofs.Agreement.{sound-agreeing}
-use Rattle.promises.proofs.Orders.{booked-first, booked-k, booked-sorted, booked-live, count-times, more-within}
-use Rattle.promises.proofs.Remaining.{Kept, kept-form, kept-long, kept-met, kept-book, both-booked, both-live, Begun, after-kept, after-agrees}
+use Rattle.promises.proofs.Laws.Agreement.{sound-agreeing}
+use Rattle.promises.proofs.Laws.Orders.{booked-first, booked-k, booked-sorted, booked-live, count-times, more-within}
+use Rattle.promises.proofs.Laws.Remaining.{Kept, kept-form, kept-long, kept-met, kept-book, both-booked, both-live, Begun, after-kept, after-agrees}
 
 -- ---- in the book of orders
 

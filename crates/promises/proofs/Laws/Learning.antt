@@ -26,7 +26,7 @@ use Rattle.effects.specs.Conditions.{_exactly-when_}
 use Rattle.promises.specs.Remaining.{HasPart, SomeHas, MadeOf}
 use Rattle.promises.specs.Agreement.{CountsOf, no-entry, counts, counts-not, Agrees}
 use Rattle.promises.specs.NoMore.{FormOf, TaughtIn, treesOf, setsOf, Remains}
-use Rattle.promises.proofs.Passing.{in-counts, counted-in}
+use Rattle.promises.proofs.Laws.Passing.{in-counts, counted-in}
 
 -- Passing is being let in by the trees of R, L and P.
 pub passes-let-in : (b : Book) (t : Tree) → Passes b t exactly-when LetIn (b .k) (In (b .R)) (In (b .L)) (In (b .P)) t

@@ -23,7 +23,7 @@ use Rattle.sheet.specs.declared.Letter.the-variants.{Teach, Withdraw, Judge}
 use Rattle.ask.specs.Asking.{askOf, callOf}
 use Rattle.promises.specs.Starts.{opening}
 use Rattle.promises.specs.AtTheDesk.{madeBy, DeskNumber, is-done, is-too-large, is-no-form, is-no-room, is-not-taught, is-top, is-low, is-middle}
-use Rattle.promises.proofs.Handing.{book-then}
+use Rattle.promises.proofs.Laws.Handing.{book-then}
 use Rattle.promises.proofs.Demand3.{same-length}
 use Rattle.promises.proofs.AtTheDesk.{blank, blank-long, book-after, opened, starts, desk-book, desk-keeps, desk-numbers}
 

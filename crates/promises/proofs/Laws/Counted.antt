@@ -20,7 +20,7 @@ use Rattle.book.proofs.Sections.{InOrder}
 use Rattle.amend.proofs.Sums.{added, added-turns, none-added}
 use Rattle.effects.proofs.Adds.{taught-added}
 use Rattle.promises.specs.Remaining.{ordersIn, booked}
-use Rattle.promises.proofs.Orders.{Orders, one-order-more, booked-first, booked-k, booked-sorted}
+use Rattle.promises.proofs.Laws.Orders.{Orders, one-order-more, booked-first, booked-k, booked-sorted}
 
 -- ---- how many
 

@@ -36,12 +36,12 @@ use Rattle.sheet.specs.Sheets.{letter-K, letterByte}
 use Rattle.sheet.specs.declared.Letter.the-variants.{Teach, Withdraw, Judge}
 use Rattle.promises.specs.Heard.{A, single, pair, slice}
 use Rattle.promises.specs.Whys.{slice-long, check-no-book, join-no-first, join-no-second, file-no-book, restore-longer}
-use Rattle.promises.proofs.Computed.{computes, desk-computes}
-use Rattle.promises.proofs.Rows.{times, taughtA, lacksMiddle}
-use Rattle.promises.proofs.Whys.{opened-only}
-use Rattle.promises.proofs.Checks.{checked-only}
-use Rattle.promises.proofs.Joining.{joined-only}
-use Rattle.promises.proofs.FileWhys.{filed-only, restored-only}
+use Rattle.promises.proofs.Tables.Computed.{computes, desk-computes}
+use Rattle.promises.proofs.Tables.Rows.{times, taughtA, lacksMiddle}
+use Rattle.promises.proofs.Laws.Whys.{opened-only}
+use Rattle.promises.proofs.Laws.Checks.{checked-only}
+use Rattle.promises.proofs.Laws.Joining.{joined-only}
+use Rattle.promises.proofs.Laws.FileWhys.{filed-only, restored-only}
 use Rattle.promises.proofs.Demand3.{opening-done}
 
 -- ---- the names

@@ -25,12 +25,12 @@ use Rattle.promises.specs.Starts.{Start, opening, reading, startedBy, ta
 use Rattle.promises.specs.Agreement.{Agrees}
 use Rattle.promises.specs.Whys.{IsFile, WhyOpened, slice-short, slice-long, k-below, k-above, opened}
 use Rattle.promises.specs.Whys.{BookSized, WhyRestored, restore-shorter, restore-longer, few-bytes, wrong-mark, wrong-version, no-used-words, restore-disagrees, restore-no-room, restores}
-use Rattle.promises.proofs.Orders.{Orders, booked-live}
-use Rattle.promises.proofs.Counted.{counted-orders, booked-counted}
-use Rattle.promises.proofs.Agreement.{sound-agreeing}
-use Rattle.promises.proofs.Whys.{opened-why}
-use Rattle.promises.proofs.FileWhys.{file-rest, restored-why}
-use Rattle.promises.proofs.Remaining.{Begun, opened-begun}
+use Rattle.promises.proofs.Laws.Orders.{Orders, booked-live}
+use Rattle.promises.proofs.Laws.Counted.{counted-orders, booked-counted}
+use Rattle.promises.proofs.Laws.Agreement.{sound-agreeing}
+use Rattle.promises.proofs.Laws.Whys.{opened-why}
+use Rattle.promises.proofs.Laws.FileWhys.{file-rest, restored-why}
+use Rattle.promises.proofs.Laws.Remaining.{Begun, opened-begun}
 
 -- ---- opening
 

@@ -9,7 +9,7 @@ use Rattle.book.specs.Opening.{outcome, leave}
 use Rattle.octets.specs.Octets.{bytesOf, wordsOf}
 use Rattle.files.specs.Files.{fileOf, writeFileOf, isMarked, storedIn, readBookOf, readRestOf, readFileOf}
 use Rattle.promises.specs.Heard.{slice}
-use Rattle.promises.proofs.Computed.{computes}
+use Rattle.promises.proofs.Tables.Computed.{computes}
 
 -- The book of the single node 1000, k = 2: the head, and the node in T, R and L.
 abbrev book : List ℕ

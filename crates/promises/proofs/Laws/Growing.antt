@@ -26,10 +26,10 @@ use Rattle.effects.proofs.Whys.{teach-why}
 use Rattle.sums.specs.Joining.{joinOf}
 use Rattle.promises.specs.Books.{OneMore, OneTeachingMore}
 use Rattle.promises.specs.Whys.{WhyJoined, join-no-first, join-no-second, k-differs, first-disagrees, second-disagrees, lives-pass, sum-no-room, joins}
-use Rattle.promises.proofs.Passing.{judged-exactly, in-counts, counted-in}
-use Rattle.promises.proofs.Learning.{passes-let-in}
+use Rattle.promises.proofs.Laws.Passing.{judged-exactly, in-counts, counted-in}
+use Rattle.promises.proofs.Laws.Learning.{passes-let-in}
 use Rattle.promises.proofs.Books.{teaching-raises}
-use Rattle.promises.proofs.Joining.{joined-why, leaves-sum}
+use Rattle.promises.proofs.Laws.Joining.{joined-why, leaves-sum}
 
 -- ---- counts that do not fall
 

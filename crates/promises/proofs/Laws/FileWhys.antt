@@ -33,8 +33,8 @@ use Rattle.files.proofs.Restoring.{restore-none, restore-some, restored-disagre
 use Rattle.promises.specs.Agreement.{Agrees}
 use Rattle.promises.specs.Whys.{UsedWords, IsFile, BookSized, WhyFiled, file-no-book, file-disagrees, file-short, filed}
 use Rattle.promises.specs.Whys.{WhyRestored, restore-shorter, restore-longer, few-bytes, wrong-mark, wrong-version, no-used-words, restore-disagrees, restore-no-room, restores}
-use Rattle.promises.proofs.Agreement.{sound-agreeing}
-use Rattle.promises.proofs.Refusals.{write-refuses, write-writes}
+use Rattle.promises.proofs.Laws.Agreement.{sound-agreeing}
+use Rattle.promises.proofs.Laws.Refusals.{write-refuses, write-writes}
 
 -- ---- writing a file
 

@@ -21,8 +21,8 @@ use Rattle.effects.specs.Conditions.{_exactly-when_}
 use Rattle.promises.specs.Remaining.{Call, after, remaining, booked}
 use Rattle.promises.specs.Agreement.{Agrees}
 use Rattle.promises.specs.Whys.{WhyChecked, check-no-book, disagrees, agrees}
-use Rattle.promises.proofs.Agreement.{sound-agreeing}
-use Rattle.promises.proofs.Remaining.{Begun, after-book, after-agrees}
+use Rattle.promises.proofs.Laws.Agreement.{sound-agreeing}
+use Rattle.promises.proofs.Laws.Remaining.{Begun, after-book, after-agrees}
 
 module _ (ws : List ℕ) where
   -- What is answered by a book that passes the test of agreeing or does not.

@@ -45,9 +45,9 @@ use Rattle.sums.specs.Joining.{joined, joinOf}
 use Rattle.sums.proofs.Joined.{joined-adds, joined-live}
 use Rattle.sums.proofs.Joins.{Both, Done, was-joined, done-joins, join-leaves, join-agrees}
 use Rattle.promises.specs.Remaining.{Call, teach, withdraw, join, afterBy, after, ordersIn, without, remainBy, remainingBy, remaining, timesOf, SameOrders, taughtAll, NoneRefused, ExactlyThese, booked}
-use Rattle.promises.proofs.Orders.{Orders, later, one-order-more, without-in, more-within, same-fit, same-book, count-times}
-use Rattle.promises.proofs.Orders.{booked-first, booked-k, booked-sorted, booked-live, booked-uses, counts-taught, counts-tops, counts-lows, counts-middles, booked-form, booked-without}
-use Rattle.promises.proofs.Counted.{onto-orders, booked-onto}
+use Rattle.promises.proofs.Laws.Orders.{Orders, later, one-order-more, without-in, more-within, same-fit, same-book, count-times}
+use Rattle.promises.proofs.Laws.Orders.{booked-first, booked-k, booked-sorted, booked-live, booked-uses, counts-taught, counts-tops, counts-lows, counts-middles, booked-form, booked-without}
+use Rattle.promises.proofs.Laws.Counted.{onto-orders, booked-onto}
 
 -- The words of a book are read as that book.
 pub read-book : (ws : List ℕ) (b : Book) → IsBook ws b → bookIn ws ≡ b

@@ -15,12 +15,12 @@ use Rattle.promises.specs.Remaining.{Call, after, remaining, timesOf, Sa
 use Rattle.promises.specs.Starts.{reading, taughtFirst, startK}
 use Rattle.promises.specs.Agreement.{Agrees}
 use Rattle.promises.specs.Whys.{IsFile}
-use Rattle.promises.proofs.Orders.{booked-k, count-times}
-use Rattle.promises.proofs.Agreement.{sound-agreeing}
-use Rattle.promises.proofs.Remaining.{Begun, after-kept, after-long, after-book, after-agrees}
-use Rattle.promises.proofs.FileWhys.{agrees-filed}
-use Rattle.promises.proofs.FileTrips.{own-file, file-back}
-use Rattle.promises.proofs.Starting.{first-orders, first-k}
+use Rattle.promises.proofs.Laws.Orders.{booked-k, count-times}
+use Rattle.promises.proofs.Laws.Agreement.{sound-agreeing}
+use Rattle.promises.proofs.Laws.Remaining.{Begun, after-kept, after-long, after-book, after-agrees}
+use Rattle.promises.proofs.Laws.FileWhys.{agrees-filed}
+use Rattle.promises.proofs.Laws.FileTrips.{own-file, file-back}
+use Rattle.promises.proofs.Laws.Starting.{first-orders, first-k}
 use Rattle.promises.proofs.Wordings.{first-as-counted}
 
 -- Among the orders of a book's file that count as taught first each stands as often as the book's T counts it.

@@ -31,10 +31,10 @@ use Rattle.promises.specs.Forms.{LineOfText, ComesBack, PartKnown, NoLin
 use Rattle.promises.specs.Whys.{WhyNumbered, numbered, WhyCut, cut-no-order, cut-lacks, cut-short, cut-written}
 use Rattle.promises.specs.Whys.{WhyPart, part-no-order, part-lacks, low-short, low-written, middle-short, middle-written}
 use Rattle.promises.specs.Whys.{WhyRead, no-bytes, at-fault, read-short, read}
-use Rattle.promises.proofs.FormLines.{line-of-subtree}
-use Rattle.promises.proofs.Whys.{read-why}
-use Rattle.promises.proofs.Refusals.{writing-number}
-use Rattle.promises.proofs.PartWhys.{numbered-why, cut-why, part-why}
+use Rattle.promises.proofs.Laws.FormLines.{line-of-subtree}
+use Rattle.promises.proofs.Laws.Whys.{read-why}
+use Rattle.promises.proofs.Laws.Refusals.{writing-number}
+use Rattle.promises.proofs.Laws.PartWhys.{numbered-why, cut-why, part-why}
 
 -- ---- lines of equal answers
 

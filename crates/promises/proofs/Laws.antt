@@ -1,0 +1,24 @@
+-- The laws that the demands cite. Assumes nothing.
+pub mod Orders
+pub mod Counted
+pub mod Remaining
+pub mod Agreement
+pub mod Passing
+pub mod Learning
+pub mod Refusals
+pub mod Whys
+pub mod PartWhys
+pub mod Conditions
+pub mod Checks
+pub mod Joining
+pub mod FileWhys
+pub mod Starting
+pub mod FileTrips
+pub mod GoingOn
+pub mod LineNumbers
+pub mod FormLines
+pub mod Handing
+pub mod FirstLeaf
+pub mod Growing
+pub mod Nearness
+pub mod DeskFigures
