@@ -2,7 +2,7 @@
 -- known of any outcome. Assumes nothing.
 use Prim.Native.Nat.{ℕ, suc, _-_, _≤_}
 use mathlib.Core.Path.{_≡_, refl, ap, sym, _∙_, ap₂}
-use mathlib.Core.Bool.{true, false}
+use mathlib.Core.Bool.{true, false, not}
 use mathlib.Core.List.{List, [], _∷_}
 use native.Mathlib.Omega.{arith}
 use borrow.Author.Tests.{le-leb}
@@ -128,4 +128,4 @@ no-line o = o .answer .line ≡ 0
 -- Opening: line 0.
 pub open-line : (ws : List ℕ) (k : ℕ) → openOf ws k .answer .line ≡ 0
 unfolding openOf
-open-line ws k = either-way no-line (sized ws) _ _ (either-way no-line (within least-k greatest-k k) _ _ refl refl) refl
+open-line ws k = either-way no-line (not (sized ws)) _ _ refl (either-way no-line (not (within least-k greatest-k k)) _ _ refl refl)

@@ -1,7 +1,7 @@
 -- The book that words hold, whatever they are; which words are a book in form, and where its sections start. Assumes nothing: these are
 -- definitions.
 use Prim.Native.Nat.{ℕ, _+_}
-use mathlib.Core.Bool.{Bool}
+use mathlib.Core.Bool.{Bool, not}
 use mathlib.Core.List.{List}
 use mathlib.Core.Option.{Option, none, some}
 use lib.ListN.{length, getD, drop}
@@ -68,7 +68,9 @@ sized ws = within head-words most-book-words (length ws)
 
 -- 4 and 5, and then what a call does with the book.
 unfoldable pub onBook {ℓ} : {A : Type ℓ} → (ℕ → A) → List ℕ → (Book → A) → A
-onBook refuse ws f = if sized ws then byBook (decode ws) (refuse not-in-form) f else refuse book-size
+onBook refuse ws f =
+    if not (sized ws) then refuse book-size else
+    byBook (decode ws) (refuse not-in-form) f
 
 -- k, where the sections R, L and P of a book start, and where its used words end.
 unfoldable pub placesOf : Book → Places

@@ -1,5 +1,6 @@
 -- What `open` answers, for all inputs. Assumes nothing: these are definitions.
 use Prim.Native.Nat.{ℕ}
+use mathlib.Core.Bool.{not}
 use mathlib.Core.List.{List, []}
 use lib.ListN.{length}
 use Rattle.words.specs.Base.{if_then_else_, within}
@@ -31,5 +32,6 @@ writeBook ws b = outcome (answered done) (lay (length ws) b)
 -- "Open: 4, 3." An opened book is the book of no orders.
 unfoldable pub openOf : List ℕ → ℕ → Outcome
 openOf ws k =
-    if sized ws then (if within least-k greatest-k k then writeBook ws (bookOf k []) else leave ws k-outside)
-    else leave ws book-size
+    if not (sized ws) then leave ws book-size else
+    if not (within least-k greatest-k k) then leave ws k-outside else
+    writeBook ws (bookOf k [])

@@ -1,7 +1,7 @@
 -- What `teach` and `withdraw` answer, and what the book is then, for all inputs (01, "The book" and "Numbers the desk hears"). Assumes
 -- nothing: these are definitions.
 use Prim.Native.Nat.{ℕ}
-use mathlib.Core.Bool.{Bool, true}
+use mathlib.Core.Bool.{Bool, true, not}
 use mathlib.Core.List.{List, [], _∷_}
 use lib.Dec.{leb}
 use lib.ListN.{length}
@@ -28,7 +28,9 @@ onOrder ws os f = onBook (leave ws) ws (λ b. byOrder (orderOf os) (leave ws) (f
 unfoldable pub teachTree : List ℕ → Book → Tree → Outcome
 teachTree ws b t =
     let c : Book = taught 1 t b in
-    if withinCounts c then (if leb (used c) (length ws) then writeBook ws c else leave ws no-room) else leave ws too-many
+    if not (withinCounts c) then leave ws too-many else
+    if not (leb (used c) (length ws)) then leave ws no-room else
+    writeBook ws c
 
 -- "Teach: 4, 5, 1, 2, 7, 6."
 unfoldable pub teachOf : List ℕ → List ℕ → Outcome
@@ -64,8 +66,9 @@ hasParts t b =
 -- What withdrawing does, once the book and the order are in form: 8 where the "order has no entry in T", 9 where a part is missing.
 unfoldable pub withdrawTree : List ℕ → Book → Tree → Outcome
 withdrawTree ws b t =
-    if has (words t) (b .T) then (if hasParts t b then writeBook ws (withdrawn t b) else leave ws not-agreeing)
-    else leave ws not-taught
+    if not (has (words t) (b .T)) then leave ws not-taught else
+    if not (hasParts t b) then leave ws not-agreeing else
+    writeBook ws (withdrawn t b)
 
 -- "Withdraw: 4, 5, 1, 2, 8, 9."
 unfoldable pub withdrawOf : List ℕ → List ℕ → Outcome

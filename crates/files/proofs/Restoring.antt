@@ -1,7 +1,7 @@
 -- What reading stored words into a slice answers, by what the words are and by what the slice has room for. Assumes nothing.
 use Prim.Native.Nat.{ℕ, _*_, _-_, _≤_, _<_}
 use mathlib.Core.Path.{_≡_, refl, sym, ap, ap₂, _∙_}
-use mathlib.Core.Bool.{Bool, true, false}
+use mathlib.Core.Bool.{Bool, true, false, not}
 use mathlib.Core.List.{List, _++_}
 use mathlib.Core.Option.{Option, none, some}
 use native.Mathlib.Omega.{arith}
@@ -101,8 +101,8 @@ module _ (ws : List ℕ) where
       restore-numbered = go (eqb (p .used) (length ws)) (agreeing (bookIn ws)) refl refl
         where
           -- By whether all the words are used, and whether their book agrees with itself.
-          go : (t a : Bool) → eqb (p .used) (length ws) ≡ t → agreeing (bookIn ws) ≡ a → ((if t then (if a then done else not-agreeing) else no-stored-book) ≡ done → ⊥)
-              → readRestOf (bytesOf ws) v ≡ leave v (if t then (if a then done else not-agreeing) else no-stored-book)
+          go : (t a : Bool) → eqb (p .used) (length ws) ≡ t → agreeing (bookIn ws) ≡ a → ((if not t then no-stored-book else if a then done else not-agreeing) ≡ done → ⊥)
+              → readRestOf (bytesOf ws) v ≡ leave v (if not t then no-stored-book else if a then done else not-agreeing)
           go true true q r n = absurd (n refl)
           go true false q r n = restore-some (bytesOf ws) v (bookIn ws) (form-stored p e (eqb-true (p .used) (length ws) q)) ∙ restored-disagreeing v (bookIn ws) r
           go false a q r n = restore-unused p e (λ u. no-test (sym q ∙ eq-eqb (p .used) (length ws) u))
@@ -114,7 +114,7 @@ module _ (ws : List ℕ) where
         done-means = go (eqb (p .used) (length ws)) (agreeing (bookIn ws)) refl refl d
           where
             -- By whether all the words are used, and whether their book agrees with itself.
-            go : (t a : Bool) → eqb (p .used) (length ws) ≡ t → agreeing (bookIn ws) ≡ a → (if t then (if a then done else not-agreeing) else no-stored-book) ≡ done
+            go : (t a : Bool) → eqb (p .used) (length ws) ≡ t → agreeing (bookIn ws) ≡ a → (if not t then no-stored-book else if a then done else not-agreeing) ≡ done
                 → (p .used ≡ length ws) × (agreeing (bookIn ws) ≡ true)
             go true true q r c = (eqb-true (p .used) (length ws) q, r)
             go true false q r c = absurd (omega arith)
@@ -143,12 +143,11 @@ module _ (ws : List ℕ) where
 book-line : (ws : List ℕ) (o : Option Book) (a : Outcome) → no-line a → no-line (byBook o a (readBookOf ws))
 unfolding byBook readBookOf
 book-line ws none a z = z
-book-line ws (some b) a z = either-way no-line (agreeing b) _ _ (either-way no-line _ _ _ refl refl) refl
+book-line ws (some b) a z = either-way no-line (not (agreeing b)) _ _ refl (either-way no-line _ _ _ refl refl)
 
 -- Reading a file: line 0.
 pub restored-line : (file ws : List ℕ) → readFileOf file ws .answer .line ≡ 0
 unfolding readFileOf readRestOf
 restored-line file ws =
-    either-way no-line (sized ws) _ _
-    (either-way no-line (isMarked file) _ _ (either-way no-line _ _ _ (book-line ws (storedIn (drop front-bytes file)) _ refl) refl) refl)
-    refl
+    either-way no-line (not (sized ws)) _ _ refl
+    (either-way no-line (not (isMarked file)) _ _ refl (either-way no-line _ _ _ refl (book-line ws (storedIn (drop front-bytes file)) _ refl)))

@@ -1,7 +1,7 @@
 -- What `write` writes: the bytes of words, the front of a file, and what writing the file of checked words answers. Assumes nothing.
 use Prim.Native.Nat.{ℕ, _+_, _-_, _*_, _/_, _%_, _<_, _≤_}
 use mathlib.Core.Path.{_≡_, refl, sym, ap, _∙_}
-use mathlib.Core.Bool.{Bool, true, false}
+use mathlib.Core.Bool.{Bool, true, false, not}
 use mathlib.Core.List.{List, [], _∷_, _++_}
 use native.Mathlib.Omega.{arith}
 use lib.ListN.{length, getD, set, take, drop, replicate, drop-of-length-le}
@@ -82,14 +82,14 @@ module _ (ws : List ℕ) where
     -- Where the words are no book in form nothing is written.
     pub file-unheld : (n : ℕ) → bookFormOf ws ≡ Refused n → writeFileOf ws out ≡ refuse n out
     unfolding writeFileOf
-    file-unheld n e = refused-book ws n e (λ m. refuse m out) (λ b. if agreeing b then write (fileOf b) out else refuse not-agreeing out)
+    file-unheld n e = refused-book ws n e (λ m. refuse m out) (λ b. if not (agreeing b) then refuse not-agreeing out else write (fileOf b) out)
 
     -- A book's file is written by whether it passes the test of agreeing.
-    pub file-by : (b : Book) → IsBook ws b → (x : Bool) → agreeing b ≡ x → writeFileOf ws out ≡ (if x then write (fileOf b) out else refuse not-agreeing out)
+    pub file-by : (b : Book) → IsBook ws b → (x : Bool) → agreeing b ≡ x → writeFileOf ws out ≡ (if not x then refuse not-agreeing out else write (fileOf b) out)
     unfolding writeFileOf
     file-by b i x e =
-        on-any ws b i (λ m. refuse m out) (λ c. if agreeing c then write (fileOf c) out else refuse not-agreeing out)
-        ∙ ap (λ (y : Bool). if y then write (fileOf b) out else refuse not-agreeing out) e
+        on-any ws b i (λ m. refuse m out) (λ c. if not (agreeing c) then refuse not-agreeing out else write (fileOf c) out)
+        ∙ ap (λ (y : Bool). if not y then refuse not-agreeing out else write (fileOf b) out) e
 
     -- The file of a book that agrees with itself is written.
     pub agreed-file : (g : Agreed ws) → writeFileOf ws out ≡ write (fileOf (g .held)) out
@@ -160,7 +160,7 @@ module _ (ws out : List ℕ) where
   unfolding writeFileOf
   filed-line =
       let P : Writing → Type 0 = λ w. w .answer .line ≡ 0 in
-      by-book P ws (λ n. refuse n out) _ (λ n. refl) (λ b i. either-way P (agreeing b) _ _ (write-line (fileOf b) out) refl)
+      by-book P ws (λ n. refuse n out) _ (λ n. refl) (λ b i. either-way P (not (agreeing b)) _ _ refl (write-line (fileOf b) out))
 
   -- Writing a file: at most the bytes of its front and two for each word of the longest slice.
   pub filed-count : writeFileOf ws out .answer .count ≤ front-bytes + 2 * most-book-words
@@ -168,4 +168,4 @@ module _ (ws out : List ℕ) where
   filed-count =
       let P : Writing → Type 0 = λ w. w .answer .count ≤ front-bytes + 2 * most-book-words in
       by-book P ws (λ n. refuse n out) _ (λ n. omega arith)
-      (λ b i. either-way P (agreeing b) _ _ (omega (arith, write-count (fileOf b) out, file-long b, used-fits ws b (i .laid), i .short)) (omega arith))
+      (λ b i. either-way P (not (agreeing b)) _ _ (omega arith) (omega (arith, write-count (fileOf b) out, file-long b, used-fits ws b (i .laid), i .short)))

@@ -1,7 +1,7 @@
 -- The stored book, version 1 (01, "Stored book, version 1"): the bytes of a book, and what writing and reading them answers, for all inputs.
 -- Assumes nothing: these are definitions.
 use Prim.Native.Nat.{ℕ}
-use mathlib.Core.Bool.{Bool}
+use mathlib.Core.Bool.{Bool, not}
 use mathlib.Core.List.{List, [], _∷_, _++_}
 use mathlib.Core.Option.{Option, none, some}
 use lib.Dec.{leb, eqb}
@@ -43,7 +43,9 @@ fileOf b = mark ++ bytesOf (version ∷ encode b)
 -- "Write file: 4, 5, 9, 11." "Only a book that agrees with itself is written."
 unfoldable pub writeFileOf : List ℕ → List ℕ → Writing
 writeFileOf ws out =
-    onBook (λ n. refuse n out) ws (λ b. if agreeing b then write (fileOf b) out else refuse not-agreeing out)
+    onBook (λ n. refuse n out) ws (λ b.
+    if not (agreeing b) then refuse not-agreeing out else
+    write (fileOf b) out)
 
 -- ---- read
 
@@ -61,7 +63,9 @@ storedIn rest =
 -- 9 and 6, by the book; and then the whole slice is the book.
 unfoldable pub readBookOf : List ℕ → Book → Outcome
 readBookOf ws b =
-    if agreeing b then (if leb (used b) (length ws) then writeBook ws b else leave ws no-room) else leave ws not-agreeing
+    if not (agreeing b) then leave ws not-agreeing else
+    if not (leb (used b) (length ws)) then leave ws no-room else
+    writeBook ws b
 
 -- 14, 9 and 6, by the bytes past the version.
 unfoldable pub readRestOf : List ℕ → List ℕ → Outcome
@@ -70,14 +74,15 @@ readRestOf rest ws = byBook (storedIn rest) (leave ws no-stored-book) (readBookO
 -- "Read file: 4, 12, 13, 14, 9, 6."
 unfoldable pub readFileOf : List ℕ → List ℕ → Outcome
 readFileOf file ws =
-    if sized ws
-    then (if isMarked file
-    then (if eqb (wordAt file mark-bytes) version then readRestOf (drop front-bytes file) ws else leave ws other-version)
-    else leave ws no-mark)
-    else leave ws book-size
+    if not (sized ws) then leave ws book-size else
+    if not (isMarked file) then leave ws no-mark else
+    if not (eqb (wordAt file mark-bytes) version) then leave ws other-version else
+    readRestOf (drop front-bytes file) ws
 
 -- ---- within reading
 
 -- What words that are a book in form, with so many used, are answered by: 14 if these are not all the words, and else 9 or 0.
 unfoldable pub storedNumber : List ℕ → ℕ → ℕ
-storedNumber ws n = if eqb n (length ws) then (if agreeing (bookIn ws) then done else not-agreeing) else no-stored-book
+storedNumber ws n =
+    if not (eqb n (length ws)) then no-stored-book else
+    if agreeing (bookIn ws) then done else not-agreeing

@@ -1,7 +1,7 @@
 -- `store::stored_number` meets its contract, by whether all the words are used. Assumes nothing.
 use Prim.Native.Nat.{ℕ}
 use mathlib.Core.Path.{_≡_, sym, ap, _∙_}
-use mathlib.Core.Bool.{Bool}
+use mathlib.Core.Bool.{Bool, not}
 use mathlib.Core.List.{List}
 use lib.ListN.{length}
 use borrow.Author.Tests.{eq-eqb, ne-eqb}
@@ -30,7 +30,7 @@ just-used : (ws : List ℕ) (p : Places) → Holds ws p → p .used ≡ length w
 unfolding storedNumber if_then_else_
 just-used ws p h e =
     ap (λ (a : Answer). a .number) (check-held ws (bookIn ws) (held-book ws p h))
-    ∙ ap (λ (t : Bool). if t then (if agreeing (bookIn ws) then done else not-agreeing) else no-stored-book) (sym (eq-eqb (p .used) (length ws) e))
+    ∙ ap (λ (t : Bool). if not t then no-stored-book else if agreeing (bookIn ws) then done else not-agreeing) (sym (eq-eqb (p .used) (length ws) e))
 
 returns : tie.Need-returns
 returns c = more-words _ _ (c .if1 .taken)
