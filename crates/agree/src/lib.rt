@@ -8,7 +8,7 @@ ghost use Rattle.book.specs.Book.{sectionOf};
 ghost use Rattle.book.specs.Decoding.{bookIn};
 ghost use Rattle.book.specs.Holding.{Holds};
 ghost use Rattle.book.specs.Taught.{agreeing};
-ghost use Rattle.book.specs.Checking.{checkOf};
+ghost use Rattle.book.specs.Checking.{agreeOf};
 ghost use Rattle.agree.specs.Agreeing.{small-book, agreeingIn, Roomy};
 use book::BookForm;
 use book::Places;
@@ -120,7 +120,7 @@ fn agrees(book: &[u16], places: Places) -> bool
 // Whether a book in form agrees with itself: 9, or 0.
 pub fn check_sections(book: &[u16], places: Places) -> Answer
     requires { ⌜ Holds (now book) places ⌝ }
-    ensures { λ r. ⌜ r ≡ checkOf (now (book .entry)) ⌝ }
+    ensures { λ r. ⌜ r ≡ agreeOf (now (book .entry)) ⌝ }
 {
     if !agrees(book, places) {
         return answered(numbers::NOT_AGREEING);
@@ -142,7 +142,7 @@ pub fn both_agree(book: &[u16], places: Places, other: &[u16], others: Places) -
 
 // Whether the words are a book that agrees with itself: 4, 5, 9, or 0.
 pub fn check(book: &[u16]) -> Answer
-    ensures { λ r. ⌜ r ≡ checkOf (now (book .entry)) ⌝ }
+    ensures { λ r. ⌜ r ≡ agreeOf (now (book .entry)) ⌝ }
 {
     match look::in_form(book) {
         BookForm::Refused(number) => answered(number),

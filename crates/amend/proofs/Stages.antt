@@ -12,7 +12,7 @@ use Rattle.book.specs.declared.Section.{Section}
 use Rattle.book.specs.declared.Section.the-variants.{Taught, Tops, Lows, Middles}
 use Rattle.book.specs.declared.Places.{Places}
 use Rattle.book.proofs.Meaning.{laid-read, lay-long, used-fits}
-use Rattle.amend.specs.Changing.{changedIn, Lacks, lackingEach, LacksEach, Stands, Ready}
+use Rattle.amend.specs.Changing.{changedIn, Lacks, lackingEach, LacksEach, SectionStands, Ready}
 use Rattle.amend.specs.declared.Change.{Change}
 use Rattle.amend.specs.declared.Change.the-variants.{Teach, Withdraw}
 use Rattle.amend.specs.declared.Lacking.{Lacking}
@@ -47,12 +47,12 @@ module _ (ws : List ℕ) (p : Places) (h : Holds ws p) where
   starts s = ap (startOf s) (h .places)
 
   -- A section of it stands there.
-  pub held-stands : (s : Section) → Stands ws s (startOf s p) (used (bookIn ws))
+  pub held-stands : (s : Section) → SectionStands ws s (startOf s p) (used (bookIn ws))
   held-stands s = record { long = h .long; short = h .short; form = h .form; laid = h .laid; start = starts s; end = refl }
 
 module _ (n : ℕ) (b : Book) (ws : List ℕ) (g : Stage n b ws) where
   -- A section of a stage stands in its words.
-  pub stage-stands : (s : Section) (at ends : ℕ) → at ≡ startOf s (placesOf b) → ends ≡ used b → Stands ws s at ends
+  pub stage-stands : (s : Section) (at ends : ℕ) → at ≡ startOf s (placesOf b) → ends ≡ used b → SectionStands ws s at ends
   stage-stands s at ends e f =
       record {
         long = rw (g .words) (g .long);

@@ -17,12 +17,12 @@ use Rattle.book.specs.declared.Section.{Section}
 use Rattle.book.proofs.Meaning.{form-proper, section-even, used-fits}
 use Rattle.book.proofs.Sections.{form-sorted}
 use Rattle.book.proofs.Around.{start-is, used-with, used-split, slot-read, live-laid, section-with}
-use Rattle.amend.specs.Changing.{changed, changedIn, livesThen, LivesReady, Lacks, Stands, Ready}
+use Rattle.amend.specs.Changing.{changed, changedIn, livesThen, LivesReady, Lacks, SectionStands, Ready}
 use Rattle.amend.specs.declared.Change.{Change}
 use Rattle.amend.proofs.Sections.{form-fitting, start-used, part-entries, part-span, part-laid, used-then, then-laid}
 
 -- A section that stands in words.
-module _ (ws : List ℕ) (s : Section) (at uses : ℕ) (h : Stands ws s at uses) where
+module _ (ws : List ℕ) (s : Section) (at uses : ℕ) (h : SectionStands ws s at uses) where
   -- The keys of the section have two words a node.
   stand-even : Even (sectionOf s (bookIn ws))
   stand-even = section-even s (bookIn ws) (form-proper (bookIn ws) (h .form) .section s)
@@ -67,7 +67,7 @@ module _ (ws : List ℕ) (s : Section) (at uses : ℕ) (h : Stands ws s at uses)
 
 -- ---- a section changed by the same section of another book
 
-module _ (ws vs : List ℕ) (c : Change) (s : Section) (at uses from ends : ℕ) (h : Stands ws s at uses) (o : Stands vs s from ends) (r : Ready (length ws) c s (bookIn vs) (bookIn ws)) (word : ℕ) (slot : word ≡ slotOf s) where
+module _ (ws vs : List ℕ) (c : Change) (s : Section) (at uses from ends : ℕ) (h : SectionStands ws s at uses) (o : SectionStands vs s from ends) (r : Ready (length ws) c s (bookIn vs) (bookIn ws)) (word : ℕ) (slot : word ≡ slotOf s) where
   -- The section's entries then.
   entries-then : List Entry
   entries-then = changed c (sectionOf s (bookIn vs)) (sectionOf s (bookIn ws))

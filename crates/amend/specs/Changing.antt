@@ -68,7 +68,7 @@ LacksEach Teach l other b = l ≡ lackingEach other b
 LacksEach Withdraw l other b = Unit {0}
 
 -- The words are a book in form, one section of which starts at a word, and so many words are used.
-pub record Stands (ws : List ℕ) (s : Section) (at uses : ℕ) : Type 0 where
+pub record SectionStands (ws : List ℕ) (s : Section) (at uses : ℕ) : Type 0 where
   pub long : head-words ≤ length ws
   pub short : length ws ≤ most-book-words
   pub form : inForm (bookIn ws) ≡ true

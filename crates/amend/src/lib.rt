@@ -12,7 +12,7 @@ ghost use Rattle.book.specs.Book.{sectionOf, used, lay};
 ghost use Rattle.book.specs.Decoding.{bookIn};
 ghost use Rattle.book.specs.Holding.{Holds};
 ghost use Rattle.amend.specs.Counts.{withinCounts};
-ghost use Rattle.amend.specs.Changing.{changed, changedIn, changedBook, livesThen, LivesReady, Lacks, LacksEach, Stands, Ready, ReadyAll, weighedIn, weighedBook, lackingParts};
+ghost use Rattle.amend.specs.Changing.{changed, changedIn, changedBook, livesThen, LivesReady, Lacks, LacksEach, SectionStands, Ready, ReadyAll, weighedIn, weighedBook, lackingParts};
 ghost use Rattle.amend.specs.declared.Change.the-variants.{Teach};
 use book::Places;
 use book::Section;
@@ -161,8 +161,8 @@ fn change_section(
     lacking: usize,
     change: Change,
 ) -> usize
-    requires { ⌜ Stands (now book) section at uses ⌝ }
-    requires { ⌜ Stands (now other) section from (used (bookIn (now other))) ⌝ }
+    requires { ⌜ SectionStands (now book) section at uses ⌝ }
+    requires { ⌜ SectionStands (now other) section from (used (bookIn (now other))) ⌝ }
     requires { ⌜ Ready (length (now book)) change section (bookIn (now other)) (bookIn (now book)) ⌝ }
     requires { ⌜ Lacks change lacking (sectionOf section (bookIn (now other))) (sectionOf section (bookIn (now book))) ⌝ }
     ensures came { λ r. ⌜ r ≡ used (changedIn change section (bookIn (now (other .entry))) (bookIn (now (book .entry)))) ⌝ }

@@ -15,7 +15,7 @@ use Rattle.trees.specs.Answers.{Writing, writing, write}
 use Rattle.trees.proofs.Causes.{order-passed}
 use Rattle.trees.proofs.Spots.{short-order}
 use Rattle.form.specs.Text.{Line}
-use Rattle.form.specs.Reading.{Form, fault, form, byForm, formOf, wordsOf, readOf}
+use Rattle.form.specs.Reading.{Form, fault, form, byForm, formOf, wordsOfLines, readOf}
 use Rattle.form.proofs.FirstFault.{text-refused}
 use Rattle.form.proofs.Trips.{form-order, form-write, fault-write}
 use Rattle.book.specs.Opening.{outcome}
@@ -28,10 +28,10 @@ use Rattle.ask.specs.Asking.{askOf, callOf}
 -- ---- a form that is read
 
 -- A form has at most 128 words.
-pub form-short : (text : List ℕ) (xs : List Line) → formOf text ≡ form xs → length (wordsOf xs) ≤ most-words
+pub form-short : (text : List ℕ) (xs : List Line) → formOf text ≡ form xs → length (wordsOfLines xs) ≤ most-words
 form-short text xs e =
     let o = form-order text xs e in
-    short-order (wordsOf xs) (o .0) (order-passed (wordsOf xs) (o .0) (o .1))
+    short-order (wordsOfLines xs) (o .0) (order-passed (wordsOfLines xs) (o .0) (o .1))
 
 -- Words that have room are written to the front.
 room-write : (new out : List ℕ) → length new ≤ length out → write new out ≡ writing (wrote done (length new)) (over new out)
@@ -41,8 +41,8 @@ room-write new out h = rw (le-leb (length new) (length out) h)
 -- What reading a text into room for any order answers: it is refused as the text is, or its words stand at the front.
 data Read (text : List ℕ) (w : Written) (now : List ℕ) : Type 0 where
   refused : (n line : ℕ) → formOf text ≡ fault n line → w ≡ refusedAt n line → Read text w now
-  made : (xs : List Line) → formOf text ≡ form xs → w ≡ wrote done (length (wordsOf xs)) → take (length (wordsOf xs)) now ≡ wordsOf xs
-      → length (wordsOf xs) ≤ length now → Read text w now
+  made : (xs : List Line) → formOf text ≡ form xs → w ≡ wrote done (length (wordsOfLines xs)) → take (length (wordsOfLines xs)) now ≡ wordsOfLines xs
+      → length (wordsOfLines xs) ≤ length now → Read text w now
 
 -- One of the two holds.
 read : (text out now : List ℕ) (w : Written) → length out ≡ most-words → writing w now ≡ readOf text out → Read text w now
@@ -52,12 +52,12 @@ read text out now w l e = go (formOf text) refl
     go : (f : Form) → formOf text ≡ f → Read text w now
     go (fault n line) q = refused n line q (ap (λ (x : Writing). x .answer) (e ∙ fault-write text out q))
     go (form xs) q =
-        let h : length (wordsOf xs) ≤ length out = omega (arith, form-short text xs q) in
-        let i = e ∙ form-write text xs out q ∙ room-write (wordsOf xs) out h in
-        let back : List ℕ = drop (length (wordsOf xs)) out in
-        let j : now ≡ wordsOf xs ++ back = ap (λ (x : Writing). x .out) i in
-        let k : length now ≡ length (wordsOf xs) + length back = ap length j ∙ length-append (wordsOf xs) back in
-        made xs q (ap (λ (x : Writing). x .answer) i) (ap (take (length (wordsOf xs))) j ∙ take-append-seam (wordsOf xs) back) (omega arith)
+        let h : length (wordsOfLines xs) ≤ length out = omega (arith, form-short text xs q) in
+        let i = e ∙ form-write text xs out q ∙ room-write (wordsOfLines xs) out h in
+        let back : List ℕ = drop (length (wordsOfLines xs)) out in
+        let j : now ≡ wordsOfLines xs ++ back = ap (λ (x : Writing). x .out) i in
+        let k : length now ≡ length (wordsOfLines xs) + length back = ap length j ∙ length-append (wordsOfLines xs) back in
+        made xs q (ap (λ (x : Writing). x .answer) i) (ap (take (length (wordsOfLines xs))) j ∙ take-append-seam (wordsOfLines xs) back) (omega arith)
 
 -- A text that is read stands in the room for an order.
 pub read-room : (text out now : List ℕ) (w : Written) → length out ≡ most-words → writing w now ≡ readOf text out → w .number ≡ done → w .count ≤ length now
@@ -66,7 +66,7 @@ read-room text out now w long is h = go (read text out now w long is)
     -- By which of the two it is.
     go : Read text w now → w .count ≤ length now
     go (refused n line q e) = absurd (text-refused text q (sym (ap (λ (x : Written). x .number) e) ∙ h))
-    go (made xs q e t l) = let z : w .count ≡ length (wordsOf xs) = ap (λ (x : Written). x .count) e in omega arith
+    go (made xs q e t l) = let z : w .count ≡ length (wordsOfLines xs) = ap (λ (x : Written). x .count) e in omega arith
 
 -- ---- a letter
 
@@ -96,7 +96,7 @@ module _ (letter : Letter) (text book : List ℕ) where
   fault-call n line e = rw e
 
   -- A call with a form that is read.
-  form-call : (xs : List Line) → formOf text ≡ form xs → askOf letter book (wordsOf xs) ≡ callOf (record { letter = letter; text = text }) book
+  form-call : (xs : List Line) → formOf text ≡ form xs → askOf letter book (wordsOfLines xs) ≡ callOf (record { letter = letter; text = text }) book
   unfolding callOf byForm
   form-call xs e = rw e
 
@@ -119,6 +119,6 @@ module _ (letter : Letter) (text book : List ℕ) where
         go : Read text w now → askOf letter book (take (w .count - 0) (drop 0 now)) ≡ callOf (record { letter = letter; text = text }) book
         go (refused n line q e) = absurd (text-refused text q (sym (ap (λ (x : Written). x .number) e) ∙ h))
         go (made xs q e t l) =
-            let c : w .count ≡ length (wordsOf xs) = ap (λ (x : Written). x .count) e in
-            let z : w .count - 0 ≡ length (wordsOf xs) = omega arith in
+            let c : w .count ≡ length (wordsOfLines xs) = ap (λ (x : Written). x .count) e in
+            let z : w .count - 0 ≡ length (wordsOfLines xs) = omega arith in
             ap (askOf letter book) (ap (λ (n : ℕ). take n now) z ∙ t) ∙ form-call xs q

@@ -1,11 +1,11 @@
 -- What one call at the desk answers, and the book then (01, "Forms on the desk"). Assumes nothing: these are definitions.
 use Prim.Native.Nat.{ℕ}
 use mathlib.Core.List.{List}
-use Rattle.form.specs.Reading.{byForm, formOf, wordsOf}
+use Rattle.form.specs.Reading.{byForm, formOf, wordsOfLines}
 use Rattle.book.specs.Opening.{Outcome, outcome}
 use Rattle.verdicts.specs.Judging.{judgeOf}
 use Rattle.effects.specs.Calls.{teachOf, withdrawOf}
-use Rattle.sheet.specs.Sheets.{Call}
+use Rattle.sheet.specs.Sheets.{FormCall}
 use Rattle.sheet.specs.declared.Letter.{Letter}
 use Rattle.sheet.specs.declared.Letter.the-variants.{Teach, Withdraw, Judge}
 
@@ -16,6 +16,6 @@ askOf Withdraw book os = withdrawOf book os
 askOf Judge book os = outcome (judgeOf book os) book
 
 -- "A form's text is read first and its refusal printed": a text that is refused does not reach the book.
-unfoldable pub callOf : Call → List ℕ → Outcome
+unfoldable pub callOf : FormCall → List ℕ → Outcome
 callOf c book =
-    byForm (formOf (c .text)) (λ n line. outcome (record { number = n; line = line }) book) (λ xs. askOf (c .letter) book (wordsOf xs))
+    byForm (formOf (c .text)) (λ n line. outcome (record { number = n; line = line }) book) (λ xs. askOf (c .letter) book (wordsOfLines xs))

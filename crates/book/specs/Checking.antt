@@ -9,5 +9,5 @@ use Rattle.book.specs.Decoding.{onBook}
 use Rattle.book.specs.Taught.{agreeing}
 
 -- "Check: 4, 5, 9.": 9 where the "book does not agree with itself".
-unfoldable pub checkOf : List ℕ → Answer
-checkOf ws = onBook answered ws (λ b. answered (if agreeing b then done else not-agreeing))
+unfoldable pub agreeOf : List ℕ → Answer
+agreeOf ws = onBook answered ws (λ b. answered (if agreeing b then done else not-agreeing))

@@ -13,7 +13,7 @@ use Rattle.figures.specs.declared.Answer.{Answer}
 use Rattle.form.specs.Text.{digit-0, digit, space, line-feed}
 use Rattle.book.specs.Opening.{Outcome, openOf}
 use Rattle.reply.specs.Replies.{lastDigits, withoutZeros, most-digits, decimal, field, reply}
-use Rattle.sheet.specs.Sheets.{letter-K, letterByte, Call, Handed, faulty, handed, handedIn}
+use Rattle.sheet.specs.Sheets.{letter-K, letterByte, FormCall, Handed, faulty, handed, handedIn}
 use Rattle.sheet.specs.declared.Letter.{Letter}
 use Rattle.sheet.specs.declared.Letter.the-variants.{Teach, Withdraw, Judge}
 use Rattle.ask.specs.Asking.{callOf}
@@ -138,7 +138,7 @@ unfolding lineFor
 line-ends letter o = reply-ends letter (o .answer) _
 
 -- Calls have a line each.
-pub calls-feeds : (cs : List Call) (book : List ℕ) → feeds (linesFor cs book) ≡ length cs
+pub calls-feeds : (cs : List FormCall) (book : List ℕ) → feeds (linesFor cs book) ≡ length cs
 unfolding linesFor
 calls-feeds [] book = feeds-none
 calls-feeds (c ∷ cs) book =
@@ -151,7 +151,7 @@ ends-behind : (xs ys : List ℕ) → EndsLine ys → EndsLine (xs ++ ys)
 ends-behind xs ys e = record { front = xs ++ e .front; is = ap (λ (r : List ℕ). xs ++ r) (e .is) ∙ sym (append-assoc xs (e .front) (line-feed ∷ [])) }
 
 -- The lines of calls behind a line end in LF.
-calls-end : (cs : List Call) (book line : List ℕ) → EndsLine line → EndsLine (line ++ linesFor cs book)
+calls-end : (cs : List FormCall) (book line : List ℕ) → EndsLine line → EndsLine (line ++ linesFor cs book)
 unfolding linesFor
 calls-end [] book line e = record { front = e .front; is = append-nil line ∙ e .is }
 calls-end (c ∷ cs) book line e =

@@ -18,7 +18,7 @@ use Rattle.book.specs.Taught.{bookOf}
 use Rattle.book.specs.Opening.{Outcome, outcome, openOf}
 use Rattle.book.proofs.Openings.{opened}
 use Rattle.reply.specs.Replies.{reply, reply-room}
-use Rattle.sheet.specs.Sheets.{first-line-size, letter-line-size, letter-K, letterByte, Call, sheetOf, Handed, faulty, handed, handedIn}
+use Rattle.sheet.specs.Sheets.{first-line-size, letter-line-size, letter-K, letterByte, FormCall, sheetOf, Handed, faulty, handed, handedIn}
 use Rattle.sheet.specs.Places.{letterAt, sizeTo}
 use Rattle.sheet.specs.declared.Letter.{Letter}
 use Rattle.sheet.specs.declared.LineKind.{LineKind}
@@ -60,7 +60,7 @@ unfolding stepOf steppedBy if_then_else_
 step-within left book out = go (ltb (length out) reply-room) (sheetOf left .before) (sheetOf left .calls)
   where
     -- By the room for it and the calls that are left.
-    go : (t : Bool) (bs : List ℕ) (cs : List Call) → let s = if t then idle book out else steppedBy bs cs book out in s .step .count ≤ length (s .out)
+    go : (t : Bool) (bs : List ℕ) (cs : List FormCall) → let s = if t then idle book out else steppedBy bs cs book out in s .step .count ≤ length (s .out)
     go true bs cs = omega arith
     go false (b ∷ bs) cs = omega arith
     go false [] [] = omega arith
@@ -87,7 +87,7 @@ unfolding stepOf steppedBy if_then_else_
 step-behind left book out = go (ltb (length out) reply-room) (sheetOf left .before) (sheetOf left .calls)
   where
     -- By the room for it and the calls that are left.
-    go : (t : Bool) (bs : List ℕ) (cs : List Call) → let s = if t then idle book out else steppedBy bs cs book out in drop (s .step .count) (s .out) ≡ drop (s .step .count) out
+    go : (t : Bool) (bs : List ℕ) (cs : List FormCall) → let s = if t then idle book out else steppedBy bs cs book out in drop (s .step .count) (s .out) ≡ drop (s .step .count) out
     go true bs cs = refl
     go false (b ∷ bs) cs = refl
     go false [] [] = refl
@@ -142,7 +142,7 @@ module _ (input book out slice : List ℕ) (same : length book ≡ length slice)
         inside = omega arith;
       }
   begun-by _ (opens k m l g i c) d =
-      let cs : List Call = sheetOf (drop first-line-size input) .calls in
+      let cs : List FormCall = sheetOf (drop first-line-size input) .calls in
       let o : openOf book k ≡ openOf slice k = open-same book slice k same long short l g in
       let line : List ℕ = lineFor letter-K (openOf book k) in
       record {
@@ -190,7 +190,7 @@ module _ (left book : List ℕ) (x : Letter) (asked : letterAt left ≡ Asks x) 
   behind = drop letter-line-size left
 
   -- The call that is next.
-  abbrev next : Call
+  abbrev next : FormCall
   next = record { letter = x; text = sheetOf behind .before }
 
   -- How many bytes its letter line and its form take.
@@ -241,7 +241,7 @@ module _ (input : List ℕ) (n : ℕ) (book out printed : List ℕ) (so : SoFar 
   left = drop n input
 
   -- The call that is made.
-  abbrev made : Call
+  abbrev made : FormCall
   made = next left book (ahead .0) (ahead .1)
 
   -- How many bytes are taken.
@@ -260,7 +260,7 @@ module _ (input : List ℕ) (n : ℕ) (book out printed : List ℕ) (so : SoFar 
   lines-then : linesFor (sheetOf (drop (n + takes) input) .calls) (callOf made book .words)
       ≡ linesFor (sheetOf (drop letter-line-size left) .calls) (callOf made book .words)
   lines-then =
-      ap (λ (cs : List Call). linesFor cs (callOf made book .words)) (ap (λ (l : List ℕ). sheetOf l .calls) left-then ∙ calls-left left book (ahead .0) (ahead .1))
+      ap (λ (cs : List FormCall). linesFor cs (callOf made book .words)) (ap (λ (l : List ℕ). sheetOf l .calls) left-then ∙ calls-left left book (ahead .0) (ahead .1))
 
   -- So far, once that call is made.
   made-so-far : SoFar input (n + takes) (callOf made book .words) (over given out) (printed ++ take (length given) (over given out))

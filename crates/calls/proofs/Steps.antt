@@ -11,7 +11,7 @@ use Rattle.figures.specs.Limits.{used-word}
 use Rattle.figures.specs.declared.Answer.{Answer}
 use Rattle.book.specs.Opening.{Outcome, outcome, openOf}
 use Rattle.reply.specs.Replies.{reply, reply-room}
-use Rattle.sheet.specs.Sheets.{first-line-size, letter-line-size, letter-K, letterByte, Call, sheetOf, Handed, faulty, handed, handedIn, openingBy, openingOf}
+use Rattle.sheet.specs.Sheets.{first-line-size, letter-line-size, letter-K, letterByte, FormCall, sheetOf, Handed, faulty, handed, handedIn, openingBy, openingOf}
 use Rattle.sheet.specs.Places.{letterAt, sizeTo}
 use Rattle.sheet.specs.declared.Front.the-variants.{Fault, Opens}
 use Rattle.sheet.specs.declared.Letter.{Letter}
@@ -74,7 +74,7 @@ module _ (input book out : List ℕ) (room : reply-room ≤ length out) where
 -- ---- a later step
 
 -- Where bytes stand before the first letter line, nothing is done.
-idle-before : (bs : List ℕ) (cs : List Call) (book out : List ℕ) → 0 < length bs → idle book out ≡ steppedBy bs cs book out
+idle-before : (bs : List ℕ) (cs : List FormCall) (book out : List ℕ) → 0 < length bs → idle book out ≡ steppedBy bs cs book out
 unfolding steppedBy
 idle-before [] cs book out h = absurd (omega arith)
 idle-before (b ∷ bs) cs book out h = refl

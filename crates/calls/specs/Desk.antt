@@ -5,7 +5,7 @@ use lib.ListN.{getD, replicate}
 use Rattle.figures.specs.Limits.{used-word, desk-book-words}
 use Rattle.book.specs.Opening.{Outcome, openOf}
 use Rattle.reply.specs.Replies.{reply}
-use Rattle.sheet.specs.Sheets.{letter-K, letterByte, Call, Handed, faulty, handed, handedIn}
+use Rattle.sheet.specs.Sheets.{letter-K, letterByte, FormCall, Handed, faulty, handed, handedIn}
 use Rattle.ask.specs.Asking.{callOf}
 
 -- ---- the line of a call
@@ -15,7 +15,7 @@ unfoldable pub lineFor : ℕ → Outcome → List ℕ
 lineFor letter o = reply letter (o .answer) (getD (o .words) used-word 0)
 
 -- "one for each form": the lines of calls on a book, one after the other.
-unfoldable pub linesFor : List Call → List ℕ → List ℕ
+unfoldable pub linesFor : List FormCall → List ℕ → List ℕ
 linesFor [] book = []
 linesFor (c ∷ cs) book = lineFor (letterByte (c .letter)) (callOf c book) ++ linesFor cs (callOf c book .words)
 

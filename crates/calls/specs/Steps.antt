@@ -9,7 +9,7 @@ use Rattle.words.specs.Base.{if_then_else_, over}
 use Rattle.figures.specs.Limits.{desk-book-words}
 use Rattle.book.specs.Opening.{openOf}
 use Rattle.reply.specs.Replies.{reply, reply-room}
-use Rattle.sheet.specs.Sheets.{first-line-size, letter-line-size, letter-K, letterByte, Call, sheetOf, Handed, faulty, handed, handedIn}
+use Rattle.sheet.specs.Sheets.{first-line-size, letter-line-size, letter-K, letterByte, FormCall, sheetOf, Handed, faulty, handed, handedIn}
 use Rattle.ask.specs.Asking.{callOf}
 use Rattle.calls.specs.Desk.{lineFor}
 use Rattle.calls.specs.declared.Printed.{Printed}
@@ -44,7 +44,7 @@ unfoldable pub beginOf : List ℕ → List ℕ → List ℕ → Stepping
 beginOf input book out = if ltb (length out) reply-room then idle book out else begunBy (length input) (handedIn input) book out
 
 -- The first of the calls is made, where no bytes stand before it.
-unfoldable pub steppedBy : List ℕ → List Call → List ℕ → List ℕ → Stepping
+unfoldable pub steppedBy : List ℕ → List FormCall → List ℕ → List ℕ → Stepping
 steppedBy [] (c ∷ cs) book out =
     gives (letter-line-size + length (c .text)) (lineFor (letterByte (c .letter)) (callOf c book)) (callOf c book .words) out
 steppedBy [] [] book out = idle book out

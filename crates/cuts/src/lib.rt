@@ -85,7 +85,7 @@ fn next_line(spans: &[u16], line: usize, below: usize, d: usize) -> usize
 
 // Writes the cut at d of the subtree of a line, the lines counted from 0, to the front of `out`, which has room for it, by the spans and the levels of the
 // order's lines. Answers its number of words.
-pub fn put_line(
+pub fn put_cut(
     order: &[u16],
     spans: &[u16],
     levels: &[u8],
@@ -125,11 +125,11 @@ pub fn cut_line(order: &[u16], spans: &[u16], line: usize, d: usize, out: &mut [
     let mut levels = [0u8; limits::MOST_NODES];
     order::level_lines(order, spans, &mut levels);
     let mut cut = [0u16; limits::MOST_WORDS];
-    let count = put_line(order, spans, &levels, line, d, &mut cut);
+    let count = put_cut(order, spans, &levels, line, d, &mut cut);
     if out.len() < count {
         return wrote(numbers::SHORT_OUTPUT, 0);
     }
-    put_line(order, spans, &levels, line, d, out);
+    put_cut(order, spans, &levels, line, d, out);
     wrote(numbers::DONE, count)
 }
 

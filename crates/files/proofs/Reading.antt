@@ -14,7 +14,7 @@ use Rattle.figures.specs.Answers.{answered}
 use Rattle.figures.specs.declared.Answer.{Answer}
 use Rattle.book.specs.Decoding.{sized}
 use Rattle.book.specs.Opening.{outcome}
-use Rattle.octets.specs.Octets.{wordAt}
+use Rattle.octets.specs.Octets.{wordAtByte}
 use Rattle.files.specs.Files.{mark-bytes, version, front-bytes, isMarked, readRestOf, readFileOf}
 
 -- ---- the mark
@@ -62,13 +62,13 @@ module _ (file ws : List ℕ) where
   read-unmarked a e z m = rw (z, m, e)
 
   -- Another version is refused by 13.
-  pub read-other : (a : Answer) → a ≡ answered other-version → sized ws ≡ true → isMarked file ≡ true → eqb (wordAt file mark-bytes) version ≡ false
+  pub read-other : (a : Answer) → a ≡ answered other-version → sized ws ≡ true → isMarked file ≡ true → eqb (wordAtByte file mark-bytes) version ≡ false
       → readFileOf file ws ≡ outcome a ws
   unfolding readFileOf if_then_else_
   read-other a e z m v = rw (z, m, v, e)
 
   -- In any other file the bytes past the version decide.
-  pub read-rest : sized ws ≡ true → isMarked file ≡ true → eqb (wordAt file mark-bytes) version ≡ true
+  pub read-rest : sized ws ≡ true → isMarked file ≡ true → eqb (wordAtByte file mark-bytes) version ≡ true
       → readFileOf file ws ≡ readRestOf (drop front-bytes file) ws
   unfolding readFileOf if_then_else_
   read-rest z m v = rw (z, m, v)

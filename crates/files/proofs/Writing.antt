@@ -26,7 +26,7 @@ use Rattle.book.specs.declared.BookForm.the-variants.{Refused}
 use Rattle.book.proofs.Meaning.{used-fits}
 use Rattle.book.proofs.Holding.{refused-book}
 use Rattle.book.proofs.Sound.{on-any, why-is, head-says, encode-length, by-book}
-use Rattle.book.specs.Checking.{checkOf}
+use Rattle.book.specs.Checking.{agreeOf}
 use Rattle.book.proofs.Checking.{check-unheld, check-held}
 use Rattle.files.specs.Files.{mark, version, front-bytes, fileOf, writeFileOf}
 
@@ -54,16 +54,16 @@ pub record Agreed (ws : List ℕ) : Type 0 where
 
 module _ (ws : List ℕ) where
   -- A book's words are checked by whether it passes the test of agreeing.
-  check-by : (b : Book) → IsBook ws b → (x : Bool) → agreeing b ≡ x → checkOf ws ≡ answered (if x then done else not-agreeing)
+  check-by : (b : Book) → IsBook ws b → (x : Bool) → agreeing b ≡ x → agreeOf ws ≡ answered (if x then done else not-agreeing)
   check-by b i x e = check-held ws b i ∙ ap (λ (y : Bool). answered (if y then done else not-agreeing)) e
 
   -- Words that are checked with 0 are those of a book that agrees with itself.
-  pub checked-agreed : checkOf ws .number ≡ done → Agreed ws
+  pub checked-agreed : agreeOf ws .number ≡ done → Agreed ws
   unfolding if_then_else_
   checked-agreed e = go (why-is ws)
     where
       -- A check with another number is none with 0.
-      other : (n : ℕ) → checkOf ws ≡ answered n → 0 < n → Agreed ws
+      other : (n : ℕ) → agreeOf ws ≡ answered n → 0 < n → Agreed ws
       other n q h = absurd (omega (arith, ap (λ (a : Answer). a .number) q))
 
       -- By whether the book passes the test of agreeing.
@@ -97,12 +97,12 @@ module _ (ws : List ℕ) where
     agreed-file g = file-by (g .held) (g .isBook) true (g .agrees)
 
     -- A check with another number than 0 refuses by it, and nothing is written.
-    pub refused-file : (n : ℕ) (r : Written) → n ≡ checkOf ws .number → (n ≡ done → ⊥) → r ≡ wrote n 0 → writing r out ≡ writeFileOf ws out
+    pub refused-file : (n : ℕ) (r : Written) → n ≡ agreeOf ws .number → (n ≡ done → ⊥) → r ≡ wrote n 0 → writing r out ≡ writeFileOf ws out
     unfolding if_then_else_
     refused-file n r e h a = ap (λ (w : Written). writing w out) a ∙ go (why-is ws)
       where
         -- The check's number is the one that refuses.
-        by-number : (m : ℕ) → checkOf ws ≡ answered m → writeFileOf ws out ≡ refuse m out → refuse n out ≡ writeFileOf ws out
+        by-number : (m : ℕ) → agreeOf ws ≡ answered m → writeFileOf ws out ≡ refuse m out → refuse n out ≡ writeFileOf ws out
         by-number m q w = ap (λ (x : ℕ). refuse x out) (e ∙ ap (λ (x : Answer). x .number) q) ∙ sym w
 
         -- By whether the book passes the test of agreeing.

@@ -9,7 +9,7 @@ use lib.ListN.{length, take, drop}
 use Rattle.words.specs.Base.{_and_, if_then_else_, sameWords}
 use Rattle.figures.specs.Limits.{most-book-words}
 use Rattle.figures.specs.Numbers.{done, book-size, no-room, not-agreeing, no-mark, other-version, no-stored-book}
-use Rattle.octets.specs.Octets.{bytesOf, wordsOf, wordAt}
+use Rattle.octets.specs.Octets.{bytesOf, wordsOf, wordAtByte}
 use Rattle.trees.specs.Answers.{Writing, refuse, write}
 use Rattle.book.specs.Book.{Book, used, encode, inForm}
 use Rattle.book.specs.Decoding.{bookIn, byBook, sized, onBook}
@@ -76,7 +76,7 @@ unfoldable pub readFileOf : List ℕ → List ℕ → Outcome
 readFileOf file ws =
     if not (sized ws) then leave ws book-size else
     if not (isMarked file) then leave ws no-mark else
-    if not (eqb (wordAt file mark-bytes) version) then leave ws other-version else
+    if not (eqb (wordAtByte file mark-bytes) version) then leave ws other-version else
     readRestOf (drop front-bytes file) ws
 
 -- ---- within reading

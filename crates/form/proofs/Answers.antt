@@ -10,7 +10,7 @@ use Rattle.figures.specs.Answers.{wrote}
 use Rattle.figures.specs.declared.Written.{Written}
 use Rattle.trees.specs.Answers.{writing, write}
 use Rattle.trees.proofs.Writing.{no-output-room, has-room}
-use Rattle.form.specs.Reading.{Form, fault, form, formOf, wordsOf, readOf}
+use Rattle.form.specs.Reading.{Form, fault, form, formOf, wordsOfLines, readOf}
 use Rattle.form.specs.Turns.{Got}
 use Rattle.form.proofs.Trips.{form-write, fault-write}
 
@@ -27,14 +27,14 @@ record Words (text w out : List ℕ) (r : Written) : Type 0 where
 words-of : (text w out : List ℕ) (r : Written) (f : Form) → formOf text ≡ f → Got f r w → r .number ≡ done → Words text w out r
 words-of text w out r (fault n line) q g e = absurd (g .1 (sym (ap (λ (a : Written). a .number) (g .0)) ∙ e))
 words-of text w out r (form xs) q g e =
-    let c : r .count ≡ length (wordsOf xs) = ap (λ (a : Written). a .count) (g .0) in
+    let c : r .count ≡ length (wordsOfLines xs) = ap (λ (a : Written). a .count) (g .0) in
     record {
-      these = wordsOf xs;
+      these = wordsOfLines xs;
       call = form-write text xs out q;
       size = sym c;
       stand = ap (λ (n : ℕ). take n w) c ∙ g .1;
       answer = g .0 ∙ ap (wrote done) (sym c);
-      there = let l : length (take (length (wordsOf xs)) w) ≡ min (length (wordsOf xs)) (length w) = length-take (length (wordsOf xs)) w in omega (arith, c, ap length (g .1));
+      there = let l : length (take (length (wordsOfLines xs)) w) ≡ min (length (wordsOfLines xs)) (length w) = length-take (length (wordsOfLines xs)) w in omega (arith, c, ap length (g .1));
     }
 
 -- The answer of a text that is refused, by cases of what the text is.

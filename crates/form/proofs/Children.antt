@@ -10,20 +10,20 @@ use lib.Dec.{leb, eqb}
 use lib.ListN.{length, getD}
 use Rattle.words.specs.Base.{if_then_else_}
 use Rattle.form.specs.Text.{Line}
-use Rattle.form.specs.Reading.{children, wordsOf}
-use Rattle.form.specs.Faults.{ChildrenOf, no-lines, child, deeper, NoDeeper, no-more, back-up, Below}
+use Rattle.form.specs.Reading.{children, wordsOfLines}
+use Rattle.form.specs.Faults.{ChildrenOf, no-lines, child, deeper, NoDeeper, no-more, back-up, ChildrenBehind}
 use Rattle.form.proofs.TreeLines.{no-child}
 
 module _ (l : ℕ) where
   -- Lines behind a line of level l have some below it, so many of them its children as `children` counts.
-  some-below : (ys : List Line) → Below l ys (children l ys)
+  some-below : (ys : List Line) → ChildrenBehind l ys (children l ys)
   unfolding children if_then_else_
   some-below [] = record { below = []; rest = []; split = refl; children = no-lines; ends = no-more }
   some-below (y ∷ ys) = go (leb (y .level) l) (eqb (y .level) (suc l)) refl refl (some-below ys)
     where
       -- By how deep the first of them is.
-      go : (a b : Bool) → leb (y .level) l ≡ a → eqb (y .level) (suc l) ≡ b → Below l ys (children l ys)
-          → Below l (y ∷ ys) (if a then 0 else if b then suc (children l ys) else children l ys)
+      go : (a b : Bool) → leb (y .level) l ≡ a → eqb (y .level) (suc l) ≡ b → ChildrenBehind l ys (children l ys)
+          → ChildrenBehind l (y ∷ ys) (if a then 0 else if b then suc (children l ys) else children l ys)
       go true b p q r = let h : y .level ≤ l = leb-true _ _ p in record { below = []; rest = y ∷ ys; split = refl; children = no-lines; ends = back-up h }
       go false true p q r =
           let e : y .level ≡ l + 1 = omega (arith, eqb-true (y .level) (suc l) q) in
@@ -43,15 +43,15 @@ module _ (l : ℕ) where
       rw (lt-leb (x .level) l (omega arith), ne-eqb (x .level) (suc l) (λ z. omega arith), children-counted xs rest n c e)
 
   -- Where `children` counts so many, so many lines are its children,
-  pub counted-below : (behind : List Line) (n : ℕ) → children l behind ≡ n → Below l behind n
-  counted-below behind n e = subst (Below l behind) e (some-below behind)
+  pub counted-below : (behind : List Line) (n : ℕ) → children l behind ≡ n → ChildrenBehind l behind n
+  counted-below behind n e = subst (ChildrenBehind l behind) e (some-below behind)
 
   -- and where so many are, it counts so many.
-  pub below-counted : (behind : List Line) (n : ℕ) → Below l behind n → children l behind ≡ n
+  pub below-counted : (behind : List Line) (n : ℕ) → ChildrenBehind l behind n → children l behind ≡ n
   below-counted behind n r = ap (children l) (r .split) ∙ children-counted (r .below) (r .rest) n (r .children) (r .ends)
 
 -- The first word of a line among the words of lines is its code.
-pub line-code : (x : Line) (behind front : List Line) → getD (wordsOf (front ++ (x ∷ behind))) (2 * length front) 0 ≡ x .code
-unfolding wordsOf
+pub line-code : (x : Line) (behind front : List Line) → getD (wordsOfLines (front ++ (x ∷ behind))) (2 * length front) 0 ≡ x .code
+unfolding wordsOfLines
 line-code x behind [] = refl
 line-code x behind (y ∷ front) = let z : 2 * suc (length front) ≡ suc (suc (2 * length front)) = omega arith in rw z (line-code x behind front)

@@ -10,7 +10,7 @@ use lib.Seq.{getD-set-same, getD-set-other}
 use borrow.Author.Tests.{lt-leb, le-leb, lt-ltb, le-ltb, eq-eqb, ne-eqb, eqb-true, eqb-false, leb-true, leb-false}
 use Rattle.words.specs.Base.{if_then_else_}
 use Rattle.form.specs.Text.{Line}
-use Rattle.form.specs.Reading.{siblings, children, wordsOf}
+use Rattle.form.specs.Reading.{siblings, children, wordsOfLines}
 
 -- Every line is deeper than l.
 abbrev pub Above : ℕ → List Line → Type 0
@@ -58,14 +58,14 @@ shut l [] p back x h = rw (le-leb (p .level) l h)
 shut l (y ∷ f) p back x h = rw (shut l f p back x h)
 
 -- Lines have two words each.
-pub length-words : (xs : List Line) → length (wordsOf xs) ≡ 2 * length xs
-unfolding wordsOf
+pub length-words : (xs : List Line) → length (wordsOfLines xs) ≡ 2 * length xs
+unfolding wordsOfLines
 length-words [] = refl
 length-words (x ∷ xs) = omega (arith, length-words xs)
 
 -- The words behind a parent, with a child more at the end.
-words-past : (l : ℕ) (back : List Line) (x : Line) → Above l back → x .level ≡ suc l → wordsOf (back ++ (x ∷ [])) ≡ wordsOf back ++ (x .code ∷ 0 ∷ [])
-unfolding wordsOf children
+words-past : (l : ℕ) (back : List Line) (x : Line) → Above l back → x .level ≡ suc l → wordsOfLines (back ++ (x ∷ [])) ≡ wordsOfLines back ++ (x .code ∷ 0 ∷ [])
+unfolding wordsOfLines children
 words-past l [] x a e = refl
 words-past l (y ∷ ys) x a e =
     let h : l < y .level = a .0 in
@@ -85,14 +85,14 @@ stays l f p back x e = go (leb (p .level) l) refl
 
 -- The words with x behind, over a split of the lines at its parent p.
 append : (p : Line) (back : List Line) (x : Line) (front : List Line) → Above (p .level) back → x .level ≡ suc (p .level) →
-    wordsOf (front ++ (p ∷ back) ++ (x ∷ [])) ≡ set (wordsOf (front ++ (p ∷ back))) (2 * length front + 1) (suc (children (p .level) back)) ++ (x .code ∷ 0 ∷ [])
-unfolding wordsOf
+    wordsOfLines (front ++ (p ∷ back) ++ (x ∷ [])) ≡ set (wordsOfLines (front ++ (p ∷ back))) (2 * length front + 1) (suc (children (p .level) back)) ++ (x .code ∷ 0 ∷ [])
+unfolding wordsOfLines
 append p back x [] a e = rw (child (p .level) back x a e, words-past (p .level) back x a e)
 append p back x (y ∷ front) a e = rw (two-on (length front), stays (y .level) front p back x e, append p back x front a e)
 
 -- Where the parent's number of children stands.
-pub kids : (p : Line) (back front : List Line) → getD (wordsOf (front ++ (p ∷ back))) (2 * length front + 1) 0 ≡ children (p .level) back
-unfolding wordsOf
+pub kids : (p : Line) (back front : List Line) → getD (wordsOfLines (front ++ (p ∷ back))) (2 * length front + 1) 0 ≡ children (p .level) back
+unfolding wordsOfLines
 kids p back [] = refl
 kids p back (y ∷ front) = rw (two-on (length front)) (kids p back front)
 
@@ -129,8 +129,8 @@ pub record Open (before : List Line) (l p : ℕ) : Type 0 where
 -- What a line x says of its parent at place p, and of the words with x.
 pub record Adopts (before : List Line) (p : ℕ) (x : Line) : Type 0 where
   pub inside : p < length before
-  pub had : getD (wordsOf (reverse before)) (2 * p + 1) 0 ≡ siblings (x .level) before
-  pub words : wordsOf (reverse (x ∷ before)) ≡ set (wordsOf (reverse before)) (2 * p + 1) (suc (siblings (x .level) before)) ++ (x .code ∷ 0 ∷ [])
+  pub had : getD (wordsOfLines (reverse before)) (2 * p + 1) 0 ≡ siblings (x .level) before
+  pub words : wordsOfLines (reverse (x ∷ before)) ≡ set (wordsOfLines (reverse before)) (2 * p + 1) (suc (siblings (x .level) before)) ++ (x .code ∷ 0 ∷ [])
 
 -- `Adopts` holds of a split of the lines at the parent.
 adopts-split : (after : List Line) (p : Line) (front : List Line) (x : Line) → Above (p .level) after → x .level ≡ suc (p .level) → Adopts (after ++ (p ∷ front)) (length front) x
@@ -140,7 +140,7 @@ adopts-split after p front x a e =
     record {
       inside = rw length-append (omega arith);
       had = rw (s, reverse-split after p front, ← length-reverse front) (kids p (reverse after) (reverse front));
-      words = ap wordsOf (reverse-cons x (after ++ (p ∷ front))) ∙ rw (s, reverse-split after p front, ← length-reverse front) (append p (reverse after) x (reverse front) b e);
+      words = ap wordsOfLines (reverse-cons x (after ++ (p ∷ front))) ∙ rw (s, reverse-split after p front, ← length-reverse front) (append p (reverse after) x (reverse front) b e);
     }
 
 -- `Adopts` holds of a line one level below the last of its level.

@@ -11,7 +11,7 @@ use Rattle.trees.specs.Answers.{Writing, refuse}
 use Rattle.trees.proofs.Causes.{by-order}
 use Rattle.trees.proofs.Writing.{write-line, write-count}
 use Rattle.form.specs.Text.{Line, linesOf, textOf}
-use Rattle.form.specs.Reading.{Form, fault, form, formOf, wordsOf, readOf}
+use Rattle.form.specs.Reading.{Form, fault, form, formOf, wordsOfLines, readOf}
 use Rattle.form.specs.Faults.{Why, past, misspelt, no-option, not-allowed, too-deep, ninth-child}
 use Rattle.form.specs.Writing.{writeOf}
 use Rattle.form.proofs.Counts.{length-words}
@@ -56,8 +56,8 @@ module _ (s out : List ℕ) where
       go : (f : Form) → formOf s ≡ f → Read
       go (fault n line) e = known (fault-write s out e) (text-line s e) (omega arith)
       go (form xs) e =
-          known (form-write s xs out e) (omega (arith, write-line (wordsOf xs) out))
-          (omega (arith, write-count (wordsOf xs) out, length-words xs, form-text s xs e .2))
+          known (form-write s xs out e) (omega (arith, write-line (wordsOfLines xs) out))
+          (omega (arith, write-count (wordsOfLines xs) out, length-words xs, form-text s xs e .2))
 
   -- Reading a form: line 65 at most.
   pub read-line-most : readOf s out .answer .line ≤ suc most-nodes

@@ -9,7 +9,7 @@ use Rattle.words.specs.Base.{if_then_else_, within}
 use Rattle.figures.specs.Limits.{greatest-depth, most-nodes, most-children}
 use Rattle.trees.specs.Trees.{Tree, Forest, node, bare, cons, count, words, depth, depthF, Good, GoodF, subtrees}
 use Rattle.form.specs.Text.{Line, linesOf, linesF, spell, textOf}
-use Rattle.form.specs.Reading.{allowed, siblings, form, formOf, wordsOf}
+use Rattle.form.specs.Reading.{allowed, siblings, form, formOf, wordsOfLines}
 use Rattle.form.proofs.Tests.{AllPass}
 use Rattle.form.proofs.Faults.{within-both}
 use Rattle.form.proofs.TreeLines.{lines-words, lines-count}
@@ -173,7 +173,7 @@ pub record Formed (s : List ℕ) (xs : List Line) : Type 0 where
   pub tree : Tree
   pub lines : xs ≡ linesOf tree 0
   pub text : textOf tree ≡ s
-  pub spelt : wordsOf xs ≡ words tree
+  pub spelt : wordsOfLines xs ≡ words tree
   pub good-tree : Good tree
   pub deep : depth tree ≤ greatest-depth
   pub nodes : length (subtrees tree) ≤ most-nodes
@@ -191,7 +191,7 @@ formed (b ∷ bs) (x ∷ xs) e =
       tree = t .0;
       lines = t .1;
       text = ap spell (sym (t .1)) ∙ o .0;
-      spelt = ap wordsOf (t .1) ∙ lines-words (t .0) 0;
+      spelt = ap wordsOfLines (t .1) ∙ lines-words (t .0) 0;
       good-tree = g .0;
       deep = omega (arith, g .1);
       nodes = omega (arith, o .2, ap length (t .1), lines-count (t .0) 0);

@@ -13,7 +13,7 @@ use Rattle.figures.specs.Numbers.{done, no-form}
 use Rattle.figures.specs.Answers.{refusedAt}
 use Rattle.trees.specs.Answers.{writing, write}
 use Rattle.form.specs.Text.{digit-0, space, line-feed, digit, code-size, Line, levelText, codeText, lineText, spell}
-use Rattle.form.specs.Reading.{isDigit, value, isCode, codeBehind, speltOf, allowed, siblings, lineOf, Form, fault, form, readLines, formOf, children, wordsOf, readOf}
+use Rattle.form.specs.Reading.{isDigit, value, isCode, codeBehind, speltOf, allowed, siblings, lineOf, Form, fault, form, readLines, formOf, children, wordsOfLines, readOf}
 use Rattle.form.specs.Faults.{greatest-level, misspelt, FirstFault}
 use Rattle.form.specs.declared.reading.Fault.the-variants.{Misspelt}
 use Rattle.form.specs.declared.reading.LineRead.the-variants.{Node, Refused}
@@ -48,7 +48,7 @@ first-line n h = record { option = h; follows = refl; shallow = omega arith; chi
 -- A form of one line of four digits, not all 0, is read as the node whose code is their decimal value.
 pub decimal-read : (a b c d : ℕ) → a < 10 → b < 10 → c < 10 → d < 10 → least-code ≤ a * 1000 + b * 100 + c * 10 + d → (out : List ℕ)
     → readOf (digit-0 ∷ space ∷ (digit-0 + a) ∷ (digit-0 + b) ∷ (digit-0 + c) ∷ (digit-0 + d) ∷ line-feed ∷ []) out ≡ write ((a * 1000 + b * 100 + c * 10 + d) ∷ 0 ∷ []) out
-unfolding levelText if_then_else_ wordsOf children
+unfolding levelText if_then_else_ wordsOfLines children
 decimal-read a b c d p q r s h out =
     let n : ℕ = a * 1000 + b * 100 + c * 10 + d in
     let x : Line = record { level = 0; code = n } in

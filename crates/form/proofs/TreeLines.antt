@@ -8,7 +8,7 @@ use borrow.Author.Tests.{lt-leb, le-leb, eq-eqb, ne-eqb}
 use Rattle.words.specs.Base.{if_then_else_}
 use Rattle.trees.specs.Trees.{Tree, Forest, node, bare, cons, count, words, wordsF, subtrees, subtreesF}
 use Rattle.form.specs.Text.{Line, linesOf, linesF}
-use Rattle.form.specs.Reading.{children, wordsOf}
+use Rattle.form.specs.Reading.{children, wordsOfLines}
 use Rattle.form.specs.Faults.{NoDeeper, no-more, back-up}
 
 -- ---- the words of lines
@@ -51,20 +51,20 @@ row-low (cons (node c g) f) l r o = let k : l ≤ l = omega arith in back-up k
 
 -- The lines of a tree have the tree's words, whatever follows that is no deeper than its top; those of a row have the row's words.
 mutual
-  unfolding linesOf words wordsOf
+  unfolding linesOf words wordsOfLines
 
-  tree-words : (t : Tree) (l : ℕ) (r : List Line) → NoDeeper l r → wordsOf (linesOf t l ++ r) ≡ words t ++ wordsOf r
+  tree-words : (t : Tree) (l : ℕ) (r : List Line) → NoDeeper l r → wordsOfLines (linesOf t l ++ r) ≡ words t ++ wordsOfLines r
   tree-words (node c f) l r o = rw (kids f l r o, row-words f (suc l) r (deeper l r o))
 
-  row-words : (f : Forest) (l : ℕ) (r : List Line) → NoDeeper l r → wordsOf (linesF f l ++ r) ≡ wordsF f ++ wordsOf r
+  row-words : (f : Forest) (l : ℕ) (r : List Line) → NoDeeper l r → wordsOfLines (linesF f l ++ r) ≡ wordsF f ++ wordsOfLines r
   row-words bare l r o = refl
   row-words (cons t f) l r o =
-      rw (append-assoc (linesOf t l) (linesF f l) r, append-assoc (words t) (wordsF f) (wordsOf r), tree-words t l (linesF f l ++ r) (row-low f l r o), row-words f l r o)
+      rw (append-assoc (linesOf t l) (linesF f l) r, append-assoc (words t) (wordsF f) (wordsOfLines r), tree-words t l (linesF f l ++ r) (row-low f l r o), row-words f l r o)
 
 -- The lines of a tree, from whatever level on, have the tree's words.
-pub lines-words : (t : Tree) (l : ℕ) → wordsOf (linesOf t l) ≡ words t
-unfolding wordsOf
-lines-words t l = ap wordsOf (sym (append-nil (linesOf t l))) ∙ tree-words t l [] no-more ∙ append-nil (words t)
+pub lines-words : (t : Tree) (l : ℕ) → wordsOfLines (linesOf t l) ≡ words t
+unfolding wordsOfLines
+lines-words t l = ap wordsOfLines (sym (append-nil (linesOf t l))) ∙ tree-words t l [] no-more ∙ append-nil (words t)
 
 -- ---- their number
 

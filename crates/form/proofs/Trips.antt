@@ -18,7 +18,7 @@ use Rattle.trees.proofs.Orders.{tree-passes}
 use Rattle.trees.proofs.Causes.{Seen, stopped, passed, seen, order-passed}
 use Rattle.trees.proofs.Unique.{words-unique}
 use Rattle.form.specs.Text.{Line, linesOf, textOf}
-use Rattle.form.specs.Reading.{Form, fault, form, byForm, formOf, wordsOf, readOf}
+use Rattle.form.specs.Reading.{Form, fault, form, byForm, formOf, wordsOfLines, readOf}
 use Rattle.form.specs.Writing.{writeOf}
 use Rattle.form.proofs.TreeLines.{lines-words}
 use Rattle.form.proofs.FirstFault.{text-refused}
@@ -28,19 +28,19 @@ use Rattle.form.proofs.Grow.{formed}
 -- ---- orders and forms
 
 -- The text of an order is read as its lines, and they have the order's words.
-pub order-text : (ws : List ℕ) (t : Tree) → orderOf ws ≡ order t → (formOf (textOf t) ≡ form (linesOf t 0)) × (wordsOf (linesOf t 0) ≡ ws)
+pub order-text : (ws : List ℕ) (t : Tree) → orderOf ws ≡ order t → (formOf (textOf t) ≡ form (linesOf t 0)) × (wordsOfLines (linesOf t 0) ≡ ws)
 order-text ws t e =
     let p = order-passed ws t e in
     (form-of t (p .good) (p .deep) (p .nodes), lines-words t 0 ∙ sym (p .spelt))
 
 -- The words of a form are an order, whose lines and text the form's are.
-pub form-order : (s : List ℕ) (xs : List Line) → formOf s ≡ form xs → (t : Tree) × (orderOf (wordsOf xs) ≡ order t) × (xs ≡ linesOf t 0) × (textOf t ≡ s)
+pub form-order : (s : List ℕ) (xs : List Line) → formOf s ≡ form xs → (t : Tree) × (orderOf (wordsOfLines xs) ≡ order t) × (xs ≡ linesOf t 0) × (textOf t ≡ s)
 form-order s xs e =
     let f = formed s xs e in
     (f .tree, ap orderOf (f .spelt) ∙ tree-passes (f .tree) (f .good-tree) (f .nodes) (f .deep), f .lines, f .text)
 
 -- One text for each order: forms with the same words are one text.
-pub one-text : (s u : List ℕ) (xs ys : List Line) → formOf s ≡ form xs → formOf u ≡ form ys → wordsOf xs ≡ wordsOf ys → s ≡ u
+pub one-text : (s u : List ℕ) (xs ys : List Line) → formOf s ≡ form xs → formOf u ≡ form ys → wordsOfLines xs ≡ wordsOfLines ys → s ≡ u
 one-text s u xs ys e f w =
     let a = formed s xs e in
     let b = formed u ys f in
@@ -53,7 +53,7 @@ one-order ws vs t u e f x =
     let b = order-text vs u f in
     let z : form (linesOf t 0) ≡ form (linesOf u 0) = sym (a .0) ∙ ap formOf x ∙ b .0 in
     let y : linesOf t 0 ≡ linesOf u 0 = cc in
-    sym (a .1) ∙ ap wordsOf y ∙ b .1
+    sym (a .1) ∙ ap wordsOfLines y ∙ b .1
 
 -- ---- the calls
 
@@ -72,7 +72,7 @@ unfolding writeOf byOrder
 order-write ws t out e = rw e
 
 -- Of a form the words are written.
-pub form-write : (s : List ℕ) (xs : List Line) (out : List ℕ) → formOf s ≡ form xs → readOf s out ≡ write (wordsOf xs) out
+pub form-write : (s : List ℕ) (xs : List Line) (out : List ℕ) → formOf s ≡ form xs → readOf s out ≡ write (wordsOfLines xs) out
 unfolding readOf byForm
 form-write s xs out e = rw e
 
@@ -113,6 +113,6 @@ pub read-written : (s out : List ℕ) → readOf s out .answer .number ≡ done 
 read-written s out e later =
     let f = reads-form s out e in
     let x = form-order s (f .0) (f .1) in
-    ap (λ (v : List ℕ). writeOf v later) (written (readOf s out) (wordsOf (f .0)) out (form-write s (f .0) out (f .1)) e)
-    ∙ order-write (wordsOf (f .0)) (x .0) later (x .1)
+    ap (λ (v : List ℕ). writeOf v later) (written (readOf s out) (wordsOfLines (f .0)) out (form-write s (f .0) out (f .1)) e)
+    ∙ order-write (wordsOfLines (f .0)) (x .0) later (x .1)
     ∙ ap (λ (b : List ℕ). write b later) (x .3)

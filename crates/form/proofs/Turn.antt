@@ -17,7 +17,7 @@ use Rattle.figures.specs.Numbers.{done, no-form}
 use Rattle.figures.specs.Answers.{refusedAt, wrote}
 use Rattle.figures.specs.declared.Written.{Written}
 use Rattle.form.specs.Text.{code-size, Line, levelText, lineText}
-use Rattle.form.specs.Reading.{faultNumber, readNumber, speltOf, byLine, allowed, siblings, lineOf, Form, fault, form, readLines, formOf, children, wordsOf}
+use Rattle.form.specs.Reading.{faultNumber, readNumber, speltOf, byLine, allowed, siblings, lineOf, Form, fault, form, readLines, formOf, children, wordsOfLines}
 use Rattle.form.specs.Turns.{follows, nextOf, countPlace, Parent, mayAdopt, adopted, Parents, underParent, countedIn, Got}
 use Rattle.form.specs.declared.reading.Fault.{Fault}
 use Rattle.form.specs.declared.reading.Fault.the-variants.{PastLast, NoOption, LevelNotAllowed, TooDeep, NinthChild}
@@ -91,8 +91,8 @@ put-two w m a b k =
     rw (add-two m, add-one m, take-suc-set (set w m a) (suc m) b l, take-suc-set w m a i) (append-assoc (take m w) (a ∷ []) (b ∷ []))
 
 -- The words of the first line alone.
-first-words : (w : List ℕ) (n : ℕ) (x : Line) (before : List Line) → n ≡ 0 → before ≡ [] → take (2 * n) w ++ (x .code ∷ 0 ∷ []) ≡ wordsOf (reverse (x ∷ before))
-unfolding wordsOf children
+first-words : (w : List ℕ) (n : ℕ) (x : Line) (before : List Line) → n ≡ 0 → before ≡ [] → take (2 * n) w ++ (x .code ∷ 0 ∷ []) ≡ wordsOfLines (reverse (x ∷ before))
+unfolding wordsOfLines children
 first-words w n x before e b = rw (e, b) refl
 
 -- No lines before are no siblings.
@@ -122,12 +122,12 @@ pub record State (text words latest : List ℕ) (at n greatest : ℕ) : Type 0 w
   pub long : length words ≡ most-words
   pub deep : length latest ≡ suc greatest-depth
   pub may : (l : ℕ) → allowed l before ≡ follows greatest l
-  pub wrote-words : take (2 * n) words ≡ wordsOf (reverse before)
+  pub wrote-words : take (2 * n) words ≡ wordsOfLines (reverse before)
   pub kept : Kept before greatest latest
 
 -- Before line 1 nothing is read.
 pub start : (text words : List ℕ) → (length text ≡ 0 → ⊥) → length words ≡ most-words → State text words (replicate (suc greatest-depth) 0) 0 0 0
-unfolding allowed follows wordsOf if_then_else_
+unfolding allowed follows wordsOfLines if_then_else_
 start text words h k = record {
   room = most-nodes;
   before = [];
@@ -157,7 +157,7 @@ module _ {text words latest : List ℕ} {at n greatest : ℕ} (s : State text wo
   pub all-read : (r : Written) → length text ≤ at → r ≡ wrote done (2 * n) → Got (formOf text) r words
   all-read r h a =
       let q : formOf text ≡ form (reverse (s .before)) = s .reads ∙ ap (readLines (s .room) (s .before)) (drop-of-length-le text h) ∙ read-done (s .room) (s .before) in
-      let z : 2 * n ≡ length (wordsOf (reverse (s .before))) = omega (arith, length-words (reverse (s .before)), length-reverse (s .before), s .lines) in
+      let z : 2 * n ≡ length (wordsOfLines (reverse (s .before))) = omega (arith, length-words (reverse (s .before)), length-reverse (s .before), s .lines) in
       subst (λ (f : Form). Got f r words) (sym q) (a ∙ ap (wrote done) z, ap (λ (m : ℕ). take m words) (sym z) ∙ s .wrote-words)
 
   -- Bytes are left.
@@ -248,7 +248,7 @@ module _ {text words latest : List ℕ} {at n greatest : ℕ} (s : State text wo
     read-so m = fine-line (s .before) (drop at text) (node .spelt) (record { option = node .option; follows = fits; shallow = node .shallow; child = few m })
 
     -- Behind the words so far, with the child counted, its own two are those of a line more.
-    front : mayAdopt words latest level ≡ true → take (2 * n) (adopted words latest level) ++ (code ∷ 0 ∷ []) ≡ wordsOf (reverse (line ∷ s .before))
+    front : mayAdopt words latest level ≡ true → take (2 * n) (adopted words latest level) ++ (code ∷ 0 ∷ []) ≡ wordsOfLines (reverse (line ∷ s .before))
     front m =
         elim (decLt 0 level) [
           | yes h ↦ counted h
@@ -259,7 +259,7 @@ module _ {text words latest : List ℕ} {at n greatest : ℕ} (s : State text wo
               ap (λ (w : List ℕ). take (2 * n) w ++ (code ∷ 0 ∷ [])) (sym (adopt-first words latest level z .1)) ∙ first-words words n line (s .before) k b
         ]
       where
-        counted : 0 < level → take (2 * n) (adopted words latest level) ++ (code ∷ 0 ∷ []) ≡ wordsOf (reverse (line ∷ s .before))
+        counted : 0 < level → take (2 * n) (adopted words latest level) ++ (code ∷ 0 ∷ []) ≡ wordsOfLines (reverse (line ∷ s .before))
         counted h =
             let p = parent h in
             let j = countPlace latest level in
@@ -268,7 +268,7 @@ module _ {text words latest : List ℕ} {at n greatest : ℕ} (s : State text wo
             ap (λ (w : List ℕ). take (2 * n) w ++ (code ∷ 0 ∷ [])) (sym (adopt-one words latest level (λ z. omega arith) (one-seen words latest level m h) .1))
             ∙ ap (λ (w : List ℕ). w ++ (code ∷ 0 ∷ [])) (take-set-lt (2 * n) words j (getD words j 0 + 1) k)
             ∙ ap (λ (w : List ℕ). set w j (getD words j 0 + 1) ++ (code ∷ 0 ∷ [])) (s .wrote-words)
-            ∙ ap (λ (m : ℕ). set (wordsOf (reverse (s .before))) j m ++ (code ∷ 0 ∷ [])) v
+            ∙ ap (λ (m : ℕ). set (wordsOfLines (reverse (s .before))) j m ++ (code ∷ 0 ∷ [])) v
             ∙ sym (p .words)
 
     -- The next turn begins behind it.

@@ -28,7 +28,7 @@ pub data NoDeeper (l : ℕ) : List Line → Type 0 where
   back-up : {x : Line} {xs : List Line} → x .level ≤ l → NoDeeper l (x ∷ xs)
 
 -- Of the lines behind a line of level l, those below it come first, and so many of them are its children.
-pub record Below (l : ℕ) (behind : List Line) (n : ℕ) : Type 0 where
+pub record ChildrenBehind (l : ℕ) (behind : List Line) (n : ℕ) : Type 0 where
   pub below : List Line
   pub rest : List Line
   pub split : behind ≡ below ++ rest

@@ -140,12 +140,12 @@ children l (x ∷ xs) =
     children l xs
 
 -- Two words for each line: its code, and its number of children.
-unfoldable pub wordsOf : List Line → List ℕ
-wordsOf [] = []
-wordsOf (x ∷ xs) = x .code ∷ children (x .level) xs ∷ wordsOf xs
+unfoldable pub wordsOfLines : List Line → List ℕ
+wordsOfLines [] = []
+wordsOfLines (x ∷ xs) = x .code ∷ children (x .level) xs ∷ wordsOfLines xs
 
 -- ---- the call
 
 -- "Text: the first line at fault; … 11 last."
 unfoldable pub readOf : List ℕ → List ℕ → Writing
-readOf bytes out = byForm (formOf bytes) (λ n line. writing (refusedAt n line) out) (λ xs. write (wordsOf xs) out)
+readOf bytes out = byForm (formOf bytes) (λ n line. writing (refusedAt n line) out) (λ xs. write (wordsOfLines xs) out)

@@ -12,7 +12,7 @@ use Rattle.figures.specs.Answers.{refusedAt, wrote}
 use Rattle.trees.specs.Reading.{byOrder, orderOf}
 use Rattle.figures.specs.declared.Written.{Written}
 use Rattle.form.specs.Text.{Line, linesOf}
-use Rattle.form.specs.Reading.{speltOf, byLine, Form, fault, form, wordsOf}
+use Rattle.form.specs.Reading.{speltOf, byLine, Form, fault, form, wordsOfLines}
 use Rattle.form.specs.declared.reading.Fault.the-variants.{PastLast, NoOption, LevelNotAllowed, TooDeep, NinthChild}
 use Rattle.form.specs.declared.reading.LineRead.{LineRead}
 use Rattle.form.specs.declared.reading.LineRead.the-variants.{Node, Refused}
@@ -74,7 +74,7 @@ countedIn words latest (Refused f) = words
 -- What reading the lines answers, with their words at the front of w.
 abbrev pub Got : Form → Written → List ℕ → Type 0
 Got (fault n line) r w = (r ≡ refusedAt n line) × (n ≡ done → ⊥)
-Got (form xs) r w = (r ≡ wrote done (length (wordsOf xs))) × (take (length (wordsOf xs)) w ≡ wordsOf xs)
+Got (form xs) r w = (r ≡ wrote done (length (wordsOfLines xs))) × (take (length (wordsOfLines xs)) w ≡ wordsOfLines xs)
 
 -- ---- writing
 

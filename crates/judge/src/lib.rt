@@ -27,7 +27,7 @@ fn top_near(book: &[u16], places: Places, order: &[u16], spans: &[u16], levels: 
     ensures { λ r. ⌜ r ≡ topNear (bookIn (now (book .entry))) (now (order .entry)) ⌝ }
 {
     let mut cut = [0u16; limits::MOST_WORDS];
-    let count = cuts::put_line(order, spans, levels, 0, places.k.of_tops(), &mut cut);
+    let count = cuts::put_cut(order, spans, levels, 0, places.k.of_tops(), &mut cut);
     let many = book[limits::TOPS_WORD] as usize;
     around(find(book, places.tops, many, &cut[0..count]))
 }

@@ -5,7 +5,7 @@ use mathlib.Core.List.{List, [], _∷_, _++_, append-assoc}
 use native.Mathlib.Omega.{arith}
 use lib.ListN.{length, getD, set, take, length-set}
 use lib.Seq.{take-all, take-suc, take-suc-set}
-use Rattle.octets.specs.Octets.{bytesOf, wordsOf, wordAt}
+use Rattle.octets.specs.Octets.{bytesOf, wordsOf, wordAtByte}
 
 -- ---- the bytes of words
 
@@ -60,7 +60,7 @@ words-long (a ∷ []) n e = absurd (omega arith)
 words-long (a ∷ b ∷ bytes) n e = omega (arith, words-long bytes (n - 1) (omega arith))
 
 -- Word i of the words of bytes is the word at byte 2i.
-pub word-is : (bytes : List ℕ) (i : ℕ) → 2 * i + 1 < length bytes → getD (wordsOf bytes) i 0 ≡ wordAt bytes (2 * i)
+pub word-is : (bytes : List ℕ) (i : ℕ) → 2 * i + 1 < length bytes → getD (wordsOf bytes) i 0 ≡ wordAtByte bytes (2 * i)
 unfolding wordsOf
 word-is [] i h = absurd (omega arith)
 word-is (a ∷ []) i h = absurd (omega arith)

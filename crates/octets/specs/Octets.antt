@@ -15,5 +15,5 @@ wordsOf (high ∷ []) = []
 wordsOf (high ∷ low ∷ bytes) = (high * 256 + low) ∷ wordsOf bytes
 
 -- The word whose high byte is byte `at`, from 0 on.
-abbrev pub wordAt : List ℕ → ℕ → ℕ
-wordAt bytes at = getD bytes at 0 * 256 + getD bytes (at + 1) 0
+abbrev pub wordAtByte : List ℕ → ℕ → ℕ
+wordAtByte bytes at = getD bytes at 0 * 256 + getD bytes (at + 1) 0

@@ -2,7 +2,7 @@
 ghost use mathlib.Core.Path.{_≡_};
 ghost use Prim.Native.Nat.{_+_, _*_, _/_, _%_, _<_};
 ghost use lib.ListN.{length, set};
-ghost use Rattle.octets.specs.Octets.{bytesOf, wordsOf, wordAt};
+ghost use Rattle.octets.specs.Octets.{bytesOf, wordsOf, wordAtByte};
 
 // Writes a word as two bytes, high byte first, from byte `at` on.
 pub fn put_word(out: &mut [u8], at: usize, word: u16)
@@ -28,7 +28,7 @@ pub fn put_words(words: &[u16], out: &mut [u8])
 // The word whose high byte is byte `at`.
 pub fn word_at(bytes: &[u8], at: usize) -> u16
     requires { ⌜ at + 1 < length (now bytes) ⌝ }
-    ensures { λ r. ⌜ r ≡ wordAt (now (bytes .entry)) at ⌝ }
+    ensures { λ r. ⌜ r ≡ wordAtByte (now (bytes .entry)) at ⌝ }
 {
     let high = bytes[at] as u16;
     let low = bytes[at + 1] as u16;

@@ -34,20 +34,20 @@ toldJudgedOf j =
     }
 
 -- What a call answers in C, and the words or bytes of the slice that it may write, after it.
-pub record Handed : Type 0 where
+pub record HandedToC : Type 0 where
   pub answer : OfbAnswer
   pub lent : List ℕ
 
 -- The answer and the slice, as a call has them.
-abbrev pub handed : OfbAnswer → List ℕ → Handed
+abbrev pub handed : OfbAnswer → List ℕ → HandedToC
 handed a ws = record { answer = a; lent = ws }
 
 -- A call that may write a book, as C gets it.
-abbrev pub outcomeInC : Outcome → Handed
+abbrev pub outcomeInC : Outcome → HandedToC
 outcomeInC o = handed (toldOf (o .answer)) (o .words)
 
 -- A call that writes an output, as C gets it.
-abbrev pub writingInC : Writing → Handed
+abbrev pub writingInC : Writing → HandedToC
 writingInC w = handed (toldWrittenOf (w .answer)) (w .out)
 
 -- A part of an order, as C gets it: the word at which it starts, and how many words it has.

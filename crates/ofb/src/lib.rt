@@ -8,7 +8,7 @@ ghost use Rattle.section.specs.Near.{Small};
 ghost use Rattle.verdicts.specs.Expecting.{judgementOf};
 ghost use Rattle.effects.specs.Calls.{teachOf, withdrawOf};
 ghost use Rattle.sums.specs.Joining.{joinOf};
-ghost use Rattle.book.specs.Checking.{checkOf};
+ghost use Rattle.book.specs.Checking.{agreeOf};
 ghost use Rattle.files.specs.Files.{writeFileOf, readFileOf};
 ghost use Rattle.form.specs.Reading.{readOf};
 ghost use Rattle.form.specs.Writing.{writeOf};
@@ -133,7 +133,7 @@ pub extern "C" fn ofb_judge(book: &[u16], order: &[u16]) -> OfbJudged
 // Whether a book agrees with itself: `agree::check`.
 #[no_mangle]
 pub extern "C" fn ofb_check(book: &[u16]) -> OfbAnswer
-    ensures { λ r. ⌜ r ≡ toldOf (checkOf (now (book .entry))) ⌝ }
+    ensures { λ r. ⌜ r ≡ toldOf (agreeOf (now (book .entry))) ⌝ }
 {
     let answer = agree::check(book);
     told(answer)

@@ -47,7 +47,7 @@ fn write_entry(
     ensures came { λ r. ⌜ r ≡ 2 + length (cutOf (now (order .entry)) (line * 2) d) ⌝ }
     ensures wrote { λ _. ⌜ now (out .exit) ≡ over (entryWords (counted (cutOf (now (order .entry)) (line * 2) d) times)) (now (out .entry)) ⌝ }
 {
-    let count = cuts::put_line(order, spans, levels, line, d, &mut out[2..]);
+    let count = cuts::put_cut(order, spans, levels, line, d, &mut out[2..]);
     let nodes = count / 2;
     out[0] = nodes as u16;
     out[1] = times;

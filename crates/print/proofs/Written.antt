@@ -22,7 +22,7 @@ use Rattle.trees.proofs.Lines.{from-spot}
 use Rattle.trees.proofs.Spots.{top-spot}
 use Rattle.trees.proofs.LineSpans.{span-is}
 use Rattle.form.specs.Text.{code-size, Line, linesOf, levelText, lineText, spell, textOf}
-use Rattle.form.specs.Reading.{wordsOf}
+use Rattle.form.specs.Reading.{wordsOfLines}
 use Rattle.form.specs.Writing.{writeOf}
 use Rattle.form.specs.Turns.{linesIn, levelsOf, ShortLines}
 use Rattle.form.proofs.Counts.{length-words}
@@ -37,14 +37,14 @@ unfolding linesIn byOrder
 lines-in s t p = rw (p .is)
 
 -- The words of lines behind others stand behind theirs.
-words-behind : (xs ys : List Line) → drop (2 * length xs) (wordsOf (xs ++ ys)) ≡ wordsOf ys
-unfolding wordsOf
+words-behind : (xs ys : List Line) → drop (2 * length xs) (wordsOfLines (xs ++ ys)) ≡ wordsOfLines ys
+unfolding wordsOfLines
 words-behind [] ys = refl
 words-behind (x ∷ xs) ys = let z : 2 * suc (length xs) ≡ suc (suc (2 * length xs)) = omega arith in rw z (words-behind xs ys)
 
 -- What is known of the lines of an order that passes: it is their words, and they are not too many.
 pub record Known (s : List ℕ) (xs : List Line) : Type 0 where
-  pub spelt : s ≡ wordsOf xs
+  pub spelt : s ≡ wordsOfLines xs
   pub twice : length s ≡ 2 * length xs
   pub few : length xs ≤ most-nodes
 
@@ -53,7 +53,7 @@ pub known : (s : List ℕ) → causeOf s ≡ done → Known s (linesIn s)
 known s e =
     let p = has-tree s e .passes in
     let t = has-tree s e .tree in
-    let w : s ≡ wordsOf (linesIn s) = p .spelt ∙ sym (lines-words t 0) ∙ ap wordsOf (sym (lines-in s t p)) in
+    let w : s ≡ wordsOfLines (linesIn s) = p .spelt ∙ sym (lines-words t 0) ∙ ap wordsOfLines (sym (lines-in s t p)) in
     let z : length s ≡ 2 * length (linesIn s) = ap length w ∙ length-words (linesIn s) in
     record { spelt = w; twice = z; few = omega (arith, size t, ap length (p .spelt), p .nodes) }
 
@@ -155,14 +155,14 @@ next-of xs out₀ out line at x before after room same e l b o =
 module _ (s levels : List ℕ) (fine : causeOf s ≡ done) (levelled : LinesLevelled s levels) (line : ℕ) where
   -- The line behind those before is the one that is read.
   this-line : (x : Line) (before after : List Line) → linesIn s ≡ before ++ (x ∷ after) → length before ≡ line → x ≡ record { level = getD levels line 0; code = getD s (2 * line) 0 }
-  unfolding levelsOf wordsOf
+  unfolding levelsOf wordsOfLines
   this-line x before after e l =
       let n : length (linesIn s) ≡ line + suc (length after) = ap length e ∙ length-append before (x ∷ after) ∙ ap (λ (m : ℕ). m + suc (length after)) l in
       let level : getD levels line 0 ≡ x .level =
       sym (getD-take (length (linesIn s)) levels line 0 (omega arith)) ∙ ap (λ (r : List ℕ). getD r line 0) (levels-listed s levels fine levelled ∙ ap levelsOf e ∙ levels-append before (x ∷ after)) ∙ getD-at (levelsOf before) (x .level) (levelsOf after) 0 line (levels-size before ∙ l) in
       let m : 2 * length before + 0 ≡ 2 * line = omega arith in
       let code : getD s (2 * line) 0 ≡ x .code =
-      ap (λ (i : ℕ). getD s i 0) (sym m) ∙ sym (getD-drop (2 * length before) s 0 0) ∙ ap (λ (r : List ℕ). getD (drop (2 * length before) r) 0 0) (known s fine .spelt ∙ ap wordsOf e) ∙ ap (λ (r : List ℕ). getD r 0 0) (words-behind before (x ∷ after)) in
+      ap (λ (i : ℕ). getD s i 0) (sym m) ∙ sym (getD-drop (2 * length before) s 0 0) ∙ ap (λ (r : List ℕ). getD (drop (2 * length before) r) 0 0) (known s fine .spelt ∙ ap wordsOfLines e) ∙ ap (λ (r : List ℕ). getD r 0 0) (words-behind before (x ∷ after)) in
       let is : _≡_ {A = Line} (record { level = x .level; code = x .code }) (record { level = getD levels line 0; code = getD s (2 * line) 0 }) = cc in
       is
 

@@ -22,7 +22,7 @@ use Rattle.trees.specs.Fits.{IsOrder}
 use Rattle.trees.specs.Parts.{top, isLow}
 use Rattle.trees.proofs.Fitting.{order-read, read-order}
 use Rattle.form.specs.Text.{textOf}
-use Rattle.form.specs.Reading.{Form, fault, form, byForm, formOf, wordsOf}
+use Rattle.form.specs.Reading.{Form, fault, form, byForm, formOf, wordsOfLines}
 use Rattle.form.proofs.Trips.{form-order}
 use Rattle.book.specs.Book.{Book, used}
 use Rattle.book.specs.Opening.{outcome, openOf}
@@ -35,7 +35,7 @@ use Rattle.effects.specs.Calls.{teachOf, withdrawOf}
 use Rattle.effects.specs.Conditions.{_exactly-when_}
 use Rattle.effects.proofs.Conditions.{teach-refusal-leaves, withdraw-refusal-leaves}
 use Rattle.reply.specs.Replies.{reply}
-use Rattle.sheet.specs.Sheets.{letter-K, letterByte, Call as Asking, Handed, faulty, handed, handedIn, openingBy, openingOf, frontAnswer}
+use Rattle.sheet.specs.Sheets.{letter-K, letterByte, FormCall, Handed, faulty, handed, handedIn, openingBy, openingOf, frontAnswer}
 use Rattle.sheet.specs.declared.Front.the-variants.{Fault}
 use Rattle.sheet.specs.declared.Letter.{Letter}
 use Rattle.sheet.specs.declared.Letter.the-variants.{Teach, Withdraw, Judge}
@@ -52,7 +52,7 @@ use Rattle.promises.proofs.Uniqueness.{booked-is}
 -- ---- the book after forms
 
 -- The book after forms is the book after the calls that they make.
-pub book-after : (cs : List Asking) (ws : List ℕ) → bookAfter cs ws ≡ after (madeBy cs) ws
+pub book-after : (cs : List FormCall) (ws : List ℕ) → bookAfter cs ws ≡ after (madeBy cs) ws
 book-after = forms-after
 
 -- ---- the desk's slice
@@ -101,15 +101,15 @@ fault-alone input a e = go (handedIn input) refl
     go (handed k cs) q = absurd (let z : _≡_ {A = ℕ} 0 1 = cc in omega arith)
 
 -- "a refusal changes nothing lent to the call": a form that is answered by another number than 0 leaves the book as it came.
-pub desk-leaves : (c : Asking) (book : List ℕ) → (callOf c book .answer .number ≡ done → ⊥) → callOf c book .words ≡ book
+pub desk-leaves : (c : FormCall) (book : List ℕ) → (callOf c book .answer .number ≡ done → ⊥) → callOf c book .words ≡ book
 unfolding callOf byForm askOf
 desk-leaves c book r = go (formOf (c .text)) (c .letter) refl refl
   where
     -- By what the text is, and the letter.
     go : (f : Form) (x : Letter) → formOf (c .text) ≡ f → c .letter ≡ x → callOf c book .words ≡ book
     go (fault n line) x e l = rw e
-    go (form xs) Teach e l = rw (e, l) (teach-refusal-leaves book (wordsOf xs) (λ z. r (rw (e, l) z)))
-    go (form xs) Withdraw e l = rw (e, l) (withdraw-refusal-leaves book (wordsOf xs) (λ z. r (rw (e, l) z)))
+    go (form xs) Teach e l = rw (e, l) (teach-refusal-leaves book (wordsOfLines xs) (λ z. r (rw (e, l) z)))
+    go (form xs) Withdraw e l = rw (e, l) (withdraw-refusal-leaves book (wordsOfLines xs) (λ z. r (rw (e, l) z)))
     go (form xs) Judge e l = rw (e, l)
 
 -- A form below J leaves the book as it came.
@@ -118,14 +118,14 @@ unfolding callOf byForm askOf
 judging-leaves text book = go (formOf text)
   where
     -- By what the text is.
-    go : (f : Form) → byForm f (λ n line. outcome (record { number = n; line = line }) book) (λ xs. askOf Judge book (wordsOf xs)) .words ≡ book
+    go : (f : Form) → byForm f (λ n line. outcome (record { number = n; line = line }) book) (λ xs. askOf Judge book (wordsOfLines xs)) .words ≡ book
     go (fault n line) = refl
     go (form xs) = refl
 
 -- ---- what the desk prints
 
 -- An input without fault: k and forms are handed in.
-module _ (input : List ℕ) (k : ℕ) (cs : List Asking) (is : handedIn input ≡ handed k cs) where
+module _ (input : List ℕ) (k : ℕ) (cs : List FormCall) (is : handedIn input ≡ handed k cs) where
   -- Its k is 2 to 6.
   pub handed-k : (least-k ≤ k) × (k ≤ greatest-k)
   handed-k = allowed-k input k cs is
@@ -156,18 +156,18 @@ module _ (input : List ℕ) (k : ℕ) (cs : List Asking) (is : handedIn input �
       prints ∙ ap₂ (λ (a : Answer) (n : ℕ). reply letter-K a n ++ linesFor cs opened) opens-by-0 u
 
   -- "and one for each form": its answer on the book as the forms before it left it, and the words used then.
-  pub line-of-each : (front : List Asking) (c : Asking) (back : List Asking) → cs ≡ front ++ (c ∷ back)
+  pub line-of-each : (front : List FormCall) (c : FormCall) (back : List FormCall) → cs ≡ front ++ (c ∷ back)
       → deskOf input
       ≡ lineFor letter-K (openOf blank k)
       ++ (linesFor front opened
       ++ (lineFor (letterByte (c .letter)) (callOf c (bookAfter front opened)) ++ linesFor back (bookAfter (front ++ (c ∷ [])) opened)))
   line-of-each front c back e =
       prints
-      ∙ ap (λ (l : List Asking). lineFor letter-K (openOf blank k) ++ linesFor l opened) e
+      ∙ ap (λ (l : List FormCall). lineFor letter-K (openOf blank k) ++ linesFor l opened) e
       ∙ ap (λ (l : List ℕ). lineFor letter-K (openOf blank k) ++ l) (lines-split front c back opened)
 
   -- After some of the forms, from the first on.
-  module _ (front : List Asking) where
+  module _ (front : List FormCall) where
     -- The desk's book.
     abbrev pub desk-book : List ℕ
     desk-book = bookAfter front opened
@@ -249,13 +249,13 @@ module _ (input : List ℕ) (k : ℕ) (cs : List Asking) (is : handedIn input �
         (λ z. p .0 (sym e ∙ z), λ q. e ∙ p .1 q)
 
     -- Fewer than 65,535 orders remain of forms that have one behind them: each takes a byte of the input at least.
-    fewer-remain : (c : Asking) (back : List Asking) → cs ≡ front ++ (c ∷ back) → length desk-orders < greatest-count
+    fewer-remain : (c : FormCall) (back : List FormCall) → cs ≡ front ++ (c ∷ back) → length desk-orders < greatest-count
     fewer-remain c back e =
         let n : length cs ≡ length front + length (c ∷ back) = ap length e ∙ length-append front (c ∷ back) in
         omega (arith, few-left (madeBy front) opened [] (forms-one front), forms-make front, few-calls input k cs is)
 
     -- Teaching an order is done or refused by 6.
-    teaching-number : (c : Asking) (back : List Asking) → cs ≡ front ++ (c ∷ back) → (os : List ℕ) (t : Tree) → IsOrder os t
+    teaching-number : (c : FormCall) (back : List FormCall) → cs ≡ front ++ (c ∷ back) → (os : List ℕ) (t : Tree) → IsOrder os t
         → DeskNumber Teach (teachOf (after (madeBy front) opened) os .answer .number)
     teaching-number c back e os t o = go (decLt (length blank) (used (booked k (os ∷ desk-orders))))
       where
@@ -282,7 +282,7 @@ module _ (input : List ℕ) (k : ℕ) (cs : List Asking) (is : handedIn input �
     -- The numbers that the desk prints for a form: 0, 2 and 10, below T 6, below W 8, below J 20, 21 and 22, and no others. 1 is not printed, since a text that is read is an order; 3
     -- and 4 are not, since a form opens no book and the desk's has a size for one; 5 and 9 are not, since it is in form and agrees with itself; 7 is not,
     -- since fewer orders remain than the input has bytes; 11 to 14 are not, since an order has room and no file is read.
-    pub desk-numbers : (c : Asking) (back : List Asking) → cs ≡ front ++ (c ∷ back) → DeskNumber (c .letter) (callOf c desk-book .answer .number)
+    pub desk-numbers : (c : FormCall) (back : List FormCall) → cs ≡ front ++ (c ∷ back) → DeskNumber (c .letter) (callOf c desk-book .answer .number)
     unfolding callOf byForm askOf
     desk-numbers c back e = by-form (formOf (c .text)) refl
       where
@@ -297,13 +297,13 @@ module _ (input : List ℕ) (k : ℕ) (cs : List Asking) (is : handedIn input �
         -- By what the text is.
         by-form : (f : Form) → formOf (c .text) ≡ f
             → DeskNumber (c .letter) (byForm f (λ n line. outcome (record { number = n; line = line }) desk-book)
-            (λ xs. askOf (c .letter) desk-book (wordsOf xs)) .answer .number)
+            (λ xs. askOf (c .letter) desk-book (wordsOfLines xs)) .answer .number)
         by-form (fault n line) q = text-refused-by (c .letter) (c .text) q
-        by-form (form xs) q = let f = form-order (c .text) xs q in by-letter (c .letter) (wordsOf xs) (f .0) (read-order (wordsOf xs) (f .0) (f .1))
+        by-form (form xs) q = let f = form-order (c .text) xs q in by-letter (c .letter) (wordsOfLines xs) (f .0) (read-order (wordsOfLines xs) (f .0) (f .1))
 
   -- The line of each form: its letter, its answer on the book as the forms before it left it, and the words used of the book of the orders that remain
   -- after it.
-  pub line-says : (front : List Asking) (c : Asking) → lineFor (letterByte (c .letter)) (callOf c (desk-book front))
+  pub line-says : (front : List FormCall) (c : FormCall) → lineFor (letterByte (c .letter)) (callOf c (desk-book front))
       ≡ reply (letterByte (c .letter)) (callOf c (desk-book front) .answer) (used (booked k (desk-orders (front ++ (c ∷ [])))))
   unfolding lineFor
   line-says front c =

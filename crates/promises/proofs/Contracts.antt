@@ -26,7 +26,7 @@ use Rattle.book.specs.Opening.{outcome, openOf}
 use Rattle.verdicts.specs.Expecting.{judgementOf}
 use Rattle.effects.specs.Calls.{teachOf, withdrawOf}
 use Rattle.sums.specs.Joining.{joinOf}
-use Rattle.book.specs.Checking.{checkOf as agreesOf}
+use Rattle.book.specs.Checking.{agreeOf}
 use Rattle.files.specs.Files.{writeFileOf, readFileOf}
 use Rattle.sheet.specs.Sheets.{letterByte, openingOf}
 use Rattle.calls.specs.Steps.{stepping, beginOf, stepOf}
@@ -271,7 +271,7 @@ module _ {M : Type 1} (𝓤 : URA.URA M) (H : Wp.Heap 𝓤) (A : Atoms.Atoms �
 
   -- `agree::check`
   pub check-says : (κs args g r : _) → let c = agree-check.spec 𝓤 H A mem run κs args in
-      (c .ghost ≡ Unit {0}) × (c .requires g ≡ ⊤ₛ) × (c .ensures g r ≡ exits 𝓤 H A agree-check.signature (agree-check.ended .kept) κs args (λ end. ⌜ r ≡ agreesOf (now (args .0)) ⌝))
+      (c .ghost ≡ Unit {0}) × (c .requires g ≡ ⊤ₛ) × (c .ensures g r ≡ exits 𝓤 H A agree-check.signature (agree-check.ended .kept) κs args (λ end. ⌜ r ≡ agreeOf (now (args .0)) ⌝))
   check-says κs args g r = (refl, refl, refl)
 
   -- `store::write`

@@ -39,7 +39,7 @@ use Rattle.effects.proofs.Whys.{teach-why, teach-only, withdraw-why, withdraw-o
 use Rattle.effects.proofs.Conditions.{teach-refusal-leaves, withdraw-refusal-leaves, teach-line, withdraw-line}
 use Rattle.sums.specs.Joining.{joinOf}
 use Rattle.sums.proofs.Joins.{join-line, join-leaves as join-refusal-leaves}
-use Rattle.book.specs.Checking.{checkOf as agreesOf}
+use Rattle.book.specs.Checking.{agreeOf}
 use Rattle.book.proofs.Openings.{open-line}
 use Rattle.book.proofs.Checking.{check-line as agrees-line}
 use Rattle.files.specs.Files.{writeFileOf, readFileOf}
@@ -117,7 +117,7 @@ module _ (ws os text file out : List ℕ) (k line d : ℕ) where
   judge-rows = (judged-is ws os, judged-only ws os)
 
   -- "Check: 4, 5, 9."
-  pub check-rows : Exactly (WhyChecked ws) (agreesOf ws)
+  pub check-rows : Exactly (WhyChecked ws) (agreeOf ws)
   check-rows = (checked-why ws, checked-only ws)
 
   -- "Write text: 1, 2, 11."
@@ -183,7 +183,7 @@ module _ (ws os text file out : List ℕ) (k line d : ℕ) where
   withdraw-no-line = withdraw-line ws os
 
   -- `agree::check`
-  pub check-no-line : agreesOf ws .line ≡ 0
+  pub check-no-line : agreeOf ws .line ≡ 0
   check-no-line = agrees-line ws
 
   -- `print::write`
@@ -276,7 +276,7 @@ module _ (ws os text file out : List ℕ) (k line d : ℕ) where
   one-joining vs = two-outcomes
 
   -- `agree::check`
-  pub one-agreement : {r s : Answer} → r ≡ agreesOf ws → s ≡ agreesOf ws → r ≡ s
+  pub one-agreement : {r s : Answer} → r ≡ agreeOf ws → s ≡ agreeOf ws → r ≡ s
   one-agreement = same
 
   -- `store::write`

@@ -19,12 +19,12 @@ use Rattle.trees.specs.Trees.{Tree, node, Good, subtrees, below}
 use Rattle.trees.specs.Fits.{IsOrder}
 use Rattle.trees.specs.Paper.{StrictlyBelow, IsR}
 use Rattle.trees.specs.Reading.{found}
-use Rattle.trees.specs.Answers.{lineOf, writing, write}
+use Rattle.trees.specs.Answers.{treeOfLine, writing, write}
 use Rattle.trees.proofs.Cutting.{subtree-good}
 use Rattle.trees.proofs.Fitting.{order-read}
 use Rattle.form.specs.Text.{Line, digit-0, space, line-feed, code-size, linesOf, levelText, codeText, lineText, spell, textOf}
-use Rattle.form.specs.Reading.{isDigit, speltOf, form, readLines, children, wordsOf, readOf}
-use Rattle.form.specs.Faults.{Below, greatest-level}
+use Rattle.form.specs.Reading.{isDigit, speltOf, form, readLines, children, wordsOfLines, readOf}
+use Rattle.form.specs.Faults.{ChildrenBehind, greatest-level}
 use Rattle.form.specs.Writing.{writeOf}
 use Rattle.form.specs.declared.reading.LineRead.the-variants.{Node}
 use Rattle.form.proofs.Digits.{value-digits, line-read}
@@ -44,7 +44,7 @@ use Rattle.verdicts.proofs.Answers.{answered-passes, passes-answered}
 use Rattle.effects.specs.Conditions.{_exactly-when_}
 use Rattle.files.specs.Files.{front-bytes, fileOf, writeFileOf, readFileOf}
 use Rattle.promises.specs.Agreement.{Agrees}
-use Rattle.promises.specs.Forms.{LevelInTens, InTens, Stands, ComesBack, LinesBelow, PartKnown, NoLineUnknown, LineWanted, Told}
+use Rattle.promises.specs.Forms.{LevelInTens, InTens, LineStands, ComesBack, LinesBelow, PartKnown, NoLineUnknown, LineWanted, Told}
 use Rattle.promises.proofs.Laws.FormLines.{level-tens, tens-level, tens-most, lines-below, below-by-lines}
 use Rattle.promises.proofs.Laws.LineNumbers.{unpassed, told, wanted-told, unknown-told, unknown-top}
 use Rattle.promises.proofs.Laws.FileWhys.{agrees-filed}
@@ -80,7 +80,7 @@ wanted-only = wanted-told
 
 -- so that an order with an unknown line, wherever it stands, is told one by 21 or 22.
 pub unknown-line-told : (ws os : List ℕ) (b : Book) (t : Tree) → IsBook ws b → IsOrder os t
-    → (line : ℕ) (s : Tree) → lineOf line (subtrees t) ≡ found s → (PartKnown b s → ⊥) → low-unknown ≤ judgeOf ws os .number
+    → (line : ℕ) (s : Tree) → treeOfLine line (subtrees t) ≡ found s → (PartKnown b s → ⊥) → low-unknown ≤ judgeOf ws os .number
 unknown-line-told = unknown-told
 
 -- "Answer 20 is given only when no line is unknown", and then exactly if the top is unknown; "whose line stays 1".
@@ -90,9 +90,9 @@ top-line = unknown-top
 
 -- "strictly below": the trees strictly below a line's subtree are those of the lines of the form that stand below the line, and these are the lines that follow
 -- it with higher levels, up to the next line of its level or above; no other line, however late it stands.
-pub below-in-the-form : (t s : Tree) (line : ℕ) → lineOf line (subtrees t) ≡ found s
+pub below-in-the-form : (t s : Tree) (line : ℕ) → treeOfLine line (subtrees t) ≡ found s
     → LinesBelow (linesOf t 0) line (length (below s))
-    × ((u : Tree) → StrictlyBelow s u exactly-when (j : ℕ) × (line < j) × (j ≤ line + length (below s)) × (lineOf j (subtrees t) ≡ found u))
+    × ((u : Tree) → StrictlyBelow s u exactly-when (j : ℕ) × (line < j) × (j ≤ line + length (below s)) × (treeOfLine j (subtrees t) ≡ found u))
 below-in-the-form t s line q = (lines-below t s line q, λ u. below-by-lines t s u line q)
 
 -- ---- "Codes are read as decimal.", and so are levels
@@ -116,7 +116,7 @@ unfolding topCode Good
 top-code (node c f) g = g .0 .1
 
 -- Each of some lines stands in their text.
-spelt-stands : (xs : List Line) (x : Line) → x ∈ xs → Stands (spell xs) x
+spelt-stands : (xs : List Line) (x : Line) → x ∈ xs → LineStands (spell xs) x
 unfolding spell lineText
 spelt-stands (y ∷ ys) x (here e) = record { front = []; rest = spell ys; is = rw e (append-assoc (levelText (y .level)) (codeText (y .code)) (spell ys)) }
 spelt-stands (y ∷ ys) x (there m) =
@@ -144,7 +144,7 @@ levels-read-in-tens l text tens c most rest =
 -- every line that is read: each line stands in the order's text, with its level and its code in tens. The text is that of its lines (`textOf`), line i
 -- having the code of the top of the subtree of line i (`lines-subtrees`, form/proofs/TreeLines.antt).
 pub every-line-in-tens : (os : List ℕ) (t : Tree) → IsOrder os t → (x : Line) → x ∈ linesOf t 0
-    → Stands (textOf t) x × LevelInTens (x .level) (levelText (x .level)) × InTens (x .code) (codeText (x .code))
+    → LineStands (textOf t) x × LevelInTens (x .level) (levelText (x .level)) × InTens (x .code) (codeText (x .code))
 unfolding textOf
 every-line-in-tens os t o x m =
     let n : x .code ∈ map topCode (subtrees t) = subst (λ (cs : List ℕ). x .code ∈ cs) (lines-subtrees t 0) (Memᴰ·map (λ (y : Line). y .code) m) in
@@ -180,9 +180,9 @@ no-letter = byte-refused
 -- "One line per node in preorder: level": in the form of an order each line has the code of its node, and as many children among the lines as its node
 -- has: these are the lines one level deeper that stand below it, before the next line of its level or above.
 pub levels-say-the-tree : (os : List ℕ) (t : Tree) → IsOrder os t → (before : List Line) (x : Line) (behind : List Line) → linesOf t 0 ≡ before ++ (x ∷ behind)
-    → (getD os (2 * length before) 0 ≡ x .code) × ((n : ℕ) → (getD os (2 * length before + 1) 0 ≡ n) exactly-when Below (x .level) behind n)
+    → (getD os (2 * length before) 0 ≡ x .code) × ((n : ℕ) → (getD os (2 * length before + 1) 0 ≡ n) exactly-when ChildrenBehind (x .level) behind n)
 levels-say-the-tree os t o before x behind e =
-    let is : os ≡ wordsOf (before ++ (x ∷ behind)) = o .spelt ∙ sym (lines-words t 0) ∙ ap wordsOf e in
+    let is : os ≡ wordsOfLines (before ++ (x ∷ behind)) = o .spelt ∙ sym (lines-words t 0) ∙ ap wordsOfLines e in
     let count : getD os (2 * length before + 1) 0 ≡ children (x .level) behind = ap (λ (ws : List ℕ). getD ws (2 * length before + 1) 0) is ∙ kids x behind before in (
       ap (λ (ws : List ℕ). getD ws (2 * length before) 0) is ∙ line-code x behind before,
       λ n. (λ q. counted-below (x .level) behind n (sym count ∙ q), λ r. count ∙ below-counted (x .level) behind n r),

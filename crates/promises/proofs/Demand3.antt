@@ -28,7 +28,7 @@ use Rattle.effects.specs.Calls.{teachOf, withdrawOf}
 use Rattle.effects.specs.Conditions.{_exactly-when_}
 use Rattle.sums.specs.Joining.{CountsAdded, joinOf}
 use Rattle.sums.proofs.Joins.{either-way, regrouped, regrouped-back, join-empty}
-use Rattle.book.specs.Checking.{checkOf}
+use Rattle.book.specs.Checking.{agreeOf}
 use Rattle.files.specs.Files.{fileOf, writeFileOf, readFileOf}
 use Rattle.promises.specs.Remaining.{Call, afterBy, after, ordersIn, remainingBy, remaining, timesOf, SameOrders, taughtAll, NoneRefused, booked, ExactlyThese, MadeOf}
 use Rattle.promises.specs.Starts.{Start, opening, reading, startedBy, taughtFirst, startK}
@@ -82,7 +82,7 @@ module _ (start : Start) (slice : List ℕ) (started : startedBy start slice .an
     in-every-word = taught-alone slice k (taughtFirst start) (startedBy start slice .words) (begins start slice started) cs
 
     -- It "agrees with itself": `agree::check` answers 0.
-    pub agrees-with-itself : checkOf book ≡ answered done
+    pub agrees-with-itself : agreeOf book ≡ answered done
     agrees-with-itself = grown-agrees slice k (taughtFirst start) (startedBy start slice .words) (begins start slice started) cs
 
     -- Demands 2 and 3 together: "A new order made only of parts the book has seen passes" and no other does. `judge::judge` answers 0 exactly if the

@@ -13,8 +13,8 @@ use Rattle.figures.specs.Numbers.{too-large}
 use Rattle.figures.specs.Answers.{answered}
 use Rattle.effects.specs.Conditions.{_exactly-when_}
 use Rattle.form.specs.Text.{line-feed}
-use Rattle.sheet.specs.Sheets.{letterByte, Call as Asking, Sheet, sheetOf, FirstLine, otherwise, asks, firstLine, faulty, handed, handedBy, byFirst, handedIn}
-use Rattle.sheet.specs.Joined.{joinedCalls, joined, StartsLine, nothing-before, LetterLine, Plain, Parts, part}
+use Rattle.sheet.specs.Sheets.{letterByte, FormCall, Sheet, sheetOf, FirstLine, otherwise, asks, firstLine, faulty, handed, handedBy, byFirst, handedIn}
+use Rattle.sheet.specs.Joined.{joinedCalls, sheetBytes, StartsLine, nothing-before, LetterLine, Plain, Parts, part}
 use Rattle.sheet.specs.declared.Letter.{Letter}
 use Rattle.sheet.proofs.Meaning.{sheet-is, sheet-only, parts-first, parts-plain, joined-both, joined-more, parts-both, parts-start}
 use Rattle.sheet.proofs.Reasons.{first-is, first-only}
@@ -23,28 +23,28 @@ use Rattle.promises.specs.DeskInput.{InputIs, LetterBehind, BeginsForm}
 -- ---- what is handed in
 
 -- If a sheet is handed in, no bytes stand before its calls, and k and the calls are handed in as they are.
-handed-as : (j : ℕ) (bs : List ℕ) (ds : List Asking) (k : ℕ) (cs : List Asking) → handedBy j bs ds ≡ handed k cs → (j ≡ k) × (bs ≡ []) × (ds ≡ cs)
+handed-as : (j : ℕ) (bs : List ℕ) (ds : List FormCall) (k : ℕ) (cs : List FormCall) → handedBy j bs ds ≡ handed k cs → (j ≡ k) × (bs ≡ []) × (ds ≡ cs)
 unfolding handedBy
 handed-as j [] ds k cs e = (cc, refl, cc)
 handed-as j (b ∷ bs) ds k cs e = absurd (let z : _≡_ {A = ℕ} 0 1 = cc in omega arith)
 
 -- Bytes with nothing before their calls are the calls, one after the other;
-rest-joined : (rest : List ℕ) (cs : List Asking) → sheetOf rest .before ≡ [] → sheetOf rest .calls ≡ cs → rest ≡ joinedCalls cs
-unfolding joined
-rest-joined rest cs b c = sym (sheet-is rest .joins) ∙ ap₂ (λ (bs : List ℕ) (ds : List Asking). bs ++ joinedCalls ds) b c
+rest-joined : (rest : List ℕ) (cs : List FormCall) → sheetOf rest .before ≡ [] → sheetOf rest .calls ≡ cs → rest ≡ joinedCalls cs
+unfolding sheetBytes
+rest-joined rest cs b c = sym (sheet-is rest .joins) ∙ ap₂ (λ (bs : List ℕ) (ds : List FormCall). bs ++ joinedCalls ds) b c
 
 -- and no letter line is inside one of these.
-rest-parts : (rest : List ℕ) (cs : List Asking) → sheetOf rest .before ≡ [] → sheetOf rest .calls ≡ cs → Parts [] cs
+rest-parts : (rest : List ℕ) (cs : List FormCall) → sheetOf rest .before ≡ [] → sheetOf rest .calls ≡ cs → Parts [] cs
 rest-parts rest cs b c =
-    subst (λ (bs : List ℕ). Parts bs cs) b (subst (λ (ds : List Asking). Parts (sheetOf rest .before) ds) c (sheet-is rest .parts))
+    subst (λ (bs : List ℕ). Parts bs cs) b (subst (λ (ds : List FormCall). Parts (sheetOf rest .before) ds) c (sheet-is rest .parts))
 
 -- Calls, one after the other, are split into themselves.
-calls-split : (cs : List Asking) → Parts [] cs → sheetOf (joinedCalls cs) ≡ record { before = []; calls = cs }
-unfolding joined
+calls-split : (cs : List FormCall) → Parts [] cs → sheetOf (joinedCalls cs) ≡ record { before = []; calls = cs }
+unfolding sheetBytes
 calls-split cs p = sheet-only (joinedCalls cs) (record { before = []; calls = cs }) (record { joins = refl; parts = p })
 
 -- An input, and what it may hand in.
-module _ (input : List ℕ) (k : ℕ) (cs : List Asking) where
+module _ (input : List ℕ) (k : ℕ) (cs : List FormCall) where
   -- What an allowed input hands in by its first line is what its bytes are.
   first-bytes : length input ≤ most-input → (f : FirstLine) → firstLine input ≡ f → byFirst f ≡ handed k cs → InputIs input k cs
   unfolding byFirst
@@ -76,22 +76,22 @@ module _ (input : List ℕ) (k : ℕ) (cs : List Asking) where
 -- ---- where forms begin
 
 -- Calls as they are written, one after the other, with no letter line inside.
-module _ (cs : List Asking) (p : Parts [] cs) where
+module _ (cs : List FormCall) (p : Parts [] cs) where
   -- Behind the bytes before a letter line its form begins.
   letter-begins : (l : LetterLine (joinedCalls cs)) → BeginsForm cs (l .front) (l .letter)
-  unfolding joined joinedCalls
+  unfolding sheetBytes joinedCalls
   letter-begins l =
       let s : Sheet = sheetOf (l .front) in
       let r : Sheet = sheetOf (l .rest) in
       let i = sheet-is (l .front) in
       let j = sheet-is (l .rest) in
-      let ds : List Asking = record { letter = l .letter; text = r .before } ∷ r .calls in
+      let ds : List FormCall = record { letter = l .letter; text = r .before } ∷ r .calls in
       let q : Parts [] ds = part (parts-first [] cs p) (nothing-before refl) (j .parts) in
       let all : Parts (s .before) (s .calls ++ ds) = parts-both (s .before) (s .calls) ds (i .parts) (subst StartsLine (sym (i .joins)) (l .starts)) q in
       let whole : Sheet = record { before = []; calls = cs } in
       let found : Sheet = record { before = s .before; calls = s .calls ++ ds } in
       let t : joinedCalls ds ≡ letterByte (l .letter) ∷ line-feed ∷ l .rest = ap (λ (bs : List ℕ). letterByte (l .letter) ∷ line-feed ∷ bs) (j .joins) in
-      let e : joined found ≡ joinedCalls cs = joined-more s ds ∙ ap₂ (λ (fs bs : List ℕ). fs ++ bs) (i .joins) t ∙ sym (l .is) in
+      let e : sheetBytes found ≡ joinedCalls cs = joined-more s ds ∙ ap₂ (λ (fs bs : List ℕ). fs ++ bs) (i .joins) t ∙ sym (l .is) in
       let same : whole ≡ found = sym (calls-split cs p) ∙ sheet-only (joinedCalls cs) found (record { joins = e; parts = all }) in
       record {
         before = s .calls;
@@ -127,21 +127,21 @@ module _ (cs : List Asking) (p : Parts [] cs) where
 
 -- "Line 1 is K, space, one digit, LF. Then a line of the one letter T, W or J and LF (teach, withdraw, judge) before each form; the form runs to the next
 -- such line or the end": what is handed in is split at every such line and nowhere else,
-pub desk-splits : (input : List ℕ) (k : ℕ) (cs : List Asking) → (handedIn input ≡ handed k cs) exactly-when InputIs input k cs
+pub desk-splits : (input : List ℕ) (k : ℕ) (cs : List FormCall) → (handedIn input ≡ handed k cs) exactly-when InputIs input k cs
 desk-splits input k cs = (handed-bytes input k cs, bytes-handed input k cs)
 
 -- and in no other way: an input hands in one k and the same forms.
-pub desk-one-way : (input : List ℕ) (j k : ℕ) (bs cs : List Asking) → InputIs input j bs → InputIs input k cs → (j ≡ k) × (bs ≡ cs)
+pub desk-one-way : (input : List ℕ) (j k : ℕ) (bs cs : List FormCall) → InputIs input j bs → InputIs input k cs → (j ≡ k) × (bs ≡ cs)
 desk-one-way input j k bs cs g h =
     let e : handed j bs ≡ handed k cs = sym (bytes-handed input j bs g) ∙ bytes-handed input k cs h in
     (cc, cc)
 
 -- No letter line stands among the bytes of a form that is handed in.
-pub desk-forms : (input : List ℕ) (k : ℕ) (cs : List Asking) → handedIn input ≡ handed k cs → (c : Asking) → c ∈ cs → Plain (c .text)
+pub desk-forms : (input : List ℕ) (k : ℕ) (cs : List FormCall) → handedIn input ≡ handed k cs → (c : FormCall) → c ∈ cs → Plain (c .text)
 desk-forms input k cs e c m = parts-plain [] cs (handed-bytes input k cs e .parts) c m
 
 -- Behind line 1 a form begins at every letter line, below its letter, and nowhere else.
-pub desk-letters : (input : List ℕ) (k : ℕ) (cs : List Asking) → handedIn input ≡ handed k cs → (front : List ℕ) (x : Letter)
+pub desk-letters : (input : List ℕ) (k : ℕ) (cs : List FormCall) → handedIn input ≡ handed k cs → (front : List ℕ) (x : Letter)
     → LetterBehind (joinedCalls cs) front x exactly-when BeginsForm cs front x
 desk-letters input k cs e front x =
     let p : Parts [] cs = handed-bytes input k cs e .parts in

@@ -12,7 +12,7 @@ use Rattle.trees.specs.Trees.{Tree, words}
 use Rattle.trees.specs.Fits.{IsOrder}
 use Rattle.trees.proofs.Fitting.{read-order}
 use Rattle.form.specs.Text.{Line, spell, textOf}
-use Rattle.form.specs.Reading.{Form, fault, form, byForm, formOf, wordsOf}
+use Rattle.form.specs.Reading.{Form, fault, form, byForm, formOf, wordsOfLines}
 use Rattle.form.specs.Faults.{FirstFault}
 use Rattle.form.proofs.FirstFault.{first-fault, fault-first}
 use Rattle.form.proofs.Trips.{form-order}
@@ -25,7 +25,7 @@ use Rattle.effects.specs.Calls.{teachOf, withdrawOf}
 use Rattle.effects.proofs.Whys.{teach-why, teach-only, withdraw-why, withdraw-only}
 use Rattle.reply.specs.Replies.{most-digits, decimal, field, reply, reply-room}
 use Rattle.reply.proofs.Meaning.{decimal-value, decimal-digits, decimal-bare}
-use Rattle.sheet.specs.Sheets.{letter-K, letterByte, Call as Asking, handed, handedIn}
+use Rattle.sheet.specs.Sheets.{letter-K, letterByte, FormCall, handed, handedIn}
 use Rattle.sheet.specs.declared.Letter.{Letter}
 use Rattle.sheet.specs.declared.Letter.the-variants.{Teach, Withdraw, Judge}
 use Rattle.ask.specs.Asking.{askOf, callOf}
@@ -68,7 +68,7 @@ no-bytes-answer x book = refl
 
 module _ (x : Letter) (text book : List ℕ) where
   -- The form.
-  abbrev this : Asking
+  abbrev this : FormCall
   this = record { letter = x; text = text }
 
   -- Its answer has its row, where its text is that of an order.
@@ -99,7 +99,7 @@ module _ (x : Letter) (text book : List ℕ) where
       go : (f : Form) (s : List ℕ) → text ≡ s → formOf s ≡ f → WhyAnswered x text book (callOf this book)
       go (form xs) s e q =
           let f = form-order s xs q in
-          let o = read-order (wordsOf xs) (f .0) (f .1) in
+          let o = read-order (wordsOfLines xs) (f .0) (f .1) in
           order-answered (f .0) (e ∙ sym (f .3)) (subst (λ (ws : List ℕ). IsOrder ws (f .0)) (o .spelt) o)
       go (fault n line) [] e q = no-text e (ap (λ (s : List ℕ). callOf (record { letter = x; text = s }) book) e ∙ no-bytes-answer x book)
       go (fault n line) (b ∷ bs) e q =
@@ -143,7 +143,7 @@ reply-says letter a used h k l = record {
 }
 
 -- A form of an input without fault, behind some others.
-module _ (input : List ℕ) (k : ℕ) (cs : List Asking) (is : handedIn input ≡ handed k cs) (front : List Asking) (c : Asking) (back : List Asking) (e : cs ≡ front ++ (c ∷ back)) where
+module _ (input : List ℕ) (k : ℕ) (cs : List FormCall) (is : handedIn input ≡ handed k cs) (front : List FormCall) (c : FormCall) (back : List FormCall) (e : cs ≡ front ++ (c ∷ back)) where
   -- The desk's book before it.
   abbrev book : List ℕ
   book = desk-book input k cs is front

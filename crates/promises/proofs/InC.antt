@@ -30,7 +30,7 @@ use Rattle.verdicts.specs.Expecting.{judgementOf}
 use Rattle.verdicts.specs.declared.Judgement.{Judgement}
 use Rattle.effects.specs.Calls.{teachOf, withdrawOf}
 use Rattle.sums.specs.Joining.{joinOf}
-use Rattle.book.specs.Checking.{checkOf}
+use Rattle.book.specs.Checking.{agreeOf}
 use Rattle.files.specs.Files.{writeFileOf, readFileOf}
 use Rattle.ofb.specs.Interface.{toldOf, toldWrittenOf, toldJudgedOf, handed, outcomeInC, writingInC, partInC}
 use Rattle.ofb.specs.declared.OfbAnswer.{OfbAnswer}
@@ -153,7 +153,7 @@ module _ {M : Type 1} (𝓤 : URA.URA M) (H : Wp.Heap 𝓤) (A : Atoms.Atoms �
 
   -- `ofb_check`
   pub ofb-check-says : (κs args g r : _) → let c = ofb-check.spec 𝓤 H A mem run κs args in
-      (c .ghost ≡ Unit {0}) × (c .requires g ≡ ⊤ₛ) × (c .ensures g r ≡ exits 𝓤 H A ofb-check.signature (ofb-check.ended .kept) κs args (λ end. ⌜ r ≡ toldOf (checkOf (now (args .0))) ⌝))
+      (c .ghost ≡ Unit {0}) × (c .requires g ≡ ⊤ₛ) × (c .ensures g r ≡ exits 𝓤 H A ofb-check.signature (ofb-check.ended .kept) κs args (λ end. ⌜ r ≡ toldOf (agreeOf (now (args .0))) ⌝))
   ofb-check-says κs args g r = (refl, refl, refl)
 
   -- `ofb_write_file`

@@ -10,13 +10,13 @@ use Rattle.figures.specs.Numbers.{done, too-large, no-room, not-taught, no-form
 use Rattle.trees.specs.Trees.{Tree, words}
 use Rattle.trees.specs.Fits.{IsOrder}
 use Rattle.form.specs.Text.{space, line-feed, textOf}
-use Rattle.form.specs.Reading.{byForm, formOf, wordsOf}
+use Rattle.form.specs.Reading.{byForm, formOf, wordsOfLines}
 use Rattle.form.specs.Faults.{FirstFault}
 use Rattle.book.specs.Opening.{Outcome, outcome}
 use Rattle.verdicts.specs.Verdicts.{Judged}
 use Rattle.effects.specs.Whys.{WhyTaught, WhyWithdrawn}
 use Rattle.reply.specs.Meaning.{allDigits, noLeadingZero, valueOf}
-use Rattle.sheet.specs.Sheets.{letterByte, Call as Asking}
+use Rattle.sheet.specs.Sheets.{letterByte, FormCall}
 use Rattle.sheet.specs.declared.Letter.{Letter}
 use Rattle.sheet.specs.declared.Letter.the-variants.{Teach, Withdraw, Judge}
 use Rattle.ask.specs.Asking.{callOf}
@@ -32,16 +32,16 @@ callFor Withdraw os = withdraw os ∷ []
 callFor Judge os = []
 
 -- The call that a form makes: none where its text is refused.
-unfoldable pub madeOf : Asking → List Call
-madeOf c = byForm (formOf (c .text)) (λ n line. []) (λ xs. callFor (c .letter) (wordsOf xs))
+unfoldable pub madeOf : FormCall → List Call
+madeOf c = byForm (formOf (c .text)) (λ n line. []) (λ xs. callFor (c .letter) (wordsOfLines xs))
 
 -- The calls that forms make, one after the other.
-unfoldable pub madeBy : List Asking → List Call
+unfoldable pub madeBy : List FormCall → List Call
 madeBy [] = []
 madeBy (c ∷ cs) = madeOf c ++ madeBy cs
 
 -- The book after forms.
-unfoldable pub bookAfter : List Asking → List ℕ → List ℕ
+unfoldable pub bookAfter : List FormCall → List ℕ → List ℕ
 bookAfter [] book = book
 bookAfter (c ∷ cs) book = bookAfter cs (callOf c book .words)
 

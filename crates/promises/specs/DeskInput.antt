@@ -6,12 +6,12 @@ use mathlib.Core.List.{List, [], _∷_, _++_}
 use lib.ListN.{length}
 use Rattle.figures.specs.Limits.{least-k, greatest-k, most-input}
 use Rattle.form.specs.Text.{digit-0, space, line-feed}
-use Rattle.sheet.specs.Sheets.{letter-K, Call as Asking}
+use Rattle.sheet.specs.Sheets.{letter-K, FormCall}
 use Rattle.sheet.specs.Joined.{joinedCalls, LetterLine, Parts}
 use Rattle.sheet.specs.declared.Letter.{Letter}
 
 -- The input is line 1 with that k, and these forms, each below its letter.
-pub record InputIs (input : List ℕ) (k : ℕ) (cs : List Asking) : Type 0 where
+pub record InputIs (input : List ℕ) (k : ℕ) (cs : List FormCall) : Type 0 where
   -- "at most 32,768 bytes"
   pub size : length input ≤ most-input
   -- "k is 2 to 6"
@@ -31,9 +31,9 @@ pub record LetterBehind (bytes front : List ℕ) (x : Letter) : Type 0 where
   pub of : line .letter ≡ x
 
 -- Of the forms one below the letter x begins behind the front: that is the forms before it, one after the other.
-pub record BeginsForm (cs : List Asking) (front : List ℕ) (x : Letter) : Type 0 where
-  pub before : List Asking
+pub record BeginsForm (cs : List FormCall) (front : List ℕ) (x : Letter) : Type 0 where
+  pub before : List FormCall
   pub text : List ℕ
-  pub later : List Asking
+  pub later : List FormCall
   pub forms : cs ≡ before ++ (record { letter = x; text = text } ∷ later)
   pub behind : joinedCalls before ≡ front

@@ -35,14 +35,14 @@ pub data PlaceAbove (key : List ℕ) (es : List Entry) (place : ℕ) : Type 0 wh
       → FirstDiffers (e .key) key place → PlaceAbove key es place
 
 -- "whether it is there", "and 0 for both when the part is there"
-pub data Stands (key : List ℕ) (es : List Entry) (r : Neighbours) : Type 0 where
-  it-is-there : HasKey key es → r .there ≡ true → r .low ≡ 0 → r .high ≡ 0 → Stands key es r
-  it-is-not : (HasKey key es → ⊥) → r .there ≡ false → PlaceBelow key es (r .low) → PlaceAbove key es (r .high) → Stands key es r
+pub data PartStands (key : List ℕ) (es : List Entry) (r : Neighbours) : Type 0 where
+  it-is-there : HasKey key es → r .there ≡ true → r .low ≡ 0 → r .high ≡ 0 → PartStands key es r
+  it-is-not : (HasKey key es → ⊥) → r .there ≡ false → PlaceBelow key es (r .low) → PlaceAbove key es (r .high) → PartStands key es r
 
 -- What a section says of a key: "how many entries stand below it", and the rest.
 pub record IsNear (key : List ℕ) (es : List Entry) (r : Neighbours) : Type 0 where
   pub below : HowMany (λ e. IsLower (e .key) key) es (r .below)
-  pub stands : Stands key es r
+  pub stands : PartStands key es r
 
 -- What judging hands on with an answer: "for the reported line, and for the top with answer 20; with any other answer it is all 0 and not there".
 pub data Expected (ws os : List ℕ) (a : Answer) (r : Neighbours) : Type 0 where

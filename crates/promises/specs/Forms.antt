@@ -9,7 +9,7 @@ use Rattle.figures.specs.Numbers.{done, top-unknown, low-unknown, middle-unknow
 use Rattle.figures.specs.declared.Answer.{Answer}
 use Rattle.trees.specs.Trees.{Tree, words, depth, subtrees}
 use Rattle.trees.specs.Reading.{found}
-use Rattle.trees.specs.Answers.{lineOf}
+use Rattle.trees.specs.Answers.{treeOfLine}
 use Rattle.trees.specs.Paper.{StrictlyBelow, IsR}
 use Rattle.form.specs.Text.{Line, digit-0, space, line-feed, levelText, codeText, lineText, spell, textOf}
 use Rattle.form.specs.Faults.{NoDeeper}
@@ -35,7 +35,7 @@ pub record InTens (code : ℕ) (text : List ℕ) : Type 0 where
   pub code-is : code ≡ a * 1000 + b * 100 + c * 10 + d
 
 -- A line stands in a text: behind some bytes its level, and behind that its code.
-pub record Stands (text : List ℕ) (x : Line) : Type 0 where
+pub record LineStands (text : List ℕ) (x : Line) : Type 0 where
   pub front : List ℕ
   pub rest : List ℕ
   pub is : text ≡ front ++ (levelText (x .level) ++ (codeText (x .code) ++ rest))
@@ -58,7 +58,7 @@ pub record ComesBack (t : Tree) (a : Answer) : Type 0 where
   pub first : 1 ≤ a .line
   pub last : a .line ≤ length (subtrees t)
   pub subtree : Tree
-  pub on : lineOf (a .line) (subtrees t) ≡ found subtree
+  pub on : treeOfLine (a .line) (subtrees t) ≡ found subtree
   pub read-aloud : Line
   pub stands : LineOfText (textOf t) (a .line) read-aloud
   pub its-code : read-aloud .code ≡ getD (words subtree) 0 0
@@ -85,13 +85,13 @@ pub record PartKnown (b : Book) (s : Tree) : Type 0 where
 
 -- "no line is unknown": the part of every line is in the book.
 abbrev pub NoLineUnknown : Book → Tree → Type 0
-NoLineUnknown b t = (line : ℕ) (s : Tree) → lineOf line (subtrees t) ≡ found s → PartKnown b s
+NoLineUnknown b t = (line : ℕ) (s : Tree) → treeOfLine line (subtrees t) ≡ found s → PartKnown b s
 
 -- A line "whose part is unknown while nothing strictly below it is unknown": strictly below it stands what document 000 has as s/x, where s is the line's
 -- subtree and x a position other than λ.
 pub record CanBeFixed (b : Book) (t : Tree) (line : ℕ) : Type 0 where
   pub subtree : Tree
-  pub on : lineOf line (subtrees t) ≡ found subtree
+  pub on : treeOfLine line (subtrees t) ≡ found subtree
   pub unknown : PartKnown b subtree → ⊥
   pub below-known : (u : Tree) → StrictlyBelow subtree u → PartKnown b u
 

@@ -49,14 +49,14 @@ unfoldable mutual
 -- ---- calls
 
 -- Opening at k; teaching, withdrawing and judging an order.
-pub data Asked : Type 0 where
-  opens : ℕ → Asked
-  teaches : Tree → Asked
-  withdraws : Tree → Asked
-  judges : Tree → Asked
+pub data CaseCall : Type 0 where
+  opens : ℕ → CaseCall
+  teaches : Tree → CaseCall
+  withdraws : Tree → CaseCall
+  judges : Tree → CaseCall
 
 -- What a call answers, and the words then. Judging leaves them as they came.
-abbrev pub called : Asked → List ℕ → Outcome
+abbrev pub called : CaseCall → List ℕ → Outcome
 called (opens k) ws = openOf ws k
 called (teaches t) ws = teachOf ws (words t)
 called (withdraws t) ws = withdrawOf ws (words t)
@@ -72,7 +72,7 @@ computed [] f = f []
 computed (w ∷ ws) f = computed ws (λ vs. f (w ∷ vs))
 
 -- What is heard of each call, on the words that the one before it left: "answer, line, words used".
-unfoldable pub heard : List Asked → List ℕ → List (List ℕ)
+unfoldable pub heard : List CaseCall → List ℕ → List (List ℕ)
 heard [] ws = []
 heard (c ∷ cs) ws =
     let o : Outcome = called c ws in

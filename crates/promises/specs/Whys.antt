@@ -16,7 +16,7 @@ use Rattle.trees.specs.Trees.{Tree, words, depth, cut, subtrees}
 use Rattle.trees.specs.Reading.{found}
 use Rattle.trees.specs.Causes.{Cause}
 use Rattle.trees.specs.Fits.{IsOrder}
-use Rattle.trees.specs.Answers.{lineOf, Piece, piece, Writing, writing, refuse, PartWriting, partWriting, noPart, ofKind}
+use Rattle.trees.specs.Answers.{treeOfLine, Piece, piece, Writing, writing, refuse, PartWriting, partWriting, noPart, ofKind}
 use Rattle.trees.specs.declared.Kind.the-variants.{Low, Middle}
 use Rattle.form.specs.Text.{textOf}
 use Rattle.form.specs.Faults.{FirstFault}
@@ -40,11 +40,11 @@ pub data WhyNumbered (os : List ℕ) (a : Answer) : Type 0 where
   numbered : (n : ℕ) → a ≡ answered n → Cause os n → WhyNumbered os a
 
 -- "a line the order lacks": its lines are those of its nodes, counted from 1.
-pub data Lacks (t : Tree) (line : ℕ) : Type 0 where
+pub data LacksLine (t : Tree) (line : ℕ) : Type 0 where
   -- No order has a line 0.
-  line-0 : line ≡ 0 → Lacks t line
+  line-0 : line ≡ 0 → LacksLine t line
   -- It has no line past the one of its last node.
-  past-last : length (subtrees t) < line → Lacks t line
+  past-last : length (subtrees t) < line → LacksLine t line
 
 -- Why `cuts::subtree` hands out p: "A subtree is a contiguous part of the order's words, and is handed out as that part, asked for by its
 -- line; for an order with a cause of 1 or 2, or a line the order lacks, an empty part is handed out". Lines count from 1, in preorder.
@@ -52,9 +52,9 @@ pub data WhySubtree (os : List ℕ) (line : ℕ) (p : Piece) : Type 0 where
   -- "for an order with a cause of 1 or 2": an empty part, at the front
   subtree-no-order : (n : ℕ) → p ≡ piece 0 [] → Cause os n → (n ≡ done → ⊥) → WhySubtree os line p
   -- "or a line the order lacks": an empty part, at the front
-  subtree-lacks : (t : Tree) → p ≡ piece 0 [] → IsOrder os t → Lacks t line → WhySubtree os line p
+  subtree-lacks : (t : Tree) → p ≡ piece 0 [] → IsOrder os t → LacksLine t line → WhySubtree os line p
   -- "is handed out as that part": from the two words of the line on, the subtree's words, which stand there
-  subtree : (t s : Tree) → p ≡ piece ((line - 1) * 2) (words s) → IsOrder os t → lineOf line (subtrees t) ≡ found s
+  subtree : (t s : Tree) → p ≡ piece ((line - 1) * 2) (words s) → IsOrder os t → treeOfLine line (subtrees t) ≡ found s
       → take (length (words s)) (drop ((line - 1) * 2) os) ≡ words s → WhySubtree os line p
 
 -- Why writing the cut at d of a line's subtree gives w: 1, 2, 11. "Cut(t, d) keeps the nodes of depth at most d".
@@ -62,11 +62,11 @@ pub data WhyCut (os out : List ℕ) (line d : ℕ) (w : Writing) : Type 0 where
   -- 1 and 2, by the order
   cut-no-order : (n : ℕ) → w ≡ refuse n out → Cause os n → (n ≡ done → ⊥) → WhyCut os out line d w
   -- 0 for "a line the order lacks": nothing is cut, so nothing is written
-  cut-lacks : (t : Tree) → w ≡ writing (wrote done 0) out → IsOrder os t → Lacks t line → WhyCut os out line d w
+  cut-lacks : (t : Tree) → w ≡ writing (wrote done 0) out → IsOrder os t → LacksLine t line → WhyCut os out line d w
   -- 11: "lent output too short"
-  cut-short : (t s : Tree) → w ≡ refuse short-output out → IsOrder os t → lineOf line (subtrees t) ≡ found s → length out < length (words (cut s d)) → WhyCut os out line d w
+  cut-short : (t s : Tree) → w ≡ refuse short-output out → IsOrder os t → treeOfLine line (subtrees t) ≡ found s → length out < length (words (cut s d)) → WhyCut os out line d w
   -- 0: the words of the cut at the front of the output
-  cut-written : (t s : Tree) → w ≡ writing (wrote done (length (words (cut s d)))) (over (words (cut s d)) out) → IsOrder os t → lineOf line (subtrees t) ≡ found s
+  cut-written : (t s : Tree) → w ≡ writing (wrote done (length (words (cut s d)))) (over (words (cut s d)) out) → IsOrder os t → treeOfLine line (subtrees t) ≡ found s
       → length (words (cut s d)) ≤ length out → WhyCut os out line d w
 
 -- Why writing the part that a line stands for at k gives w: 1, 2, 11, with the kind of part, which is told with 11 as well. "The depth of the
@@ -75,19 +75,19 @@ pub data WhyPart (os out : List ℕ) (line k : ℕ) (w : PartWriting) : Type 0 w
   -- 1 and 2, by the order: no part
   part-no-order : (n : ℕ) → w ≡ partWriting (noPart n) out → Cause os n → (n ≡ done → ⊥) → WhyPart os out line k w
   -- 0 for "a line the order lacks": no part
-  part-lacks : (t : Tree) → w ≡ partWriting (noPart done) out → IsOrder os t → Lacks t line → WhyPart os out line k w
+  part-lacks : (t : Tree) → w ≡ partWriting (noPart done) out → IsOrder os t → LacksLine t line → WhyPart os out line k w
   -- 11, "lent output too short", for a low part: a "subtree of depth at most k-2"
-  low-short : (t s : Tree) → w ≡ ofKind Low (refuse short-output out) → IsOrder os t → lineOf line (subtrees t) ≡ found s → depth s ≤ k - 2
+  low-short : (t s : Tree) → w ≡ ofKind Low (refuse short-output out) → IsOrder os t → treeOfLine line (subtrees t) ≡ found s → depth s ≤ k - 2
       → length out < length (words s) → WhyPart os out line k w
   -- 0: the words of the low part at the front of the output
-  low-written : (t s : Tree) → w ≡ ofKind Low (writing (wrote done (length (words s))) (over (words s) out)) → IsOrder os t → lineOf line (subtrees t) ≡ found s → depth s ≤ k - 2
+  low-written : (t s : Tree) → w ≡ ofKind Low (writing (wrote done (length (words s))) (over (words s) out)) → IsOrder os t → treeOfLine line (subtrees t) ≡ found s → depth s ≤ k - 2
       → length (words s) ≤ length out → WhyPart os out line k w
   -- 11, "lent output too short", for a middle part: "cut(s, k-1) for every subtree s of depth at least k-1", which is deeper than k-2
-  middle-short : (t s : Tree) → w ≡ ofKind Middle (refuse short-output out) → IsOrder os t → lineOf line (subtrees t) ≡ found s → k - 2 < depth s
+  middle-short : (t s : Tree) → w ≡ ofKind Middle (refuse short-output out) → IsOrder os t → treeOfLine line (subtrees t) ≡ found s → k - 2 < depth s
       → length out < length (words (cut s (k - 1))) → WhyPart os out line k w
   -- 0: the words of the middle part at the front of the output
   middle-written : (t s : Tree) → w ≡ ofKind Middle (writing (wrote done (length (words (cut s (k - 1))))) (over (words (cut s (k - 1))) out)) → IsOrder os t
-      → lineOf line (subtrees t) ≡ found s → k - 2 < depth s → length (words (cut s (k - 1))) ≤ length out → WhyPart os out line k w
+      → treeOfLine line (subtrees t) ≡ found s → k - 2 < depth s → length (words (cut s (k - 1))) ≤ length out → WhyPart os out line k w
 
 -- ---- books
 

@@ -11,7 +11,7 @@ use Rattle.figures.specs.Limits.{least-k}
 use Rattle.figures.specs.Numbers.{done}
 use Rattle.section.specs.Entries.{Entry, counted, has, Sorted, addOnce}
 use Rattle.section.proofs.Once.{has-once}
-use Rattle.tally.specs.Tallying.{soughtIn, hasAll, onEach, tallied, marked, Few, onOne, talliedOnce, markedOnce, Ready, Taken}
+use Rattle.tally.specs.Tallying.{soughtIn, hasAll, onEach, tallied, marked, Few, onOne, talliedOnce, markedOnce, TurnReady, Taken}
 use Rattle.tally.proofs.Tallies.{length-each, each-none, tallied-more, once-more, all-known, one-unknown}
 use Rattle.trees.specs.Trees.{Tree}
 use Rattle.trees.specs.Reading.{causeOf}
@@ -23,7 +23,7 @@ use Rattle.book_listing.proofs.Parts.{Gone, gone-none, gone-all, gone-has, gone
 -- ---- one key
 
 -- A turn that is to tally one key.
-module _ (turn n : ℕ) (key : List ℕ) (es : List Entry) (cs ms : List ℕ) (sorted : Sorted es) (ready : Ready turn n (counted key 1 ∷ []) es cs ms) where
+module _ (turn n : ℕ) (key : List ℕ) (es : List Entry) (cs ms : List ℕ) (sorted : Sorted es) (ready : TurnReady turn n (counted key 1 ∷ []) es cs ms) where
   -- What is changed for the entry that is sought is changed for the key.
   one-key : (f : ℕ → ℕ) (xs : List ℕ) → length xs ≡ length es → onOne f turn (soughtIn key es) ms xs ≡ onEach f (counted key 1 ∷ []) es xs
   unfolding has
@@ -139,7 +139,7 @@ module _ (low : Bool) (k : ℕ) (os : List ℕ) (es : List Entry) (turn n : ℕ)
         pub turn-unknown : false ≡ has (cutOf os (line * 2) d) es → false ≡ hasAll (listOf low k 1 os) es
         turn-unknown lacks = sym (one-unknown (this .key) (listOf low k 1 os) es this-there (ap (λ (z : List ℕ). has z es) (sym key-is) ∙ sym lacks))
 
-        module _ (sorted : Sorted es) (ready : Ready turn n (listOf low k 1 os) es cs₀ ms₀) where
+        module _ (sorted : Sorted es) (ready : TurnReady turn n (listOf low k 1 os) es cs₀ ms₀) where
           -- What is changed for its entry, once a turn, is changed for the parts with it.
           one-more : (f : ℕ → ℕ) (xs₀ xs : List ℕ) → length xs₀ ≡ length es → xs ≡ onEach f (st .entered) es xs₀
               → onOne f turn (soughtIn (cutOf os (line * 2) d) es) ms xs ≡ onEach f with-this es xs₀

@@ -7,7 +7,7 @@ ghost use lib.ListN.{length, drop, replicate};
 ghost use Rattle.figures.specs.Limits.{least-k, most-nodes, most-words};
 ghost use Rattle.figures.specs.Numbers.{done};
 ghost use Rattle.section.specs.Entries.{width, firstEntry, has};
-ghost use Rattle.tally.specs.Tallying.{listed, Indexed, soughtIn, Few, talliedOnce, markedOnce, Ready, Taken};
+ghost use Rattle.tally.specs.Tallying.{listed, Indexed, soughtIn, Few, talliedOnce, markedOnce, TurnReady, Taken};
 ghost use Rattle.trees.specs.Reading.{causeOf};
 ghost use Rattle.trees.specs.Levels.{LinesLevelled};
 ghost use Rattle.trees.specs.Spans.{GoneOver};
@@ -54,7 +54,7 @@ fn tally_cut(
     ensures counted { λ _. ⌜ now (counts .exit) ≡ talliedOnce (turn .by) (turn .number) (soughtIn (cutOf (now (order .entry)) (line * 2) d) (listed (now (starts .entry)) (now (book .entry)))) (now (marks .entry)) (now (counts .entry)) ⌝ }
     ensures noted { λ _. ⌜ now (marks .exit) ≡ markedOnce (turn .number) (soughtIn (cutOf (now (order .entry)) (line * 2) d) (listed (now (starts .entry)) (now (book .entry)))) (now (marks .entry)) ⌝ }
 {
-    let end = cuts::put_line(order, spans, levels, line, d, part);
+    let end = cuts::put_cut(order, spans, levels, line, d, part);
     tally::tally_once(
         book,
         starts,
@@ -86,7 +86,7 @@ fn tally_parts(
     requires { ⌜ LinesLevelled (now order) (now levels) ⌝ }
     requires { ⌜ most-words ≤ length (now part) ⌝ }
     requires { ⌜ Indexed (now starts) (now book) ⌝ }
-    requires { ⌜ Ready (turn .number) (turn .by) (listOf low (k .k) 1 (now order)) (listed (now starts) (now book)) (now counts) (now marks) ⌝ }
+    requires { ⌜ TurnReady (turn .number) (turn .by) (listOf low (k .k) 1 (now order)) (listed (now starts) (now book)) (now counts) (now marks) ⌝ }
     ensures { λ r. ⌜ Taken (turn .number) (turn .by) (listOf low (k .k) 1 (now (order .entry))) (listed (now (starts .entry)) (now (book .entry))) (now (counts .entry)) (now (marks .entry)) (now (counts .exit)) (now (marks .exit)) r ⌝ }
 {
     let lines = order.len() / 2;
@@ -135,7 +135,7 @@ fn tally_section(
     requires { ⌜ LinesLevelled (now order) (now levels) ⌝ }
     requires { ⌜ most-words ≤ length (now part) ⌝ }
     requires { ⌜ Indexed (now starts) (now book) ⌝ }
-    requires { ⌜ Ready (turn .number) (turn .by) (partsIn section (k .k) (now order)) (listed (now starts) (now book)) (now counts) (now marks) ⌝ }
+    requires { ⌜ TurnReady (turn .number) (turn .by) (partsIn section (k .k) (now order)) (listed (now starts) (now book)) (now counts) (now marks) ⌝ }
     ensures { λ r. ⌜ Taken (turn .number) (turn .by) (partsIn section (k .k) (now (order .entry))) (listed (now (starts .entry)) (now (book .entry))) (now (counts .entry)) (now (marks .entry)) (now (counts .exit)) (now (marks .exit)) r ⌝ }
 {
     match section {
@@ -219,7 +219,7 @@ fn take_turn(
     requires { ⌜ least-k ≤ k .k ⌝ }
     requires { ⌜ (most-words ≤ length (now spans)) × (most-nodes ≤ length (now levels)) × (most-words ≤ length (now part)) ⌝ }
     requires { ⌜ Indexed (now starts) (now book) ⌝ }
-    requires { ⌜ Ready (turn .number) (turn .by) (partsIn section (k .k) (now order)) (listed (now starts) (now book)) (now counts) (now marks) ⌝ }
+    requires { ⌜ TurnReady (turn .number) (turn .by) (partsIn section (k .k) (now order)) (listed (now starts) (now book)) (now counts) (now marks) ⌝ }
     ensures { λ r. ⌜ Taken (turn .number) (turn .by) (partsIn section (k .k) (now (order .entry))) (listed (now (starts .entry)) (now (book .entry))) (now (counts .entry)) (now (marks .entry)) (now (counts .exit)) (now (marks .exit)) r ⌝ }
 {
     order::cause_into(order, spans);
@@ -258,7 +258,7 @@ fn tally_order(
     requires { ⌜ least-k ≤ k .k ⌝ }
     requires { ⌜ (most-words ≤ length (now spans)) × (most-nodes ≤ length (now levels)) × (most-words ≤ length (now part)) ⌝ }
     requires { ⌜ Indexed (now starts) (now book) ⌝ }
-    requires { ⌜ Ready turn (firstEntry (drop at (now book)) .count) (partsIn section (k .k) (firstEntry (drop at (now book)) .key)) (listed (now starts) (now book)) (now counts) (now marks) ⌝ }
+    requires { ⌜ TurnReady turn (firstEntry (drop at (now book)) .count) (partsIn section (k .k) (firstEntry (drop at (now book)) .key)) (listed (now starts) (now book)) (now counts) (now marks) ⌝ }
     ensures { λ r. ⌜ Taken turn (firstEntry (drop at (now (book .entry))) .count) (partsIn section (k .k) (firstEntry (drop at (now (book .entry))) .key))
         (listed (now (starts .entry)) (now (book .entry))) (now (counts .entry)) (now (marks .entry)) (now (counts .exit)) (now (marks .exit)) r ⌝ }
 {

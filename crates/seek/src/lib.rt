@@ -50,7 +50,7 @@ fn seek(
             many,
         };
     }
-    let to = cuts::put_line(order, spans, levels, line, places.k.of_middles(), cut);
+    let to = cuts::put_cut(order, spans, levels, line, places.k.of_middles(), cut);
     let many = book[limits::MIDDLES_WORD] as usize;
     Sought {
         low: false,

@@ -19,7 +19,7 @@ use Rattle.figures.specs.declared.depths.Depth.{Depth}
 use Rattle.figures.specs.declared.depths.Asked.the-variants.{Allowed, Outside}
 use Rattle.form.specs.Text.{digit-0, digit-9, space, line-feed}
 use Rattle.form.specs.Reading.{isDigit, figure}
-use Rattle.sheet.specs.Sheets.{letter-K, letterByte, letterOf, FirstLine, otherwise, asks, firstLine, Call, handedBy, byFirst, handedIn, openingBy, openingOf, sheetOf}
+use Rattle.sheet.specs.Sheets.{letter-K, letterByte, letterOf, FirstLine, otherwise, asks, firstLine, FormCall, handedBy, byFirst, handedIn, openingBy, openingOf, sheetOf}
 use Rattle.sheet.specs.Places.{letterAt, sizeTo, depthBy, depthOn}
 use Rattle.sheet.specs.declared.Letter.{Letter}
 use Rattle.sheet.specs.declared.Letter.the-variants.{Teach, Withdraw, Judge}
@@ -195,7 +195,7 @@ no-k otherwise e = refl
 no-k (asks k rest) e = absurd (let z : _≡_ {A = ℕ} 0 1 = cc in omega arith)
 
 -- Bytes before the first letter are a fault.
-some-before : (k : ℕ) (bs : List ℕ) (calls : List Call) → 0 < length bs → openingBy (handedBy k bs calls) ≡ Fault (record { number = no-form; line = 2 })
+some-before : (k : ℕ) (bs : List ℕ) (calls : List FormCall) → 0 < length bs → openingBy (handedBy k bs calls) ≡ Fault (record { number = no-form; line = 2 })
 unfolding handedBy
 some-before k [] calls h = absurd (omega arith)
 some-before k (b ∷ bs) calls h = refl

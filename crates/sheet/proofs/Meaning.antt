@@ -9,9 +9,9 @@ use lib.ListN.{take}
 use Rattle.words.specs.Base.{_∈_, if_then_else_}
 use Rattle.words.proofs.Tests.{no-test}
 use Rattle.form.specs.Text.{line-feed}
-use Rattle.sheet.specs.Sheets.{letterByte, letterOf, inputLines, Call, Sheet, sheetOf}
+use Rattle.sheet.specs.Sheets.{letterByte, letterOf, inputLines, FormCall, Sheet, sheetOf}
 use Rattle.sheet.specs.Places.{letterAt, sizeTo}
-use Rattle.sheet.specs.Joined.{joinedCalls, joined, StartsLine, Plain, Parts, last-part, part, IsSheet}
+use Rattle.sheet.specs.Joined.{joinedCalls, sheetBytes, StartsLine, Plain, Parts, last-part, part, IsSheet}
 use Rattle.sheet.specs.declared.Letter.{Letter}
 use Rattle.sheet.specs.declared.LineKind.{LineKind}
 use Rattle.sheet.specs.declared.LineKind.the-variants.{Asks, Other}
@@ -21,57 +21,57 @@ use Rattle.sheet.proofs.LetterLines.{letter-front, letter-there, lineBe
 -- ---- joined
 
 -- One byte in front of a sheet stands in front of what it is split into.
-joined-front : (b : ℕ) (s : Sheet) → joined (withFront b s) ≡ b ∷ joined s
-unfolding joined
+joined-front : (b : ℕ) (s : Sheet) → sheetBytes (withFront b s) ≡ b ∷ sheetBytes s
+unfolding sheetBytes
 joined-front b s = refl
 
 -- A letter line in front of a sheet stands in front of what it is split into.
 joined-letter : (x : Letter) (s : Sheet)
-    → joined (record { before = []; calls = record { letter = x; text = s .before } ∷ s .calls }) ≡ letterByte x ∷ line-feed ∷ joined s
-unfolding joined joinedCalls
+    → sheetBytes (record { before = []; calls = record { letter = x; text = s .before } ∷ s .calls }) ≡ letterByte x ∷ line-feed ∷ sheetBytes s
+unfolding sheetBytes joinedCalls
 joined-letter x s = refl
 
 -- What no bytes are split into gives none, within a line or at its start.
-joined-none : (starts : Bool) → joined (sheetFrom starts []) ≡ []
-unfolding joined joinedCalls inputLines
+joined-none : (starts : Bool) → sheetBytes (sheetFrom starts []) ≡ []
+unfolding sheetBytes joinedCalls inputLines
 joined-none true = rw empty-sheet
 joined-none false = refl
 
 -- What bytes are split into gives them, within a line or at its start.
-joined-from : (starts : Bool) (bs : List ℕ) → joined (sheetFrom starts bs) ≡ bs
+joined-from : (starts : Bool) (bs : List ℕ) → sheetBytes (sheetFrom starts bs) ≡ bs
 joined-from starts [] = joined-none starts
-joined-from false (b ∷ bs) = ap joined (byte-on b bs) ∙ joined-front b _ ∙ ap (λ (r : List ℕ). b ∷ r) (joined-from (eqb b line-feed) bs)
+joined-from false (b ∷ bs) = ap sheetBytes (byte-on b bs) ∙ joined-front b _ ∙ ap (λ (r : List ℕ). b ∷ r) (joined-from (eqb b line-feed) bs)
 joined-from true (b ∷ []) =
     let e : letterAt (b ∷ []) ≡ Other = unfold letterAt in refl in
-    ap joined (byte-other b [] e) ∙ joined-front b _ ∙ ap (λ (r : List ℕ). b ∷ r) (joined-from (eqb b line-feed) [])
+    ap sheetBytes (byte-other b [] e) ∙ joined-front b _ ∙ ap (λ (r : List ℕ). b ∷ r) (joined-from (eqb b line-feed) [])
 joined-from true (b ∷ e ∷ rest) = go (letterAt (b ∷ e ∷ rest)) refl (joined-from (eqb b line-feed) (e ∷ rest)) (joined-from true rest)
   where
     -- By whether a letter line starts there.
-    go : (k : LineKind) → letterAt (b ∷ e ∷ rest) ≡ k → joined (sheetFrom (eqb b line-feed) (e ∷ rest)) ≡ e ∷ rest → joined (sheetOf rest) ≡ rest
-        → joined (sheetOf (b ∷ e ∷ rest)) ≡ b ∷ e ∷ rest
+    go : (k : LineKind) → letterAt (b ∷ e ∷ rest) ≡ k → sheetBytes (sheetFrom (eqb b line-feed) (e ∷ rest)) ≡ e ∷ rest → sheetBytes (sheetOf rest) ≡ rest
+        → sheetBytes (sheetOf (b ∷ e ∷ rest)) ≡ b ∷ e ∷ rest
     go (Asks x) p q r =
-        ap joined (letter-sheet (b ∷ e ∷ rest) x p) ∙ joined-letter x (sheetOf rest)
+        ap sheetBytes (letter-sheet (b ∷ e ∷ rest) x p) ∙ joined-letter x (sheetOf rest)
         ∙ ap (λ (s : List ℕ). letterByte x ∷ line-feed ∷ s) r ∙ sym (letter-front b e rest x p)
-    go Other p q r = ap joined (byte-other b (e ∷ rest) p) ∙ joined-front b _ ∙ ap (λ (s : List ℕ). b ∷ s) q
+    go Other p q r = ap sheetBytes (byte-other b (e ∷ rest) p) ∙ joined-front b _ ∙ ap (λ (s : List ℕ). b ∷ s) q
 
 -- What bytes are split into gives them again.
-pub sheet-joined : (bs : List ℕ) → joined (sheetOf bs) ≡ bs
+pub sheet-joined : (bs : List ℕ) → sheetBytes (sheetOf bs) ≡ bs
 sheet-joined bs = joined-from true bs
 
 -- ---- the parts of a sheet
 
 -- Of bytes before calls: a line starts behind them if a call does, and the calls' texts are parts.
-abbrev Follow : Bool → List ℕ → List Call → Type 0
+abbrev Follow : Bool → List ℕ → List FormCall → Type 0
 Follow starts bs [] = Unit {0}
 Follow starts bs (c ∷ cs) = (lineBehind starts bs ≡ true) × Parts (c .text) cs
 
 -- Such bytes, with no letter line in them, and the calls are parts.
-follow-parts : (bs : List ℕ) (cs : List Call) → PlainFrom true bs → Follow true bs cs → Parts bs cs
+follow-parts : (bs : List ℕ) (cs : List FormCall) → PlainFrom true bs → Follow true bs cs → Parts bs cs
 follow-parts bs [] p f = last-part (told-plain bs p)
 follow-parts bs (c ∷ cs) p f = part (told-plain bs p) (told-start bs (f .0)) (f .1)
 
 -- A byte more in front changes nothing.
-follow-on : (starts : Bool) (b : ℕ) (bs : List ℕ) (cs : List Call) → Follow (eqb b line-feed) bs cs → Follow starts (b ∷ bs) cs
+follow-on : (starts : Bool) (b : ℕ) (bs : List ℕ) (cs : List FormCall) → Follow (eqb b line-feed) bs cs → Follow starts (b ∷ bs) cs
 unfolding lineBehind
 follow-on starts b bs [] f = f
 follow-on starts b bs (c ∷ cs) f = f
@@ -137,18 +137,18 @@ pub no-letter-before : (bs : List ℕ) → Plain (sheetOf bs .before)
 no-letter-before bs = told-plain (sheetOf bs .before) (split-from true bs .plain)
 
 -- No letter line stands among the first of parts.
-pub parts-first : (bs : List ℕ) (cs : List Call) → Parts bs cs → Plain bs
+pub parts-first : (bs : List ℕ) (cs : List FormCall) → Parts bs cs → Plain bs
 parts-first bs [] (last-part p) = p
 parts-first bs (c ∷ cs) (part p e r) = p
 
 -- No letter line stands among the text of a call.
-pub parts-plain : (bs : List ℕ) (cs : List Call) → Parts bs cs → (c : Call) → c ∈ cs → Plain (c .text)
+pub parts-plain : (bs : List ℕ) (cs : List FormCall) → Parts bs cs → (c : FormCall) → c ∈ cs → Plain (c .text)
 parts-plain bs [] p c m = absurd (List·Memᴰ·not-nil m)
-parts-plain bs (d ∷ cs) (part _ _ r) c (here e) = subst (λ (y : Call). Plain (y .text)) (sym e) (parts-first (d .text) cs r)
+parts-plain bs (d ∷ cs) (part _ _ r) c (here e) = subst (λ (y : FormCall). Plain (y .text)) (sym e) (parts-first (d .text) cs r)
 parts-plain bs (d ∷ cs) (part _ _ r) c (there m) = parts-plain (d .text) cs r c m
 
 -- No letter line stands among the text of a call that bytes ask for.
-pub no-letter-inside : (bs : List ℕ) (c : Call) → c ∈ sheetOf bs .calls → Plain (c .text)
+pub no-letter-inside : (bs : List ℕ) (c : FormCall) → c ∈ sheetOf bs .calls → Plain (c .text)
 no-letter-inside bs = parts-plain (sheetOf bs .before) (sheetOf bs .calls) (sheet-is bs .parts)
 
 -- ---- there is no other
@@ -200,7 +200,7 @@ sheet-end true (b ∷ a) p =
     rw (byte-other b a e, sheet-end (eqb b line-feed) a (plain-on true b a p))
 
 -- Parts are split where they were joined.
-parts-split : (a : List ℕ) (cs : List Call) → Parts a cs → sheetOf (a ++ joinedCalls cs) ≡ record { before = a; calls = cs }
+parts-split : (a : List ℕ) (cs : List FormCall) → Parts a cs → sheetOf (a ++ joinedCalls cs) ≡ record { before = a; calls = cs }
 unfolding joinedCalls
 parts-split a [] (last-part p) = ap sheetOf (append-nil a) ∙ sheet-end true a (plain-told a p)
 parts-split a (c ∷ cs) (part p e r) =
@@ -210,13 +210,13 @@ parts-split a (c ∷ cs) (part p e r) =
 
 -- A sheet of bytes is what they are split into.
 pub sheet-only : (bs : List ℕ) (s : Sheet) → IsSheet bs s → sheetOf bs ≡ s
-unfolding joined
+unfolding sheetBytes
 sheet-only bs s h = ap sheetOf (sym (h .joins)) ∙ parts-split (s .before) (s .calls) (h .parts)
 
 -- ---- where calls begin
 
 -- Calls and others behind them are one after the other.
-pub joined-both : (ds bs : List Call) → joinedCalls (ds ++ bs) ≡ joinedCalls ds ++ joinedCalls bs
+pub joined-both : (ds bs : List FormCall) → joinedCalls (ds ++ bs) ≡ joinedCalls ds ++ joinedCalls bs
 unfolding joinedCalls
 joined-both [] bs = refl
 joined-both (a ∷ ds) bs =
@@ -224,13 +224,13 @@ joined-both (a ∷ ds) bs =
     ∙ ap (λ (r : List ℕ). letterByte (a .letter) ∷ line-feed ∷ r) (sym (append-assoc (a .text) (joinedCalls ds) (joinedCalls bs)))
 
 -- A sheet with calls behind its own is the sheet and these calls, one after the other.
-pub joined-more : (s : Sheet) (cs : List Call) → joined (record { before = s .before; calls = s .calls ++ cs }) ≡ joined s ++ joinedCalls cs
-unfolding joined
+pub joined-more : (s : Sheet) (cs : List FormCall) → sheetBytes (record { before = s .before; calls = s .calls ++ cs }) ≡ sheetBytes s ++ joinedCalls cs
+unfolding sheetBytes
 joined-more s cs =
     ap (λ (bs : List ℕ). s .before ++ bs) (joined-both (s .calls) cs) ∙ sym (append-assoc (s .before) (joinedCalls (s .calls)) (joinedCalls cs))
 
 -- Parts behind which a line starts, and calls behind them, are parts.
-pub parts-both : (bs : List ℕ) (ds cs : List Call) → Parts bs ds → StartsLine (bs ++ joinedCalls ds) → Parts [] cs → Parts bs (ds ++ cs)
+pub parts-both : (bs : List ℕ) (ds cs : List FormCall) → Parts bs ds → StartsLine (bs ++ joinedCalls ds) → Parts [] cs → Parts bs (ds ++ cs)
 unfolding joinedCalls
 parts-both bs [] [] p s q = p
 parts-both bs [] (c ∷ cs) (last-part p) s (part _ _ r) = part p (subst StartsLine (append-nil bs) s) r
@@ -238,7 +238,7 @@ parts-both bs (a ∷ ds) cs (part p e r) s q =
     part p e (parts-both (a .text) ds cs r (start-later bs (letterByte (a .letter)) (a .text ++ joinedCalls ds) s) q)
 
 -- Where a call of parts begins, a line starts.
-pub parts-start : (bs : List ℕ) (ds : List Call) (c : Call) (cs : List Call) → Parts bs (ds ++ (c ∷ cs)) → StartsLine (bs ++ joinedCalls ds)
+pub parts-start : (bs : List ℕ) (ds : List FormCall) (c : FormCall) (cs : List FormCall) → Parts bs (ds ++ (c ∷ cs)) → StartsLine (bs ++ joinedCalls ds)
 unfolding joinedCalls
 parts-start bs [] c cs (part p e r) = subst StartsLine (sym (append-nil bs)) e
 parts-start bs (a ∷ ds) c cs (part p e r) = start-earlier bs (letterByte (a .letter)) (a .text ++ joinedCalls ds) (parts-start (a .text) ds c cs r)

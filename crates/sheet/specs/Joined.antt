@@ -4,23 +4,23 @@ use Prim.Native.Nat.{ℕ}
 use mathlib.Core.Path.{_≡_}
 use mathlib.Core.List.{List, [], _∷_, _++_}
 use Rattle.form.specs.Text.{line-feed}
-use Rattle.sheet.specs.Sheets.{letterByte, Call, Sheet}
+use Rattle.sheet.specs.Sheets.{letterByte, FormCall, Sheet}
 use Rattle.sheet.specs.declared.Letter.{Letter}
 
 -- ---- calls as they are written
 
 -- A call as it is written: "a line of the one letter T, W or J and LF", and its form.
-abbrev pub callText : Call → List ℕ
+abbrev pub callText : FormCall → List ℕ
 callText c = letterByte (c .letter) ∷ line-feed ∷ c .text
 
 -- Calls one after the other.
-unfoldable pub joinedCalls : List Call → List ℕ
+unfoldable pub joinedCalls : List FormCall → List ℕ
 joinedCalls [] = []
 joinedCalls (c ∷ cs) = callText c ++ joinedCalls cs
 
 -- What a sheet is split into, one after the other.
-unfoldable pub joined : Sheet → List ℕ
-joined s = s .before ++ joinedCalls (s .calls)
+unfoldable pub sheetBytes : Sheet → List ℕ
+sheetBytes s = s .before ++ joinedCalls (s .calls)
 
 -- ---- letter lines
 
@@ -44,11 +44,11 @@ Plain bs = LetterLine bs → ⊥
 -- ---- sheets
 
 -- Bytes, and the calls behind them: no letter line stands among the bytes before the first call or among those of a form, and each call starts a line.
-pub data Parts : List ℕ → List Call → Type 0 where
+pub data Parts : List ℕ → List FormCall → Type 0 where
   last-part : {bs : List ℕ} → Plain bs → Parts bs []
-  part : {bs : List ℕ} {c : Call} {cs : List Call} → Plain bs → StartsLine bs → Parts (c .text) cs → Parts bs (c ∷ cs)
+  part : {bs : List ℕ} {c : FormCall} {cs : List FormCall} → Plain bs → StartsLine bs → Parts (c .text) cs → Parts bs (c ∷ cs)
 
 -- The sheet is that of the bytes.
 pub record IsSheet (bytes : List ℕ) (s : Sheet) : Type 0 where
-  pub joins : joined s ≡ bytes
+  pub joins : sheetBytes s ≡ bytes
   pub parts : Parts (s .before) (s .calls)

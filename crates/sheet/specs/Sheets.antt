@@ -71,14 +71,14 @@ kindOf (b ∷ e ∷ c ∷ l) = Other
 -- ---- calls
 
 -- A call: what its letter asks for, and the bytes of its form.
-pub record Call : Type 0 where
+pub record FormCall : Type 0 where
   pub letter : Letter
   pub text : List ℕ
 
 -- What lines ask for: the bytes before the first letter line, and the calls from there on.
 pub record Sheet : Type 0 where
   pub before : List ℕ
-  pub calls : List Call
+  pub calls : List FormCall
 
 -- A line in front of others: "the form runs to the next such line or the end".
 unfoldable pub withLine : LineKind → List ℕ → Sheet → Sheet
@@ -113,10 +113,10 @@ firstLine (a ∷ b ∷ c ∷ []) = otherwise
 -- What is handed in: k and the calls, or the first fault.
 pub data Handed : Type 0 where
   faulty : Answer → Handed
-  handed : ℕ → List Call → Handed
+  handed : ℕ → List FormCall → Handed
 
 -- The bytes before the first letter line, and the calls: "bytes between line 1 and the first letter, or bytes and no letter" are a fault.
-unfoldable pub handedBy : ℕ → List ℕ → List Call → Handed
+unfoldable pub handedBy : ℕ → List ℕ → List FormCall → Handed
 handedBy k [] calls = handed k calls
 handedBy k (b ∷ bs) calls = faulty (record { number = no-form; line = 2 })
 

@@ -5,7 +5,7 @@ ghost use Prim.Native.Nat.{suc, _+_, _*_, _-_, _^_, _≤_, _<_, max};
 ghost use lib.ListN.{length, take, drop, set};
 ghost use Rattle.trees.specs.Trees.{Tree, subtrees};
 ghost use Rattle.trees.specs.Reading.{found, treeOf};
-ghost use Rattle.trees.specs.Spans.{spansFrom, rowOf, measuredOf, Measurable, SpansAre, Front, spannedBy};
+ghost use Rattle.trees.specs.Spans.{spansFrom, rowOf, measuredOf, Measurable, SpansAre, FirstSpan, spannedBy};
 use figures::nodes::node_ok;
 use trees::Measured;
 use trees::Spanned;
@@ -47,7 +47,7 @@ fn over_children(
 ) -> Spanned
     requires { ⌜ Measurable (now order) (now spans) × (2 * from ≤ length (now order)) × (0 < children) ⌝ }
     requires { ⌜ SpansAre from (drop (2 * from) (take (length (now order)) (now spans))) (rowOf (drop (2 * from) (now order))) ⌝ }
-    requires { ⌜ Front (now order) (now spans) from first top run ⌝ }
+    requires { ⌜ FirstSpan (now order) (now spans) from first top run ⌝ }
     ensures { λ r. ⌜ r ≡ spannedBy from children (rowOf (drop (2 * from) (now (order .entry)))) ⌝ }
 {
     if children <= run {

@@ -19,8 +19,8 @@ use Rattle.words.proofs.Tests.{no-test, and-left, and-right, and-both, same-wor
 use Rattle.section.specs.Entries.{Entry, counted, has, Below, Sorted}
 use Rattle.section.proofs.Counts.{lower-differs, below-trans, has-entry, entry-has}
 use Rattle.tally.specs.Tallying.{listed, soughtIn, hasAll, onEach, tallied, marked, Unmarked, onOne, sameCounts}
-use Rattle.tally.specs.declared.Sought.{Sought}
-use Rattle.tally.specs.declared.Sought.the-variants.{Missing, Number}
+use Rattle.tally.specs.declared.EntryFound.{EntryFound}
+use Rattle.tally.specs.declared.EntryFound.the-variants.{Missing, Number}
 
 -- ---- equal counts
 
@@ -159,7 +159,7 @@ unfolding soughtIn has if_then_else_
 sought-lacks key [] h = refl
 sought-lacks key (e ∷ es) h = go (sameWords (e .key) key) refl (soughtIn key es) refl (sought-lacks key es)
   where
-    go : (b : Bool) → sameWords (e .key) key ≡ b → (r : Sought) → soughtIn key es ≡ r → (soughtIn key es ≡ Missing → has key es ≡ false) → has key (e ∷ es) ≡ false
+    go : (b : Bool) → sameWords (e .key) key ≡ b → (r : EntryFound) → soughtIn key es ≡ r → (soughtIn key es ≡ Missing → has key es ≡ false) → has key (e ∷ es) ≡ false
     go true t r q later = let z : Number 0 ≡ Missing = rw t at h in absurd (let n : _≡_ {A = ℕ} 0 1 = cc in omega arith)
     go false t Missing q later = rw t (later q)
     go false t (Number i) q later = let z : Number (suc i) ≡ Missing = rw (t, q) at h in absurd (let n : _≡_ {A = ℕ} 0 1 = cc in omega arith)
@@ -170,7 +170,7 @@ unfolding soughtIn has if_then_else_
 sought-has key [] i h = absurd (let n : _≡_ {A = ℕ} 0 1 = cc in omega arith)
 sought-has key (e ∷ es) i h = go (sameWords (e .key) key) refl (soughtIn key es) refl (sought-has key es)
   where
-    go : (b : Bool) → sameWords (e .key) key ≡ b → (r : Sought) → soughtIn key es ≡ r → ((j : ℕ) → soughtIn key es ≡ Number j → (j < length es) × (has key es ≡ true))
+    go : (b : Bool) → sameWords (e .key) key ≡ b → (r : EntryFound) → soughtIn key es ≡ r → ((j : ℕ) → soughtIn key es ≡ Number j → (j < length es) × (has key es ≡ true))
         → (i < length (e ∷ es)) × (has key (e ∷ es) ≡ true)
     go true t r q later = let z : Number 0 ≡ Number i = rw t at h in let n : 0 ≡ i = cc in (omega arith, rw t)
     go false t Missing q later = let z : Missing ≡ Number i = rw (t, q) at h in absurd (let n : _≡_ {A = ℕ} 0 1 = cc in omega arith)
@@ -277,7 +277,7 @@ module _ (key : List ℕ) (os fs : List Entry) (more : (z : List ℕ) → has z 
             let first : has (e .key) fs ≡ true = rw k more-own in
             rw (h, ne-eqb m turn (u 0), first, each-above es cs (rw (← k) (s .1)) (s .2))
 
-        go : (b : Bool) → sameWords (e .key) key ≡ b → (r : Sought) → soughtIn key es ≡ r
+        go : (b : Bool) → sameWords (e .key) key ≡ b → (r : EntryFound) → soughtIn key es ≡ r
             → onOne f turn (soughtIn key es) (marked turn os es ms) (onEach f os es cs) ≡ onEach f fs es cs
             → onOne f turn (soughtIn key (e ∷ es)) (marked turn os (e ∷ es) (m ∷ ms)) (onEach f os (e ∷ es) (c ∷ cs)) ≡ onEach f fs (e ∷ es) (c ∷ cs)
         go true t r q later = rw t (own (words-same (e .key) key t) (has (e .key) os) refl)

@@ -8,8 +8,8 @@ use lib.ListN.{length, getD, set, drop}
 use Rattle.words.specs.Base.{_and_, if_then_else_, sameWords, _∈_}
 use Rattle.figures.specs.Limits.{greatest-count}
 use Rattle.section.specs.Entries.{Entry, width, firstEntry, has, Sorted}
-use Rattle.tally.specs.declared.Sought.{Sought}
-use Rattle.tally.specs.declared.Sought.the-variants.{Missing, Number}
+use Rattle.tally.specs.declared.EntryFound.{EntryFound}
+use Rattle.tally.specs.declared.EntryFound.the-variants.{Missing, Number}
 
 -- ---- entries by their places
 
@@ -30,12 +30,12 @@ pub record Indexed (starts ws : List ℕ) : Type 0 where
   pub filled : (e : Entry) → e ∈ listed starts ws → 1 ≤ length (e .key)
 
 -- One further on.
-abbrev pub next : Sought → Sought
+abbrev pub next : EntryFound → EntryFound
 next Missing = Missing
 next (Number i) = Number (suc i)
 
 -- Which entry has the key, counted from 0.
-unfoldable pub soughtIn : List ℕ → List Entry → Sought
+unfoldable pub soughtIn : List ℕ → List Entry → EntryFound
 soughtIn key [] = Missing
 soughtIn key (e ∷ es) = if sameWords (e .key) key then Number 0 else next (soughtIn key es)
 
@@ -65,16 +65,16 @@ abbrev pub Unmarked : ℕ → List ℕ → Type 0
 Unmarked turn ms = (i : ℕ) → getD ms i 0 ≡ turn → ⊥
 
 -- The numbers, one for each entry, changed by f for the one that is sought, unless it has the turn's mark.
-unfoldable pub onOne : (ℕ → ℕ) → ℕ → Sought → List ℕ → List ℕ → List ℕ
+unfoldable pub onOne : (ℕ → ℕ) → ℕ → EntryFound → List ℕ → List ℕ → List ℕ
 onOne f turn Missing ms cs = cs
 onOne f turn (Number i) ms cs = if eqb (getD ms i 0) turn then cs else set cs i (f (getD cs i 0))
 
 -- The counts with n more for the entry that is sought, once a turn.
-abbrev pub talliedOnce : ℕ → ℕ → Sought → List ℕ → List ℕ → List ℕ
+abbrev pub talliedOnce : ℕ → ℕ → EntryFound → List ℕ → List ℕ → List ℕ
 talliedOnce n turn r ms cs = onOne (λ (c : ℕ). c + n) turn r ms cs
 
 -- The marks with the turn's number for the entry that is sought.
-abbrev pub markedOnce : ℕ → Sought → List ℕ → List ℕ
+abbrev pub markedOnce : ℕ → EntryFound → List ℕ → List ℕ
 markedOnce turn r ms = onOne (λ (m : ℕ). turn) turn r ms ms
 
 -- No count passes 65,535.
@@ -83,7 +83,7 @@ Few cs = (i : ℕ) → getD cs i 0 ≤ greatest-count
 
 -- What a turn needs that is to tally n for each key of the first list: a count and a mark for each entry of the second, none of them the
 -- turn's, and no count that passes 65,535 then.
-pub record Ready (turn n : ℕ) (os es : List Entry) (cs ms : List ℕ) : Type 0 where
+pub record TurnReady (turn n : ℕ) (os es : List Entry) (cs ms : List ℕ) : Type 0 where
   pub counts : length cs ≡ length es
   pub marks : length ms ≡ length es
   pub fresh : Unmarked turn ms

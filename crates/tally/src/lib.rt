@@ -12,7 +12,7 @@ use section::past;
 use words::Compared;
 
 // The number of the entry that has a key, counted from 0, if one has it.
-pub enum Sought {
+pub enum EntryFound {
     Missing,
     Number(usize),
 }
@@ -52,7 +52,7 @@ fn against(book: &[u16], at: usize, key: &[u16], first: u16) -> Compared
 }
 
 // Which of the listed entries has the key: the range that it can stand in is halved until it is found or none is left.
-pub fn seek(book: &[u16], starts: &[u16], key: &[u16]) -> Sought
+pub fn find_entry(book: &[u16], starts: &[u16], key: &[u16]) -> EntryFound
     requires { ⌜ Indexed (now starts) (now book) ⌝ }
     ensures { λ r. ⌜ r ≡ soughtIn (now (key .entry)) (listed (now (starts .entry)) (now (book .entry))) ⌝ }
 {
@@ -66,13 +66,13 @@ pub fn seek(book: &[u16], starts: &[u16], key: &[u16]) -> Sought
             Compared::Lower => {
                 low = mid + 1;
             }
-            Compared::Equal => return Sought::Number(mid),
+            Compared::Equal => return EntryFound::Number(mid),
             Compared::Higher => {
                 high = mid;
             }
         }
     }
-    Sought::Missing
+    EntryFound::Missing
 }
 
 // Tallies `by` more for the listed entry that has the key, once a turn: its mark is the turn's number then. Answers whether one has it.
@@ -92,7 +92,7 @@ pub fn tally_once(
     ensures counted { λ _. ⌜ now (counts .exit) ≡ talliedOnce by turn (soughtIn (now (key .entry)) (listed (now (starts .entry)) (now (book .entry)))) (now (marks .entry)) (now (counts .entry)) ⌝ }
     ensures noted { λ _. ⌜ now (marks .exit) ≡ markedOnce turn (soughtIn (now (key .entry)) (listed (now (starts .entry)) (now (book .entry)))) (now (marks .entry)) ⌝ }
 {
-    let Sought::Number(i) = seek(book, starts, key) else {
+    let EntryFound::Number(i) = find_entry(book, starts, key) else {
         return false;
     };
     let mark = marks[i];

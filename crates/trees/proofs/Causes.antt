@@ -12,7 +12,7 @@ use lib.ListN.{length}
 use Rattle.figures.specs.Limits.{most-nodes, most-words, greatest-depth}
 use Rattle.figures.specs.Numbers.{done, no-order, too-large}
 use Rattle.trees.specs.Trees.{Tree, words, depth, Good, subtrees}
-use Rattle.trees.specs.Reading.{Found, missing, found, treeOf, Order, refused, order, byOrder, orderOf, causeOf}
+use Rattle.trees.specs.Reading.{TreeFound, missing, found, treeOf, Order, refused, order, byOrder, orderOf, causeOf}
 use Rattle.trees.specs.Causes.{Cause, empty, odd, long, no-tree, deep, none}
 use Rattle.trees.proofs.Reading.{not-found}
 use Rattle.trees.proofs.Orders.{FoundDeep, size, words-read, read-words, cause-empty, cause-odd, cause-long, cause-missing, cause-deep, cause-none, tree-sized, tree-passes}
@@ -25,7 +25,7 @@ tree-found s t g e = record { tree = t; is = ap treeOf e ∙ words-read t g; dee
 tree-missing : (s : List ℕ) → ((t : Tree) → Good t → s ≡ words t → ⊥) → treeOf s ≡ missing
 tree-missing s h = go (treeOf s) refl
   where
-    go : (x : Found) → treeOf s ≡ x → treeOf s ≡ missing
+    go : (x : TreeFound) → treeOf s ≡ x → treeOf s ≡ missing
     go missing e = e
     go (found t) e = let r = read-words s t e in absurd (h t (r .1) (r .0))
 
@@ -64,7 +64,7 @@ by-depth s t l g w = go (leb (depth t) greatest-depth) refl
     go false e = let h = leb-false _ _ e in deep (cause-only s too-large (deep refl l t g w h)) l t g w h
 
 -- An even number of words that are not too many are those of a good tree, or of none.
-by-tree : (s : List ℕ) (x : Found) → treeOf s ≡ x → length s % 2 ≡ 0 → length s ≤ most-words → Cause s (causeOf s)
+by-tree : (s : List ℕ) (x : TreeFound) → treeOf s ≡ x → length s % 2 ≡ 0 → length s ≤ most-words → Cause s (causeOf s)
 by-tree s (found t) e v l = let r = read-words s t e in by-depth s t l (r .1) (r .0)
 by-tree s missing e v l = no-tree (no-tree-cause s v l e) v l (λ t g w. not-found (sym e ∙ ap treeOf w ∙ words-read t g))
 

@@ -14,7 +14,7 @@ use Rattle.words.specs.declared.Compared.the-variants.{Lower}
 use Rattle.words.proofs.Tests.{no-test, and-left, and-right, and-both, fails-right}
 use Rattle.figures.specs.Limits.{most-nodes, most-words, greatest-depth}
 use Rattle.trees.specs.Trees.{Tree, node, words, depth, cut, subtrees}
-use Rattle.trees.specs.Reading.{Found, missing, found, treeOf, order, byOrder, orderOf}
+use Rattle.trees.specs.Reading.{TreeFound, missing, found, treeOf, order, byOrder, orderOf}
 use Rattle.trees.specs.Parts.{top, isLow, lows, middle, isMiddle, middles, lowParts, middleParts}
 use Rattle.trees.specs.Spans.{measuredOf}
 use Rattle.trees.specs.declared.Measured.the-variants.{Broken, Deep}
@@ -40,7 +40,7 @@ found-passed s t l e d =
     order-passed s t (ap orderOf (r .0) ∙ tree-passes t (r .1) n d)
 
 -- What is measured of a tree is its depth.
-depth-told : (x : Found) (t : Tree) (d : ℕ) → measuredOf x ≡ Deep d → x ≡ found t → depth t ≡ d
+depth-told : (x : TreeFound) (t : Tree) (d : ℕ) → measuredOf x ≡ Deep d → x ≡ found t → depth t ≡ d
 unfolding measuredOf
 depth-told x t d e f = let same : Deep (depth t) ≡ Deep d = rw f at e in cc
 
@@ -77,7 +77,7 @@ module _ (least greatest : ℕ) (s : List ℕ) where
   pub fits-deep : (d : ℕ) → length s ≤ most-words → greatest ≤ greatest-depth → measuredOf (treeOf s) ≡ Deep d → fitsOf least greatest s ≡ within least greatest d
   fits-deep d short g e = go (treeOf s) refl (leb d greatest) refl
     where
-      go : (x : Found) → treeOf s ≡ x → (y : Bool) → leb d greatest ≡ y → fitsOf least greatest s ≡ within least greatest d
+      go : (x : TreeFound) → treeOf s ≡ x → (y : Bool) → leb d greatest ≡ y → fitsOf least greatest s ≡ within least greatest d
       go missing f y l = no-depth d (sym (ap measuredOf f) ∙ e)
       go (found t) f false l =
           fits-none (λ u p. fails-right _ _ (ap (λ (n : ℕ). leb n greatest) (depth-told (treeOf s) u d e (passed-found p)) ∙ l))

@@ -10,7 +10,7 @@ use lib.Dec.{leb}
 use Rattle.words.specs.Base.{if_then_else_, _∈_}
 use Rattle.trees.specs.Trees.{Tree, depth, cut, subtrees}
 use Rattle.trees.specs.Reading.{found}
-use Rattle.trees.specs.Answers.{treeAt, lineOf}
+use Rattle.trees.specs.Answers.{treeAt, treeOfLine}
 use Rattle.trees.specs.Parts.{isLow, middle, partOf}
 use Rattle.trees.specs.Paper.{IsL, IsP}
 use Rattle.trees.specs.declared.Kind.the-variants.{Low, Middle}
@@ -21,7 +21,7 @@ use Rattle.trees.proofs.Paper.{subtree-from, subtree-to, subtree-depth,
 
 -- s is the subtree of this line of t.
 pub record OnLine (t s : Tree) (line : ℕ) : Type 0 where
-  pub is : lineOf line (subtrees t) ≡ found s
+  pub is : treeOfLine line (subtrees t) ≡ found s
 
 -- The tree at a place is a member of the list.
 pub at-in : (ts : List Tree) (i : ℕ) {s : Tree} → treeAt ts i ≡ found s → s ∈ ts
@@ -38,13 +38,13 @@ in-at (there m) = let r = in-at m in (suc (r .0), r .1)
 
 -- A line's tree is a subtree.
 pub line-in : (t s : Tree) (line : ℕ) → OnLine t s line → s ∈ subtrees t
-unfolding lineOf
+unfolding treeOfLine
 line-in t s zero l = not-found (l .is)
 line-in t s (suc i) l = at-in (subtrees t) i (l .is)
 
 -- A subtree has a line.
 pub in-line : {t s : Tree} → s ∈ subtrees t → (line : ℕ) × OnLine t s line
-unfolding lineOf
+unfolding treeOfLine
 in-line m = let r = in-at m in (suc (r .0), record { is = r .1 })
 
 -- ---- what a line stands for

@@ -11,9 +11,9 @@ use Rattle.words.specs.Base.{if_then_else_}
 use Rattle.figures.specs.Limits.{most-words}
 use Rattle.figures.specs.Numbers.{done}
 use Rattle.trees.specs.Trees.{Tree, node, words, cut, Good, subtrees}
-use Rattle.trees.specs.Reading.{byFound, Found, missing, found, refused, order, byOrder, orderOf, causeOf}
+use Rattle.trees.specs.Reading.{byFound, TreeFound, missing, found, refused, order, byOrder, orderOf, causeOf}
 use Rattle.trees.specs.Standing.{firstTree, treeFrom, cutOf, linePlace, placeOf}
-use Rattle.trees.specs.Answers.{treeAt, lineOf}
+use Rattle.trees.specs.Answers.{treeAt, treeOfLine}
 use Rattle.trees.specs.declared.Place.{Place}
 use Rattle.trees.specs.declared.Place.the-variants.{Refused, Lacking, At}
 use Rattle.trees.proofs.Reading.{not-found, complete, reads-none}
@@ -77,7 +77,7 @@ next-tree (t ∷ ts) (suc i) s rest e = next-tree ts i s rest e
 -- ---- a place in the words
 
 -- The words from `at` on begin with those of a good tree, which is x.
-pub record Spot (s : List ℕ) (at : ℕ) (x : Found) : Type 0 where
+pub record Spot (s : List ℕ) (at : ℕ) (x : TreeFound) : Type 0 where
   pub tree : Tree
   pub after : List ℕ
   pub good : Good tree
@@ -104,8 +104,8 @@ line-spot s t i p h =
     }
 
 -- "A subtree is a contiguous part of the order's words": the subtree of line i + 1 is the words from word 2 i on.
-pub subtree-part : (s : List ℕ) (t u : Tree) (i : ℕ) → Passed s t → lineOf (suc i) (subtrees t) ≡ found u → (after : List ℕ) × (drop (i * 2) s ≡ words u ++ after)
-unfolding lineOf
+pub subtree-part : (s : List ℕ) (t u : Tree) (i : ℕ) → Passed s t → treeOfLine (suc i) (subtrees t) ≡ found u → (after : List ℕ) × (drop (i * 2) s ≡ words u ++ after)
+unfolding treeOfLine
 subtree-part s t u i p l = pick i (length (subtrees t))
     (λ h.
     let q = line-spot s t i p h in
@@ -114,7 +114,7 @@ subtree-part s t u i p l = pick i (length (subtrees t))
     (λ h. not-found (sym (at-past (subtrees t) i h) ∙ l))
 
 -- What stands at a spot: the tree, and the words of the cut.
-module _ (s : List ℕ) (at : ℕ) (x : Found) (p : Spot s at x) where
+module _ (s : List ℕ) (at : ℕ) (x : TreeFound) (p : Spot s at x) where
   -- The words from there on begin with the tree.
   pub from-spot : treeFrom s at ≡ found (p .tree)
   unfolding treeFrom firstTree
@@ -132,13 +132,13 @@ pub record HasLine (s : List ℕ) (line at : ℕ) : Type 0 where
   pub tree : Tree
   pub is : orderOf s ≡ order tree
   pub short : length s ≤ most-words
-  pub spot : Spot s at (lineOf line (subtrees tree))
+  pub spot : Spot s at (treeOfLine line (subtrees tree))
 
 -- The order passes, and the line is one that it lacks.
 pub record LacksLine (s : List ℕ) (line : ℕ) : Type 0 where
   pub tree : Tree
   pub is : orderOf s ≡ order tree
-  pub lacks : lineOf line (subtrees tree) ≡ missing
+  pub lacks : treeOfLine line (subtrees tree) ≡ missing
 
 -- What a place says of the order and the line.
 abbrev pub Placed : List ℕ → ℕ → Place → Type 0
@@ -148,7 +148,7 @@ Placed s line (At at) = HasLine s line at
 
 -- `Placed` holds of the lines of an order that passes.
 placed-line : (s : List ℕ) (line : ℕ) (t : Tree) → Passed s t → Placed s line (linePlace (length (subtrees t)) line)
-unfolding linePlace lineOf if_then_else_
+unfolding linePlace treeOfLine if_then_else_
 placed-line s zero t p = record { tree = t; is = p .is; lacks = refl }
 placed-line s (suc i) t p = pick i (length (subtrees t))
     (λ l. rw (lt-ltb i (length (subtrees t)) l) (record {

@@ -10,13 +10,13 @@ use Rattle.words.specs.Base.{if_then_else_}
 use Rattle.figures.specs.Limits.{least-code, greatest-code, most-nodes, most-words, greatest-depth}
 use Rattle.figures.specs.Numbers.{done, no-order, too-large}
 use Rattle.trees.specs.Trees.{Tree, node, Forest, bare, cons, count, words, wordsF, depth, Good, GoodF, subtrees, subtreesF}
-use Rattle.trees.specs.Reading.{Reading, broken, read, readTrees, Found, missing, found, only, treeOf, order, byOrder, withinDepth, orderOf, causeOf}
+use Rattle.trees.specs.Reading.{Reading, broken, read, readTrees, TreeFound, missing, found, only, treeOf, order, byOrder, withinDepth, orderOf, causeOf}
 use Rattle.trees.proofs.Reading.{Sound, sound, complete, reads-none}
 
 -- ---- words and trees
 
 -- What words are read as, if anything, is a good tree whose words they are.
-abbrev pub IsTree : List ℕ → Found → Type 0
+abbrev pub IsTree : List ℕ → TreeFound → Type 0
 IsTree s missing = Unit {0}
 IsTree s (found t) = (s ≡ words t) × Good t
 
@@ -85,7 +85,7 @@ module _ (s : List ℕ) where
   sized-order z = rw (ne-eqb _ _ (z .some), ne-eqb _ _ (z .even), le-ltb _ _ (z .short))
 
 -- A tree that is found, and how deep it is.
-pub record FoundDeep (x : Found) (h : ℕ) : Type 0 where
+pub record FoundDeep (x : TreeFound) (h : ℕ) : Type 0 where
   pub tree : Tree
   pub is : x ≡ found tree
   pub deep : depth tree ≡ h

@@ -12,7 +12,7 @@ use borrow.Author.Tests.{leb-true, le-leb, lt-leb}
 use lib.ListN.{length}
 use Rattle.words.specs.Base.{keep, _∈_}
 use Rattle.trees.specs.Trees.{Tree, Forest, node, bare, cons, depth, depthF, cut, cutF, subtrees, subtreesF, below}
-use Rattle.trees.specs.Reading.{byFound, Found, missing, found}
+use Rattle.trees.specs.Reading.{byFound, TreeFound, missing, found}
 use Rattle.trees.specs.Parts.{top, isLow, lows, middle, isMiddle, middles, lowParts, middleParts}
 use Rattle.trees.specs.Paper.{Position, childOf, code, rootedAt, labelAt, Subtree, StrictlyBelow, InDomain, IsDepth, IsR, IsL, IsP}
 use Rattle.trees.proofs.Reading.{not-found}
@@ -22,7 +22,7 @@ use Rattle.trees.proofs.Once.{kept-in, in-kept, once-from, once-to}
 -- ---- positions
 
 -- What stands at i ∷ x below a node with this row of children.
-abbrev rootedIn : ℕ → Position → Forest → Found
+abbrev rootedIn : ℕ → Position → Forest → TreeFound
 rootedIn i x f = byFound (childOf i f) missing (rootedAt x)
 
 -- The label there.
@@ -221,7 +221,7 @@ same-domain : (t u : Tree) (x : Position) → labelAt x t ≡ labelAt x u → In
 unfolding labelAt byFound
 same-domain t u x e a = go (rootedAt x u) refl
   where
-    go : (r : Found) → rootedAt x u ≡ r → InDomain u x
+    go : (r : TreeFound) → rootedAt x u ≡ r → InDomain u x
     go missing p = no-label (sym (rw (p, a .is) at e))
     go (found s) p = record { subtree = s; is = p }
 
@@ -251,7 +251,7 @@ r-only {t} {u} {v} n l a b =
       | no h ↦ a .shallow (omega arith) ∙ sym (b .shallow (omega arith))
     ]
   where
-    go : n - 1 < depth t → (x : Position) (r q : Found) → rootedAt x u ≡ r → rootedAt x v ≡ q → labelAt x u ≡ labelAt x v
+    go : n - 1 < depth t → (x : Position) (r q : TreeFound) → rootedAt x u ≡ r → rootedAt x v ≡ q → labelAt x u ≡ labelAt x v
     go h x missing missing p q = rw (p, q)
     go h x missing (found s) p q = not-found (sym p ∙ r-domain n h b a x (record { subtree = s; is = q }) .is)
     go h x (found s) r p q =

@@ -12,7 +12,7 @@ use Rattle.words.proofs.Tests.{and-left, and-right}
 use Rattle.figures.specs.Nodes.{soundNode}
 use Rattle.figures.specs.Limits.{least-code, greatest-code}
 use Rattle.trees.specs.Trees.{Tree, node, Forest, bare, cons, count, words, wordsF, subtrees, subtreesF, Good, GoodF}
-use Rattle.trees.specs.Reading.{firstTrees, laterTrees, Found, missing, found, treeOf}
+use Rattle.trees.specs.Reading.{firstTrees, laterTrees, TreeFound, missing, found, treeOf}
 use Rattle.trees.proofs.Reading.{join, node-ok, count-take}
 use Rattle.trees.proofs.Orders.{words-read, read-words}
 use Rattle.trees.proofs.Writing.{two}
@@ -118,7 +118,7 @@ row-tree ws t e =
 pub row-missing : (ws : List ℕ) → ((t : Tree) → rowOf ws ≡ rowed (cons t bare) → ⊥) → treeOf ws ≡ missing
 row-missing ws n = go (treeOf ws) refl
   where
-    go : (x : Found) → treeOf ws ≡ x → treeOf ws ≡ missing
+    go : (x : TreeFound) → treeOf ws ≡ x → treeOf ws ≡ missing
     go missing e = e
     go (found t) e = absurd (n t (tree-row ws t e))
 

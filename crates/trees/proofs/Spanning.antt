@@ -14,8 +14,8 @@ use Rattle.figures.specs.Limits.{most-words}
 use Rattle.figures.specs.Nodes.{soundNode}
 use Rattle.figures.specs.Numbers.{done}
 use Rattle.trees.specs.Trees.{Tree, node, Forest, bare, cons, count, depth, depthF, subtrees, subtreesF}
-use Rattle.trees.specs.Reading.{firstTrees, laterTrees, Found, missing, found, treeOf, order, byOrder, orderOf, causeOf}
-use Rattle.trees.specs.Spans.{lines, linesF, spansFrom, spansIn, GoneOver, Rowed, faulty, rowed, nodeBefore, rowOf, leavesF, LeavesAre, SpansAre, Front, spannedBy, measuredOf}
+use Rattle.trees.specs.Reading.{firstTrees, laterTrees, TreeFound, missing, found, treeOf, order, byOrder, orderOf, causeOf}
+use Rattle.trees.specs.Spans.{lines, linesF, spansFrom, spansIn, GoneOver, Rowed, faulty, rowed, nodeBefore, rowOf, leavesF, LeavesAre, SpansAre, FirstSpan, spannedBy, measuredOf}
 use Rattle.trees.proofs.Orders.{FoundDeep, words-read}
 use Rattle.trees.proofs.Causes.{has-tree}
 use Rattle.trees.proofs.Leaves.{leaves-few, leaves-short, leaves-lines, leaves-deep, leaf-more, leaf-none}
@@ -169,7 +169,7 @@ module _ (os ss : List ℕ) (from children : ℕ) (even : 2 * (length os / 2) �
 
 -- Behind the first child, whose span is known.
 module _ (os ss : List ℕ) (from first top run children : ℕ) (even : 2 * (length os / 2) ≡ length os) (room : length os ≤ length ss)
-    (low : 2 * from ≤ length os) (are : SpansAre from (drop (2 * from) (take (length os) ss)) (rowOf (drop (2 * from) os))) (k : Front os ss from first top run) (more : 0 < children) where
+    (low : 2 * from ≤ length os) (are : SpansAre from (drop (2 * from) (take (length os) ss)) (rowOf (drop (2 * from) os))) (k : FirstSpan os ss from first top run) (more : 0 < children) where
   -- Where there is no line behind the node, it lacks a child.
   pub first-lacking : length os / 2 ≤ from → spannedBy from children (rowOf (drop (2 * from) os)) ≡ Lacking
   first-lacking past = over-lacking os ss from children even room from 0 children (over-start os ss from children even room low are) past more
@@ -235,7 +235,7 @@ node-spans at line c n f x y l p q =
 -- ---- the first of the lines that were gone over
 
 -- Behind the last line there is none.
-pub front-start : (os ss : List ℕ) → 2 * (length os / 2) ≡ length os → Front os ss (length os / 2) 0 0 0
+pub front-start : (os ss : List ℕ) → 2 * (length os / 2) ≡ length os → FirstSpan os ss (length os / 2) 0 0 0
 unfolding rowOf leavesF
 front-start os ss even =
     let b : drop (2 * (length os / 2)) os ≡ [] = drop-of-length-le os {i = 2 * (length os / 2)} (omega (arith, even)) in
@@ -243,7 +243,7 @@ front-start os ss even =
 
 -- The line that was written is the first, and its span is what was written.
 front-written : (os ss : List ℕ) (at x y run : ℕ) → 2 * at + 2 ≤ length ss → LeavesAre run (rowOf (drop (2 * at) os))
-    → Front os (set (set ss (2 * at) x) (2 * at + 1) y) at x y run
+    → FirstSpan os (set (set ss (2 * at) x) (2 * at + 1) y) at x y run
 front-written os ss at x y run h l = record {
   ends = λ z. sym (getD-set-other (set ss (2 * at) x) (2 * at + 1) (2 * at) y 0 (λ e. omega arith) ∙ getD-set-same ss (2 * at) x 0 (omega arith));
   deep = λ z. sym (getD-set-same (set ss (2 * at) x) (2 * at + 1) y 0 (omega (arith, length-set ss (2 * at) x)));
@@ -251,7 +251,7 @@ front-written os ss at x y run h l = record {
 }
 
 -- A node over leaves alone ends past the last of them and is one deep.
-pub front-leaves : (os ss : List ℕ) (i first top run n : ℕ) → Front os ss i first top run → 0 < n → n ≤ run → spannedBy i n (rowOf (drop (2 * i) os)) ≡ To (i + n) 1
+pub front-leaves : (os ss : List ℕ) (i first top run n : ℕ) → FirstSpan os ss i first top run → 0 < n → n ≤ run → spannedBy i n (rowOf (drop (2 * i) os)) ≡ To (i + n) 1
 unfolding spannedBy if_then_else_
 front-leaves os ss i first top run n k more few = go (rowOf (drop (2 * i) os)) (k .leaves)
   where
@@ -343,7 +343,7 @@ module _ (os ss₀ ss : List ℕ) (line : ℕ) (b : Back os ss₀ ss line) (at c
       go (rowed f) h = rw (e, le-leb 0 (count f) (omega arith), add-zero line) refl
 
   -- A leaf is one more of those that begin there.
-  pub front-leaf : (first top run : ℕ) → Front os ss line first top run → soundNode c n ≡ true → n ≡ 0 → Front os (set (set ss (2 * at) line) (2 * at + 1) 0) at line 0 (run + 1)
+  pub front-leaf : (first top run : ℕ) → FirstSpan os ss line first top run → soundNode c n ≡ true → n ≡ 0 → FirstSpan os (set (set ss (2 * at) line) (2 * at + 1) 0) at line 0 (run + 1)
   unfolding nodeBefore if_then_else_
   front-leaf first top run k e z = front-written os ss at line 0 (run + 1) (omega (arith, b .low, b .room)) (go (rowOf (drop (2 * line) os)) refl (k .leaves))
     where
@@ -354,8 +354,8 @@ module _ (os ss₀ ss : List ℕ) (line : ℕ) (b : Back os ss₀ ss line) (at c
           rw is (omega (arith, h, leaf-more c f))
 
   -- A node that has children is no leaf.
-  pub front-node : (first top run end₁ deep₁ : ℕ) → Front os ss line first top run → soundNode c n ≡ true → 0 < n → To end₁ deep₁ ≡ spannedBy line n (rowOf (drop (2 * line) os))
-      → Front os (set (set ss (2 * at) end₁) (2 * at + 1) deep₁) at end₁ deep₁ 0
+  pub front-node : (first top run end₁ deep₁ : ℕ) → FirstSpan os ss line first top run → soundNode c n ≡ true → 0 < n → To end₁ deep₁ ≡ spannedBy line n (rowOf (drop (2 * line) os))
+      → FirstSpan os (set (set ss (2 * at) end₁) (2 * at + 1) deep₁) at end₁ deep₁ 0
   unfolding spannedBy nodeBefore if_then_else_
   front-node first top run end₁ deep₁ k e z g = front-written os ss at end₁ deep₁ 0 (omega (arith, b .low, b .room)) (go (rowOf (drop (2 * line) os)) refl (k .leaves))
     where
@@ -371,7 +371,7 @@ module _ (os ss₀ ss : List ℕ) (line : ℕ) (b : Back os ss₀ ss line) (at c
 
 -- What is known of the lines behind is known of equals.
 pub back-equal : (os ss₀ ss ss₁ : List ℕ) (line first first₁ top top₁ run run₁ : ℕ) → ss ≡ ss₁ → first ≡ first₁ → top ≡ top₁ → run ≡ run₁
-    → Back os ss₀ ss₁ line × Front os ss₁ line first₁ top₁ run₁ → Back os ss₀ ss line × Front os ss line first top run
+    → Back os ss₀ ss₁ line × FirstSpan os ss₁ line first₁ top₁ run₁ → Back os ss₀ ss line × FirstSpan os ss line first top run
 back-equal os ss₀ ss ss₁ line first first₁ top top₁ run run₁ a b c d h = rw (a, b, c, d) h
 
 -- What a node comes to is no more than there are lines.
@@ -392,7 +392,7 @@ back-small os ss₀ ss line n e d b g = go (rowOf (drop (2 * line) os)) refl
     go (rowed f) r = by-count f r (leb n (count f)) refl
 
 -- There are no more leaves than lines.
-pub front-small : (os ss₀ ss : List ℕ) (line first top run : ℕ) → Back os ss₀ ss line → Front os ss line first top run → run ≤ length os / 2
+pub front-small : (os ss₀ ss : List ℕ) (line first top run : ℕ) → Back os ss₀ ss line → FirstSpan os ss line first top run → run ≤ length os / 2
 front-small os ss₀ ss line first top run b k = go (rowOf (drop (2 * line) os)) (b .are) (k .leaves)
   where
     go : (r : Rowed) → SpansAre line (drop (2 * line) (take (length os) ss)) r → LeavesAre run r → run ≤ length os / 2
@@ -474,13 +474,13 @@ unfolding measuredOf
 no-tree os ss e = (rw e refl, λ t f. let z : _≡_ {A = ℕ} 0 1 = cc (e, f) in absurd (omega arith))
 
 -- Where words come to nothing there is no tree.
-pub broken-missing : (x : Found) → measuredOf x ≡ Broken → x ≡ missing
+pub broken-missing : (x : TreeFound) → measuredOf x ≡ Broken → x ≡ missing
 unfolding measuredOf
 broken-missing missing e = refl
 broken-missing (found t) e = absurd (let z : _≡_ {A = ℕ} 0 1 = cc in omega arith)
 
 -- Where they come to a depth, there is a tree of that depth.
-pub measured-found : (x : Found) (d : ℕ) → measuredOf x ≡ Deep d → FoundDeep x d
+pub measured-found : (x : TreeFound) (d : ℕ) → measuredOf x ≡ Deep d → FoundDeep x d
 unfolding measuredOf
 measured-found missing d e = absurd (let z : _≡_ {A = ℕ} 0 1 = cc in omega arith)
 measured-found (found t) d e = record { tree = t; is = refl; deep = cc }

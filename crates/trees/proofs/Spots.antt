@@ -8,7 +8,7 @@ use lib.Seq.{take-append-seam}
 use Rattle.figures.specs.Limits.{most-words}
 use Rattle.figures.specs.Numbers.{done}
 use Rattle.trees.specs.Trees.{Tree, words, cut, subtrees}
-use Rattle.trees.specs.Reading.{Found, found, causeOf}
+use Rattle.trees.specs.Reading.{TreeFound, found, causeOf}
 use Rattle.trees.specs.Standing.{cutOf}
 use Rattle.trees.specs.Answers.{treeAt}
 use Rattle.trees.proofs.Orders.{size}
@@ -46,7 +46,7 @@ line-at os line e h =
 -- ---- what stands at a spot
 
 -- Of an order of at most 128 words.
-module _ (os : List ℕ) (at : ℕ) (x : Found) (p : Spot os at x) where
+module _ (os : List ℕ) (at : ℕ) (x : TreeFound) (p : Spot os at x) where
   -- The tree lies within the order.
   pub spot-within : at ≤ length os → at + length (words (p .tree)) ≤ length os
   spot-within h = omega (arith, simp (length-append, length-drop) at (ap length (p .here)))

@@ -7,7 +7,7 @@ use Rattle.words.specs.Base.{if_then_else_, over}
 use Rattle.figures.specs.Numbers.{done, short-output}
 use Rattle.figures.specs.Answers.{wrote}
 use Rattle.trees.specs.Trees.{Tree, words, cut, subtrees}
-use Rattle.trees.specs.Reading.{Found, missing, found, byFound, byOrder, orderOf, causeOf}
+use Rattle.trees.specs.Reading.{TreeFound, missing, found, byFound, byOrder, orderOf, causeOf}
 use Rattle.trees.specs.Parts.{partOf}
 use Rattle.figures.specs.declared.Answer.{Answer}
 use Rattle.figures.specs.declared.Written.{Written}
@@ -24,15 +24,15 @@ checkOf ws = record { number = causeOf ws; line = 0 }
 -- ---- subtree
 
 -- The tree at a place of a list, counted from 0; none past the last.
-unfoldable pub treeAt : List Tree → ℕ → Found
+unfoldable pub treeAt : List Tree → ℕ → TreeFound
 treeAt [] i = missing
 treeAt (t ∷ ts) zero = found t
 treeAt (t ∷ ts) (suc i) = treeAt ts i
 
 -- The tree of a line, counted from 1; none for line 0 and for a line past the last.
-unfoldable pub lineOf : ℕ → List Tree → Found
-lineOf zero ts = missing
-lineOf (suc i) ts = treeAt ts i
+unfoldable pub treeOfLine : ℕ → List Tree → TreeFound
+treeOfLine zero ts = missing
+treeOfLine (suc i) ts = treeAt ts i
 
 -- A part of some words: the word at which it starts, and its own words.
 pub record Piece : Type 0 where
@@ -50,7 +50,7 @@ noPiece = piece 0 []
 -- "handed out as that part, asked for by its line; for an order with a cause of 1 or 2, or a line the order lacks, an empty part": the subtree's
 -- words, behind the two words of each line before it.
 unfoldable pub subtreeOf : List ℕ → ℕ → Piece
-subtreeOf ws line = byOrder (orderOf ws) (λ n. noPiece) (λ t. byFound (lineOf line (subtrees t)) noPiece (λ s. piece ((line - 1) * 2) (words s)))
+subtreeOf ws line = byOrder (orderOf ws) (λ n. noPiece) (λ t. byFound (treeOfLine line (subtrees t)) noPiece (λ s. piece ((line - 1) * 2) (words s)))
 
 -- A part of lent words that begin at a place, a block and the bytes before it there, as it is handed out: the place where it begins, for a word
 -- has two bytes, and its words.
@@ -82,7 +82,7 @@ write new out =
 -- The cut at d of the subtree of a line; nothing for a line that the order lacks.
 unfoldable pub cutIntoOf : List ℕ → ℕ → ℕ → List ℕ → Writing
 cutIntoOf ws line d out =
-    byOrder (orderOf ws) (λ n. refuse n out) (λ t. write (byFound (lineOf line (subtrees t)) [] (λ s. words (cut s d))) out)
+    byOrder (orderOf ws) (λ n. refuse n out) (λ t. write (byFound (treeOfLine line (subtrees t)) [] (λ s. words (cut s d))) out)
 
 -- ---- the part of a line
 
@@ -107,4 +107,4 @@ ofKind kind w = record { answer = record { kind = kind; written = w .answer }; o
 unfoldable pub partIntoOf : List ℕ → ℕ → ℕ → List ℕ → PartWriting
 partIntoOf ws line k out =
     byOrder (orderOf ws) (λ n. partWriting (noPart n) out) (λ t.
-    byFound (lineOf line (subtrees t)) (partWriting (noPart done) out) (λ s. ofKind (partOf k s .kind) (write (words (partOf k s .tree)) out)))
+    byFound (treeOfLine line (subtrees t)) (partWriting (noPart done) out) (λ s. ofKind (partOf k s .kind) (write (words (partOf k s .tree)) out)))

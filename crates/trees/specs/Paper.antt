@@ -7,31 +7,31 @@ use mathlib.Core.List.{List, [], _∷_}
 use mathlib.Core.Option.{Option, none, some}
 use lib.ListN.{length}
 use Rattle.trees.specs.Trees.{Tree, node, Forest, bare, cons, depth}
-use Rattle.trees.specs.Reading.{byFound, Found, missing, found}
+use Rattle.trees.specs.Reading.{byFound, TreeFound, missing, found}
 
 -- A position, x ∈ ℕ*: the numbers of the children on the way down, counted from 1; the empty list is the top, λ.
 abbrev pub Position : Type 0
 Position = List ℕ
 
 -- The i-th tree of a row, counted from 1.
-unfoldable pub childOf : ℕ → Forest → Found
+unfoldable pub childOf : ℕ → Forest → TreeFound
 childOf i bare = missing
 childOf zero (cons t f) = missing
 childOf (suc zero) (cons t f) = found t
 childOf (suc (suc i)) (cons t f) = childOf (suc i) f
 
 -- The children of the top.
-abbrev pub children : Tree → Forest
-children (node c f) = f
+abbrev pub childrenOfTop : Tree → Forest
+childrenOfTop (node c f) = f
 
 -- The label of the top.
 abbrev pub code : Tree → ℕ
 code (node c f) = c
 
 -- t/x, "the subtree of t rooted at x": missing where x is not in dom(t).
-unfoldable pub rootedAt : Position → Tree → Found
+unfoldable pub rootedAt : Position → Tree → TreeFound
 rootedAt [] t = found t
-rootedAt (i ∷ x) t = byFound (childOf i (children t)) missing (rootedAt x)
+rootedAt (i ∷ x) t = byFound (childOf i (childrenOfTop t)) missing (rootedAt x)
 
 -- t(x): none where x is not in dom(t).
 unfoldable pub labelAt : Position → Tree → Option ℕ

@@ -44,24 +44,24 @@ readTrees (c ∷ n ∷ ws) zero = read bare (c ∷ n ∷ ws)
 readTrees (c ∷ n ∷ ws) (suc m) = nodeOver (soundNode c n) c n (readTrees ws (n + m))
 
 -- A tree that may be missing.
-pub data Found : Type 0 where
-  missing : Found
-  found : Tree → Found
+pub data TreeFound : Type 0 where
+  missing : TreeFound
+  found : Tree → TreeFound
 
 -- What follows a tree that is there, and what stands where there is none.
-unfoldable pub byFound : {A : Type 0} → Found → A → (Tree → A) → A
+unfoldable pub byFound : {A : Type 0} → TreeFound → A → (Tree → A) → A
 byFound missing a f = a
 byFound (found t) a f = f t
 
 -- "holds exactly one tree": a tree was read, and no word is left.
-unfoldable pub only : Reading → Found
+unfoldable pub only : Reading → TreeFound
 only broken = missing
 only (read bare ws) = missing
 only (read (cons t f) []) = found t
 only (read (cons t f) (w ∷ ws)) = missing
 
 -- The tree that words are, if they are exactly one.
-unfoldable pub treeOf : List ℕ → Found
+unfoldable pub treeOf : List ℕ → TreeFound
 treeOf ws = only (readTrees ws 1)
 
 -- An order is a tree, or refused by a number.
@@ -75,7 +75,7 @@ byOrder (refused n) f g = f n
 byOrder (order t) f g = g t
 
 -- "the other causes of 1, depth"
-unfoldable pub withinDepth : Found → Order
+unfoldable pub withinDepth : TreeFound → Order
 withinDepth missing = refused no-order
 withinDepth (found t) = if leb (depth t) greatest-depth then order t else refused too-large
 

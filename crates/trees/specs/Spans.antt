@@ -11,7 +11,7 @@ use Rattle.figures.specs.Limits.{most-words}
 use Rattle.figures.specs.Nodes.{soundNode}
 use Rattle.figures.specs.Numbers.{done}
 use Rattle.trees.specs.Trees.{Tree, node, Forest, bare, cons, count, depth, depthF, subtrees, subtreesF}
-use Rattle.trees.specs.Reading.{firstTrees, laterTrees, Found, missing, found, byOrder, orderOf, causeOf}
+use Rattle.trees.specs.Reading.{firstTrees, laterTrees, TreeFound, missing, found, byOrder, orderOf, causeOf}
 use Rattle.trees.specs.declared.Spanned.{Spanned}
 use Rattle.trees.specs.declared.Spanned.the-variants.{Lacking, To}
 use Rattle.trees.specs.declared.Measured.{Measured}
@@ -75,7 +75,7 @@ LeavesAre n faulty = ⊥
 LeavesAre n (rowed f) = n ≡ leavesF f
 
 -- What words come to that are a tree or not: its depth, or none.
-unfoldable pub measuredOf : Found → Measured
+unfoldable pub measuredOf : TreeFound → Measured
 measuredOf missing = Broken
 measuredOf (found t) = Deep (depth t)
 
@@ -91,7 +91,7 @@ SpansAre i ss faulty = ⊥
 SpansAre i ss (rowed f) = ss ≡ spansFrom i (subtreesF f)
 
 -- What is known of the first of the lines from i on that were gone over: its span, where there is such a line, and how many leaves begin there.
-pub record Front (os ss : List ℕ) (i first top run : ℕ) : Type 0 where
+pub record FirstSpan (os ss : List ℕ) (i first top run : ℕ) : Type 0 where
   pub ends : i < length os / 2 → first ≡ getD ss (2 * i) 0
   pub deep : i < length os / 2 → top ≡ getD ss (2 * i + 1) 0
   pub leaves : LeavesAre run (rowOf (drop (2 * i) os))

@@ -5,18 +5,18 @@ use lib.Dec.{ltb}
 use lib.ListN.{length, drop}
 use Rattle.words.specs.Base.{if_then_else_}
 use Rattle.trees.specs.Trees.{bare, cons, words, cut, subtrees}
-use Rattle.trees.specs.Reading.{Reading, broken, read, readTrees, Found, missing, found, byFound, byOrder, orderOf}
+use Rattle.trees.specs.Reading.{Reading, broken, read, readTrees, TreeFound, missing, found, byFound, byOrder, orderOf}
 use Rattle.trees.specs.declared.Place.{Place}
 use Rattle.trees.specs.declared.Place.the-variants.{Refused, Lacking, At}
 
 -- The first tree of what was read.
-unfoldable pub firstTree : Reading → Found
+unfoldable pub firstTree : Reading → TreeFound
 firstTree broken = missing
 firstTree (read bare ws) = missing
 firstTree (read (cons t f) ws) = found t
 
 -- The tree that the words from `at` on begin with.
-unfoldable pub treeFrom : List ℕ → ℕ → Found
+unfoldable pub treeFrom : List ℕ → ℕ → TreeFound
 treeFrom ws at = firstTree (readTrees (drop at ws) 1)
 
 -- The words of the cut at d of the tree at a word; none where there is no tree.

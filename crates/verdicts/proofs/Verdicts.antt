@@ -19,7 +19,7 @@ use Rattle.section.proofs.Counts.{has-entry, entry-has}
 use Rattle.trees.specs.Trees.{Tree, words, depth, subtrees, below}
 use Rattle.trees.specs.Reading.{found}
 use Rattle.trees.specs.Parts.{top, isLow, middle}
-use Rattle.trees.specs.Answers.{treeAt, lineOf}
+use Rattle.trees.specs.Answers.{treeAt, treeOfLine}
 use Rattle.trees.specs.Paper.{IsR, IsL, IsP}
 use Rattle.trees.proofs.Reading.{not-found}
 use Rattle.trees.proofs.Paper.{subtree-from, subtree-to, below-from, below-to, subtree-depth, cut-is-r, r-only, top-is-r}
@@ -149,15 +149,15 @@ module _ (b : Book) (two : least-k ≤ b .k) where
 
   module _ (t : Tree) where
     -- If every line's part is known, the order's l are in L.
-    lows-in : ((line : ℕ) (s : Tree) → lineOf line (subtrees t) ≡ found s → Known b s) → (u : Tree) → IsL (b .k - 1) t u → In (b .L) u
+    lows-in : ((line : ℕ) (s : Tree) → treeOfLine line (subtrees t) ≡ found s → Known b s) → (u : Tree) → IsL (b .k - 1) t u → In (b .L) u
     lows-in f u l = let x = in-line (subtree-to (l .subtree)) in f (x .0) u (x .1 .is) .low (omega (arith, l .shallow))
 
     -- And its p are in P.
-    middles-in : ((line : ℕ) (s : Tree) → lineOf line (subtrees t) ≡ found s → Known b s) → (u : Tree) → IsP (b .k) t u → In (b .P) u
+    middles-in : ((line : ℕ) (s : Tree) → treeOfLine line (subtrees t) ≡ found s → Known b s) → (u : Tree) → IsP (b .k) t u → In (b .P) u
     middles-in f u p = let x = in-line (subtree-to (p .subtree)) in f (x .0) (p .uncut) (x .1 .is) .middle (p .deep) u (p .is)
 
     -- A passing order has a known part on every line.
-    pub lines-known : Passes b t → (line : ℕ) (s : Tree) → lineOf line (subtrees t) ≡ found s → Known b s
+    pub lines-known : Passes b t → (line : ℕ) (s : Tree) → treeOfLine line (subtrees t) ≡ found s → Known b s
     lines-known p line s e =
         let m = subtree-from t (line-in t s line (record { is = e })) in
         record {
@@ -176,11 +176,11 @@ module _ (b : Book) (two : least-k ≤ b .k) where
 
     -- The least line to fix is the doubted one.
     doubted-at : (j : ℕ) (s : Tree) → treeAt (subtrees t) j ≡ found s → toFix b s ≡ true → ((m : ℕ) (u : Tree) → m < j → treeAt (subtrees t) m ≡ found u → toFix b u ≡ false) → Doubted b t (suc j) s
-    unfolding lineOf
+    unfolding treeOfLine
     doubted-at j s at e f = record { on = at; fix = fix-is s e; earlier = before }
       where
         -- No line before it is one to fix.
-        before : (l : ℕ) (u : Tree) → l < suc j → lineOf l (subtrees t) ≡ found u → ToFix b u → ⊥
+        before : (l : ℕ) (u : Tree) → l < suc j → treeOfLine l (subtrees t) ≡ found u → ToFix b u → ⊥
         before zero u h q = not-found q
         before (suc m) u h q = fix-not u (f m u (omega arith) q)
 
@@ -226,7 +226,7 @@ module _ (b : Book) (two : least-k ≤ b .k) where
         ]
       where
         same : l ≡ m → (l ≡ m) × (s ≡ u)
-        same e = let f : found s ≡ found u = sym (p .on) ∙ ap (λ (i : ℕ). lineOf i (subtrees t)) e ∙ q .on in (e, cc)
+        same e = let f : found s ≡ found u = sym (p .on) ∙ ap (λ (i : ℕ). treeOfLine i (subtrees t)) e ∙ q .on in (e, cc)
 
     -- Only one answer is given by a row.
     pub verdict-one : (a c : Answer) → Verdict b t a → Verdict b t c → a ≡ c

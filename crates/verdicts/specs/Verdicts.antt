@@ -12,7 +12,7 @@ use Rattle.trees.specs.Trees.{Tree, words, depth, subtrees}
 use Rattle.trees.specs.Reading.{found}
 use Rattle.trees.specs.Causes.{Cause}
 use Rattle.trees.specs.Fits.{IsOrder}
-use Rattle.trees.specs.Answers.{lineOf}
+use Rattle.trees.specs.Answers.{treeOfLine}
 use Rattle.trees.specs.Paper.{StrictlyBelow, IsR, IsL, IsP}
 use Rattle.book.specs.Book.{Book}
 use Rattle.book.specs.Sound.{IsBook, WhyForm}
@@ -37,7 +37,7 @@ pub record Known (b : Book) (s : Tree) : Type 0 where
 
 -- "no line is unknown": every line's part is in the book.
 abbrev pub AllKnown : Book → Tree → Type 0
-AllKnown b t = (line : ℕ) (s : Tree) → lineOf line (subtrees t) ≡ found s → Known b s
+AllKnown b t = (line : ℕ) (s : Tree) → treeOfLine line (subtrees t) ≡ found s → Known b s
 
 -- A subtree "whose part is unknown while nothing strictly below it is unknown", which is s/x at no position x but λ.
 pub record ToFix (b : Book) (s : Tree) : Type 0 where
@@ -46,9 +46,9 @@ pub record ToFix (b : Book) (s : Tree) : Type 0 where
 
 -- s is the subtree of the line, which is "the least one" to fix.
 pub record Doubted (b : Book) (t : Tree) (line : ℕ) (s : Tree) : Type 0 where
-  pub on : lineOf line (subtrees t) ≡ found s
+  pub on : treeOfLine line (subtrees t) ≡ found s
   pub fix : ToFix b s
-  pub earlier : (j : ℕ) (u : Tree) → j < line → lineOf j (subtrees t) ≡ found u → ToFix b u → ⊥
+  pub earlier : (j : ℕ) (u : Tree) → j < line → treeOfLine j (subtrees t) ≡ found u → ToFix b u → ⊥
 
 -- Why a book answers an order by a.
 pub data Verdict (b : Book) (t : Tree) (a : Answer) : Type 0 where

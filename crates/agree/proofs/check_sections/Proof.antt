@@ -11,7 +11,7 @@ use Rattle.figures.specs.Answers.{answered}
 use Rattle.book.specs.Decoding.{bookIn}
 use Rattle.book.specs.Holding.{Holds}
 use Rattle.book.specs.Taught.{agreeing}
-use Rattle.book.specs.Checking.{checkOf}
+use Rattle.book.specs.Checking.{agreeOf}
 use Rattle.book.specs.declared.Places.{Places}
 use Rattle.book.proofs.Sound.{held-book}
 use Rattle.book.proofs.Checking.{check-held}
@@ -20,12 +20,12 @@ use Rattle.agree.proofs.check_sections.Tie as tie
 
 module _ (ws : List ℕ) (p : Places) (h : Holds ws p) where
   -- Where the book does not agree the answer is 9.
-  check-not : agreeing (bookIn ws) ≡ false → answered not-agreeing ≡ checkOf ws
+  check-not : agreeing (bookIn ws) ≡ false → answered not-agreeing ≡ agreeOf ws
   unfolding if_then_else_
   check-not e = sym (check-held ws (bookIn ws) (held-book ws p h) ∙ rw e)
 
   -- Where it does the answer is 0.
-  check-done : agreeing (bookIn ws) ≡ true → answered done ≡ checkOf ws
+  check-done : agreeing (bookIn ws) ≡ true → answered done ≡ agreeOf ws
   unfolding if_then_else_
   check-done e = sym (check-held ws (bookIn ws) (held-book ws p h) ∙ rw e)
 

@@ -14,14 +14,14 @@ slice-aggregate-level-lines c = search needs
 level-lines-requires : tie.Need-level-lines-requires
 level-lines-requires c κs = let p = c .before .before .before .before .pre in (p .0, omega (arith, passed-short _ (p .0 .sound)))
 
-slice-aggregate-put-line : tie.Need-slice-aggregate-put-line
-slice-aggregate-put-line c = search needs
+slice-aggregate-put-cut : tie.Need-slice-aggregate-put-cut
+slice-aggregate-put-cut c = search needs
 
-slice-aggregate-put-line-2 : tie.Need-slice-aggregate-put-line-2
-slice-aggregate-put-line-2 c = search needs
+slice-aggregate-put-cut-2 : tie.Need-slice-aggregate-put-cut-2
+slice-aggregate-put-cut-2 c = search needs
 
-put-line-requires : tie.Need-put-line-requires
-put-line-requires c κs =
+put-cut-requires : tie.Need-put-cut-requires
+put-cut-requires c κs =
     let s = c .before .before .before .before .before .before .before .before in
     (s .pre .0, (c .before .before .before .level-lines .ensures .0, (s .pre .1, omega (arith, line-short _ _ (s .args .d) (s .pre .0 .sound) (s .pre .1)))))
 
@@ -29,15 +29,15 @@ wrote-requires : tie.Need-wrote-requires
 wrote-requires c κs = search needs
 
 returns : tie.Need-returns
-returns c = no-output-room _ _ _ (c .wrote .ensures) (omega (arith, c .before .before .before .put-line .ensures .0, c .before .if1 .taken))
+returns c = no-output-room _ _ _ (c .wrote .ensures) (omega (arith, c .before .before .before .put-cut .ensures .0, c .before .if1 .taken))
 
-slice-aggregate-put-line-3 : tie.Need-slice-aggregate-put-line-3
-slice-aggregate-put-line-3 c = search needs
+slice-aggregate-put-cut-3 : tie.Need-slice-aggregate-put-cut-3
+slice-aggregate-put-cut-3 c = search needs
 
-put-line-requires-2 : tie.Need-put-line-requires-2
-put-line-requires-2 c κs =
+put-cut-requires-2 : tie.Need-put-cut-requires-2
+put-cut-requires-2 c κs =
     let p = c .before .before .before .before .before .before .before .before .before .before .before .before .before .pre in
-    (p .0, (c .before .before .before .before .before .before .before .before .level-lines .ensures .0, (p .1, omega (arith, c .before .before .before .before .put-line .ensures .0, c .before .before .if1 .left))))
+    (p .0, (c .before .before .before .before .before .before .before .before .level-lines .ensures .0, (p .1, omega (arith, c .before .before .before .before .put-cut .ensures .0, c .before .before .if1 .left))))
 
 wrote-requires-2 : tie.Need-wrote-requires-2
 wrote-requires-2 c κs = search needs
@@ -47,8 +47,8 @@ same-length c = search needs
 
 returns-2 : tie.Need-returns-2
 returns-2 c =
-    let w = c .before .before .before .before .before .before .before .before .put-line .ensures .0 in
-    has-room _ _ _ _ _ (c .wrote2 .ensures) (sym w) (c .before .before .before .before .before .before .if1 .left) (c .before .before .before .put-line2 .ensures .1)
+    let w = c .before .before .before .before .before .before .before .before .put-cut .ensures .0 in
+    has-room _ _ _ _ _ (c .wrote2 .ensures) (sym w) (c .before .before .before .before .before .before .if1 .left) (c .before .before .before .put-cut2 .ensures .1)
 
 pub cut-line-spec : {M : Type 1} → statement M
 cut-line-spec =
@@ -56,13 +56,13 @@ cut-line-spec =
     (tie.spec
     slice-aggregate-level-lines
     level-lines-requires
-    slice-aggregate-put-line
-    slice-aggregate-put-line-2
-    put-line-requires
+    slice-aggregate-put-cut
+    slice-aggregate-put-cut-2
+    put-cut-requires
     wrote-requires
     returns
-    slice-aggregate-put-line-3
-    put-line-requires-2
+    slice-aggregate-put-cut-3
+    put-cut-requires-2
     wrote-requires-2
     same-length
     returns-2)

@@ -25,21 +25,21 @@ short : (s : tie.Start) (d : ℕ) → length (cutOf (s .args .order .now) 0 d) �
 short s d = line-short _ 0 d (s .pre .1 .0 .sound) (first-line _ (tree s .tree) (tree s .passes))
 
 -- The words that were written are those of the top.
-key : (c : tie.After-cut2) → let s = c .before .before .before .before .before .before .before .before in take (c .before .put-line .result - 0) (drop 0 (c .before .put-line .last .1 .1 .1 .1 .1 .0)) ≡ words (top (s .args .places .k .k) (tree s .tree))
+key : (c : tie.After-cut2) → let s = c .before .before .before .before .before .before .before .before in take (c .before .put-cut .result - 0) (drop 0 (c .before .put-cut .last .1 .1 .1 .1 .1 .0)) ≡ words (top (s .args .places .k .k) (tree s .tree))
 key c =
     let s = c .before .before .before .before .before .before .before .before in
     let m = c .before .before .before .of-tops in
-    let w = c .before .put-line in
+    let w = c .before .put-cut in
     top-key _ _ (tree s .passes) (m .result) _ _ _ _ (m .ensures) (w .ensures .0) (w .ensures .1)
 
 of-tops-requires : tie.Need-of-tops-requires
 of-tops-requires c κs = search needs
 
-slice-aggregate-put-line : tie.Need-slice-aggregate-put-line
-slice-aggregate-put-line c = search needs
+slice-aggregate-put-cut : tie.Need-slice-aggregate-put-cut
+slice-aggregate-put-cut c = search needs
 
-put-line-requires : tie.Need-put-line-requires
-put-line-requires c κs =
+put-cut-requires : tie.Need-put-cut-requires
+put-cut-requires c κs =
     let s = c .before .before .before .before .before .before in
     (s .pre .1 .0, (s .pre .1 .1, (first-line _ (tree s .tree) (tree s .passes), short s (c .before .of-tops .result))))
 
@@ -58,7 +58,7 @@ part-find-start c = search needs
 part-find-end : tie.Need-part-find-end
 part-find-end c =
     let p = c .before .before .before in
-    omega (arith, p .put-line .kept .1 .1 .1 .1 .1 .0, p .put-line .ensures .0, short (p .before .before .before .before .before .before .before) (p .before .before .of-tops .result))
+    omega (arith, p .put-cut .kept .1 .1 .1 .1 .1 .0, p .put-cut .ensures .0, short (p .before .before .before .before .before .before .before) (p .before .before .of-tops .result))
 
 find-requires : tie.Need-find-requires
 find-requires c κs = c .before .before .before .before .before .before .before .before .before .before .before .pre .0 .section Tops .within
@@ -77,8 +77,8 @@ top-near-spec =
     tie.close
     (tie.spec
     of-tops-requires
-    slice-aggregate-put-line
-    put-line-requires
+    slice-aggregate-put-cut
+    put-cut-requires
     shared-slice-read-many
     cast-many
     sub-find

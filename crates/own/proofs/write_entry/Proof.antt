@@ -28,24 +28,24 @@ entry-over n w l last fits is =
     rw (new, set-two ((take 2 l ++ w) ++ drop (2 + length w) l) (length w / 2) n long, rest, past) refl
 
 -- What the function was called with, seen from where the cut is written.
-abbrev called : tie.After-put-line → tie.Start
+abbrev called : tie.After-put-cut → tie.Start
 called c = c .before .before .before .before .before .before
 
 -- The cut is short.
-count-short : (c : tie.After-put-line) → c .put-line .result ≤ most-words
-count-short c = let b = called c in omega (arith, c .put-line .ensures .0, line-short _ _ (b .args .d) (b .pre .0 .sound) (b .pre .1 .1 .0))
+count-short : (c : tie.After-put-cut) → c .put-cut .result ≤ most-words
+count-short c = let b = called c in omega (arith, c .put-cut .ensures .0, line-short _ _ (b .args .d) (b .pre .0 .sound) (b .pre .1 .1 .0))
 
-sub-put-line : tie.Need-sub-put-line
-sub-put-line c = search needs
+sub-put-cut : tie.Need-sub-put-cut
+sub-put-cut c = search needs
 
-part-put-line-start : tie.Need-part-put-line-start
-part-put-line-start c = search needs
+part-put-cut-start : tie.Need-part-put-cut-start
+part-put-cut-start c = search needs
 
-part-put-line-end : tie.Need-part-put-line-end
-part-put-line-end c = search needs
+part-put-cut-end : tie.Need-part-put-cut-end
+part-put-cut-end c = search needs
 
-put-line-requires : tie.Need-put-line-requires
-put-line-requires c κs =
+put-cut-requires : tie.Need-put-cut-requires
+put-cut-requires c κs =
     let b = c .before .before .before .before .before in
     (b .pre .0, (b .pre .1 .0, (b .pre .1 .1 .0, simp (length-take, length-drop) (omega (arith, line-short _ _ (b .args .d) (b .pre .0 .sound) (b .pre .1 .1 .0), b .pre .1 .1 .1)))))
 
@@ -69,17 +69,17 @@ returns c =
     let p = c .before .before in
     let b = called p in
     let w = cutOf (b .args .order .now) (b .args .line * 2) (b .args .d) in
-    let is : p .put-line .result ≡ length w = p .put-line .ensures .0 in
-    (rw is refl, rw is (entry-over (b .args .times) w (b .args .out .now) _ (omega (arith, is, count-short p, b .pre .1 .1 .1)) (p .put-line .ensures .1)))
+    let is : p .put-cut .result ≡ length w = p .put-cut .ensures .0 in
+    (rw is refl, rw is (entry-over (b .args .times) w (b .args .out .now) _ (omega (arith, is, count-short p, b .pre .1 .1 .1)) (p .put-cut .ensures .1)))
 
 pub write-entry-spec : {M : Type 1} → statement M
 write-entry-spec =
     tie.close
     (tie.spec
-    sub-put-line
-    part-put-line-start
-    part-put-line-end
-    put-line-requires
+    sub-put-cut
+    part-put-cut-start
+    part-put-cut-end
+    put-cut-requires
     cast-out
     slice-write-out
     slice-write-out-2

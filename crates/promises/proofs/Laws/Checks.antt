@@ -15,7 +15,7 @@ use Rattle.book.specs.Sound.{IsBook, WhyForm, shorter, longer, formless, book}
 use Rattle.book.specs.Taught.{agreeing}
 use Rattle.book.specs.declared.BookForm.the-variants.{Refused}
 use Rattle.book.proofs.Sound.{why-is, why-only}
-use Rattle.book.specs.Checking.{checkOf}
+use Rattle.book.specs.Checking.{agreeOf}
 use Rattle.book.proofs.Checking.{check-unheld, check-held}
 use Rattle.effects.specs.Conditions.{_exactly-when_}
 use Rattle.promises.specs.Remaining.{Call, after, remaining, booked}
@@ -30,7 +30,7 @@ module _ (ws : List ℕ) where
   by-test x = answered (if x then done else not-agreeing)
 
   -- Checking refuses by 4 or 5 where the words have such a reason.
-  unbooked : (n : ℕ) → WhyForm ws (Refused n) → checkOf ws ≡ answered n
+  unbooked : (n : ℕ) → WhyForm ws (Refused n) → agreeOf ws ≡ answered n
   unbooked n w = check-unheld ws n (why-only ws (Refused n) w)
 
   module _ (b : Book) (i : IsBook ws b) where
@@ -39,47 +39,47 @@ module _ (ws : List ℕ) where
     test-exact = sound-agreeing b (i .sound)
 
     -- One that passes is answered by 0,
-    passed-0 : agreeing b ≡ true → checkOf ws ≡ answered done
+    passed-0 : agreeing b ≡ true → agreeOf ws ≡ answered done
     unfolding if_then_else_
     passed-0 e = check-held ws b i ∙ ap by-test e
 
     -- and one that does not by 9.
-    failed-9 : agreeing b ≡ false → checkOf ws ≡ answered not-agreeing
+    failed-9 : agreeing b ≡ false → agreeOf ws ≡ answered not-agreeing
     unfolding if_then_else_
     failed-9 e = check-held ws b i ∙ ap by-test e
 
   -- What checking answers has a row of 01's table.
-  pub checked-why : WhyChecked ws (checkOf ws)
+  pub checked-why : WhyChecked ws (agreeOf ws)
   checked-why = go (why-is ws)
     where
       -- By whether the book passes the test.
-      by-book : (b : Book) → IsBook ws b → (x : Bool) → agreeing b ≡ x → WhyChecked ws (checkOf ws)
+      by-book : (b : Book) → IsBook ws b → (x : Bool) → agreeing b ≡ x → WhyChecked ws (agreeOf ws)
       by-book b i true e = agrees b (passed-0 b i e) i (test-exact b i .0 e)
       by-book b i false e = disagrees b (failed-9 b i e) i (λ g. no-test (sym e ∙ test-exact b i .1 g))
 
       -- A reason of the words' form.
-      no-book : (n : ℕ) → WhyForm ws (Refused n) → WhyChecked ws (checkOf ws)
+      no-book : (n : ℕ) → WhyForm ws (Refused n) → WhyChecked ws (agreeOf ws)
       no-book n w = check-no-book n (unbooked n w) w
 
       -- By what the words are.
-      go : WhyForm ws (bookFormOf ws) → WhyChecked ws (checkOf ws)
+      go : WhyForm ws (bookFormOf ws) → WhyChecked ws (agreeOf ws)
       go (shorter r l) = no-book book-size (shorter refl l)
       go (longer r l) = no-book book-size (longer refl l)
       go (formless r l m n) = no-book not-in-form (formless refl l m n)
       go (book b r i) = by-book b i (agreeing b) refl
 
   -- What has a row is what checking answers.
-  pub checked-only : (a : Answer) → WhyChecked ws a → checkOf ws ≡ a
+  pub checked-only : (a : Answer) → WhyChecked ws a → agreeOf ws ≡ a
   checked-only a (check-no-book n e w) = unbooked n w ∙ sym e
   checked-only a (disagrees b e i x) = fails (agreeing b) refl ∙ sym e
     where
       -- A book that does not agree with itself fails the test.
-      fails : (y : Bool) → agreeing b ≡ y → checkOf ws ≡ answered not-agreeing
+      fails : (y : Bool) → agreeing b ≡ y → agreeOf ws ≡ answered not-agreeing
       fails true p = absurd (x (test-exact b i .0 p))
       fails false p = failed-9 b i p
   checked-only a (agrees b e i g) = passed-0 b i (test-exact b i .1 g) ∙ sym e
 
 -- After any calls the book is checked with 0.
-pub grown-agrees : (slice : List ℕ) (k : ℕ) (first : List (List ℕ)) (ws : List ℕ) → Begun slice k first ws → (cs : List Call) → checkOf (after cs ws) ≡ answered done
+pub grown-agrees : (slice : List ℕ) (k : ℕ) (first : List (List ℕ)) (ws : List ℕ) → Begun slice k first ws → (cs : List Call) → agreeOf (after cs ws) ≡ answered done
 grown-agrees slice k first ws begun cs =
     passed-0 (after cs ws) (booked k (remaining cs ws first)) (after-book slice k first ws begun cs) (after-agrees slice k first ws begun cs)

@@ -7,7 +7,7 @@ use native.Mathlib.Omega.{arith}
 use lib.ListN.{length, getD}
 use Rattle.figures.specs.Limits.{most-nodes, desk-book-words, used-word}
 use Rattle.figures.specs.Numbers.{middle-unknown}
-use Rattle.form.specs.Reading.{Form, fault, form, byForm, formOf, wordsOf}
+use Rattle.form.specs.Reading.{Form, fault, form, byForm, formOf, wordsOfLines}
 use Rattle.form.proofs.Figures.{text-line}
 use Rattle.book.specs.Opening.{outcome}
 use Rattle.book.proofs.Meaning.{used-fits}
@@ -17,7 +17,7 @@ use Rattle.verdicts.proofs.Figures.{judge-line-most}
 use Rattle.reply.specs.Replies.{most-digits, decimal}
 use Rattle.reply.specs.Meaning.{valueOf}
 use Rattle.reply.proofs.Meaning.{decimal-value}
-use Rattle.sheet.specs.Sheets.{Call as Asking, handed, handedIn}
+use Rattle.sheet.specs.Sheets.{FormCall, handed, handedIn}
 use Rattle.sheet.specs.declared.Letter.{Letter}
 use Rattle.sheet.specs.declared.Letter.the-variants.{Teach, Withdraw, Judge}
 use Rattle.ask.specs.Asking.{askOf, callOf}
@@ -47,7 +47,7 @@ few-digits : (n : ℕ) → n ≤ desk-book-words → n < 10 ^ most-digits
 few-digits n h = omega arith
 
 -- A form of an input without fault, behind some others.
-module _ (input : List ℕ) (k : ℕ) (cs : List Asking) (is : handedIn input ≡ handed k cs) (front : List Asking) (c : Asking) where
+module _ (input : List ℕ) (k : ℕ) (cs : List FormCall) (is : handedIn input ≡ handed k cs) (front : List FormCall) (c : FormCall) where
   -- The desk's book before it.
   abbrev book : List ℕ
   book = desk-book input k cs is front
@@ -77,14 +77,14 @@ module _ (input : List ℕ) (k : ℕ) (cs : List Asking) (is : handedIn input �
 
       -- By what the text is.
       by-form : (f : Form) → formOf (c .text) ≡ f
-          → byForm f (λ n line. outcome (record { number = n; line = line }) book) (λ xs. askOf (c .letter) book (wordsOf xs)) .answer .line ≤ suc most-nodes
+          → byForm f (λ n line. outcome (record { number = n; line = line }) book) (λ xs. askOf (c .letter) book (wordsOfLines xs)) .answer .line ≤ suc most-nodes
       by-form (fault n line) q = text-line (c .text) q
-      by-form (form xs) q = by-letter (c .letter) (wordsOf xs)
+      by-form (form xs) q = by-letter (c .letter) (wordsOfLines xs)
 
   -- The words used are no more than the slice has.
   used-most : used-printed ≤ desk-book-words
   used-most =
-      let upto : List Asking = front ++ (c ∷ []) in
+      let upto : List FormCall = front ++ (c ∷ []) in
       let keeps = desk-keeps input k cs is upto in
       let ws : List ℕ = desk-book input k cs is upto in
       let u = ap (λ (l : List ℕ). getD l used-word 0) (sym (book-then front c (opened input k cs is))) ∙ head-says ws (keeps .book) (keeps .isBook) .1 in
@@ -92,7 +92,7 @@ module _ (input : List ℕ) (k : ℕ) (cs : List Asking) (is : handedIn input �
       omega (arith, u, long, used-fits ws (keeps .book) (keeps .isBook .laid))
 
   -- It is one of the forms.
-  module _ (back : List Asking) (e : cs ≡ front ++ (c ∷ back)) where
+  module _ (back : List FormCall) (e : cs ≡ front ++ (c ∷ back)) where
     -- The number is at most 22, the line at most 65, and the words used are at most the 8,192 of the slice.
     pub desk-figures : (number-printed ≤ middle-unknown) × (line-printed ≤ suc most-nodes) × (used-printed ≤ desk-book-words)
     desk-figures = (number-most (desk-numbers input k cs is front c back e), line-most, used-most)

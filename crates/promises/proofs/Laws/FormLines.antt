@@ -10,7 +10,7 @@ use lib.ListN.{length, getD, take, drop, take-append-drop}
 use lib.Seq.{length-take-le}
 use Rattle.trees.specs.Trees.{Tree, node, words, subtrees, below}
 use Rattle.trees.specs.Reading.{found, missing}
-use Rattle.trees.specs.Answers.{treeAt, lineOf}
+use Rattle.trees.specs.Answers.{treeAt, treeOfLine}
 use Rattle.trees.specs.Paper.{StrictlyBelow}
 use Rattle.trees.proofs.Reading.{not-found}
 use Rattle.trees.proofs.Paper.{below-from, below-to}
@@ -121,9 +121,9 @@ unfolding topCode words
 top-first (node c f) = refl
 
 -- The subtree of a line of an order has that line in the order's form, with the code at its top.
-pub line-of-subtree : (t : Tree) (line : ℕ) (s : Tree) → lineOf line (subtrees t) ≡ found s
+pub line-of-subtree : (t : Tree) (line : ℕ) (s : Tree) → treeOfLine line (subtrees t) ≡ found s
     → (x : Line) × LineOfText (textOf t) line x × (x .code ≡ getD (words s) 0 0)
-unfolding lineOf textOf spell
+unfolding treeOfLine textOf spell
 line-of-subtree t zero s q = absurd (let y : _≡_ {A = ℕ} 0 1 = cc in omega arith)
 line-of-subtree t (suc i) s q =
     let a = line-among (linesOf t 0) (subtrees t) i s (lines-subtrees t 0) q in (
@@ -141,8 +141,8 @@ line-of-subtree t (suc i) s q =
 -- ---- the lines below a line
 
 -- As many lines of a form stand below a line as trees strictly below its subtree.
-pub lines-below : (t s : Tree) (line : ℕ) → lineOf line (subtrees t) ≡ found s → LinesBelow (linesOf t 0) line (length (below s))
-unfolding lineOf linesOf below
+pub lines-below : (t s : Tree) (line : ℕ) → treeOfLine line (subtrees t) ≡ found s → LinesBelow (linesOf t 0) line (length (below s))
+unfolding treeOfLine linesOf below
 lines-below t s zero q = not-found q
 lines-below t s (suc i) q = go s (tree-first t 0 [] no-more i s q)
   where
@@ -165,22 +165,22 @@ lines-below t s (suc i) q = go s (tree-first t 0 [] no-more i s q)
     }
 
 -- The trees strictly below a line's subtree are those of the lines below it.
-pub below-by-lines : (t s u : Tree) (line : ℕ) → lineOf line (subtrees t) ≡ found s
-    → StrictlyBelow s u exactly-when (j : ℕ) × (line < j) × (j ≤ line + length (below s)) × (lineOf j (subtrees t) ≡ found u)
-unfolding lineOf
+pub below-by-lines : (t s u : Tree) (line : ℕ) → treeOfLine line (subtrees t) ≡ found s
+    → StrictlyBelow s u exactly-when (j : ℕ) × (line < j) × (j ≤ line + length (below s)) × (treeOfLine j (subtrees t) ≡ found u)
+unfolding treeOfLine
 below-by-lines t s u zero q = not-found q
 below-by-lines t s u (suc i) q = (to, from)
   where
     -- Such a tree has its line,
-    to : StrictlyBelow s u → (j : ℕ) × (suc i < j) × (j ≤ suc i + length (below s)) × (lineOf j (subtrees t) ≡ found u)
+    to : StrictlyBelow s u → (j : ℕ) × (suc i < j) × (j ≤ suc i + length (below s)) × (treeOfLine j (subtrees t) ≡ found u)
     to m = let r = below-line t s u i q (below-to m) in (suc (i + 1 + r .0), omega (arith, r .1), omega (arith, r .1), r .2)
 
     -- and such a line its tree.
-    from : (j : ℕ) × (suc i < j) × (j ≤ suc i + length (below s)) × (lineOf j (subtrees t) ≡ found u) → StrictlyBelow s u
+    from : (j : ℕ) × (suc i < j) × (j ≤ suc i + length (below s)) × (treeOfLine j (subtrees t) ≡ found u) → StrictlyBelow s u
     from r = at (r .0) (r .1) (r .2) (r .3)
       where
         -- By the line.
-        at : (j : ℕ) → suc i < j → j ≤ suc i + length (below s) → lineOf j (subtrees t) ≡ found u → StrictlyBelow s u
+        at : (j : ℕ) → suc i < j → j ≤ suc i + length (below s) → treeOfLine j (subtrees t) ≡ found u → StrictlyBelow s u
         at zero h l e = absurd (omega arith)
         at (suc j) h l e =
             let place : j ≡ i + 1 + (j - (i + 1)) = omega arith in

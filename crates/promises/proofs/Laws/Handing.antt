@@ -14,12 +14,12 @@ use Rattle.trees.specs.Trees.{Tree, words}
 use Rattle.trees.specs.Fits.{IsOrder}
 use Rattle.trees.proofs.Fitting.{order-read}
 use Rattle.form.specs.Text.{Line, textOf}
-use Rattle.form.specs.Reading.{Form, fault, form, byForm, formOf, wordsOf}
+use Rattle.form.specs.Reading.{Form, fault, form, byForm, formOf, wordsOfLines}
 use Rattle.form.specs.Faults.{Why, past, misspelt, no-option, not-allowed, too-deep, ninth-child}
 use Rattle.form.proofs.FirstFault.{first-fault}
 use Rattle.form.proofs.Trips.{order-text}
 use Rattle.book.specs.Opening.{outcome}
-use Rattle.sheet.specs.Sheets.{first-line-size, letterByte, Call as Asking, sheetOf, Handed, handed, handedIn}
+use Rattle.sheet.specs.Sheets.{first-line-size, letterByte, FormCall, sheetOf, Handed, handed, handedIn}
 use Rattle.sheet.proofs.Handing.{calls-within, HandsIn, at-fault, opens, hands-in}
 use Rattle.sheet.specs.declared.Letter.{Letter}
 use Rattle.sheet.specs.declared.Letter.the-variants.{Teach, Withdraw, Judge}
@@ -31,7 +31,7 @@ use Rattle.promises.specs.AtTheDesk.{callFor, madeOf, madeBy, bookAfter,
 -- ---- what is handed in
 
 -- An input that hands in k and calls is no longer than allowed, k is allowed, and the calls are those behind line 1.
-handed-in : (input : List ℕ) (k : ℕ) (cs : List Asking) → handedIn input ≡ handed k cs
+handed-in : (input : List ℕ) (k : ℕ) (cs : List FormCall) → handedIn input ≡ handed k cs
     → (length input ≤ most-input) × (least-k ≤ k) × (k ≤ greatest-k) × (cs ≡ sheetOf (drop first-line-size input) .calls)
 handed-in input k cs = go (handedIn input) (hands-in input)
   where
@@ -44,11 +44,11 @@ handed-in input k cs = go (handedIn input) (hands-in input)
         (m, omega arith, omega arith, calls)
 
 -- The k that is handed in is allowed.
-pub allowed-k : (input : List ℕ) (k : ℕ) (cs : List Asking) → handedIn input ≡ handed k cs → (least-k ≤ k) × (k ≤ greatest-k)
+pub allowed-k : (input : List ℕ) (k : ℕ) (cs : List FormCall) → handedIn input ≡ handed k cs → (least-k ≤ k) × (k ≤ greatest-k)
 allowed-k input k cs e = let h = handed-in input k cs e in (h .1, h .2)
 
 -- No more calls are handed in than an input may have bytes.
-pub few-calls : (input : List ℕ) (k : ℕ) (cs : List Asking) → handedIn input ≡ handed k cs → length cs ≤ most-input
+pub few-calls : (input : List ℕ) (k : ℕ) (cs : List FormCall) → handedIn input ≡ handed k cs → length cs ≤ most-input
 few-calls input k cs e =
     let h = handed-in input k cs e in
     omega (arith, h .0, calls-within (drop first-line-size input), length-drop first-line-size input, ap length (h .3))
@@ -69,18 +69,18 @@ asked-after Withdraw os ws = refl
 asked-after Judge os ws = refl
 
 -- What a form leaves is what the call that it makes leaves.
-form-after : (c : Asking) (ws : List ℕ) → callOf c ws .words ≡ after (madeOf c) ws
+form-after : (c : FormCall) (ws : List ℕ) → callOf c ws .words ≡ after (madeOf c) ws
 unfolding callOf madeOf byForm afterBy
 form-after c ws = go (formOf (c .text))
   where
     -- By what its text is.
-    go : (f : Form) → byForm f (λ n line. outcome (record { number = n; line = line }) ws) (λ xs. askOf (c .letter) ws (wordsOf xs)) .words
-        ≡ after (byForm f (λ n line. []) (λ xs. callFor (c .letter) (wordsOf xs))) ws
+    go : (f : Form) → byForm f (λ n line. outcome (record { number = n; line = line }) ws) (λ xs. askOf (c .letter) ws (wordsOfLines xs)) .words
+        ≡ after (byForm f (λ n line. []) (λ xs. callFor (c .letter) (wordsOfLines xs))) ws
     go (fault n line) = refl
-    go (form xs) = asked-after (c .letter) (wordsOf xs) ws
+    go (form xs) = asked-after (c .letter) (wordsOfLines xs) ws
 
 -- What forms leave is what the calls that they make leave.
-pub forms-after : (cs : List Asking) (ws : List ℕ) → bookAfter cs ws ≡ after (madeBy cs) ws
+pub forms-after : (cs : List FormCall) (ws : List ℕ) → bookAfter cs ws ≡ after (madeBy cs) ws
 unfolding bookAfter madeBy afterBy
 forms-after [] ws = refl
 forms-after (c ∷ cs) ws =
@@ -95,17 +95,17 @@ letter-makes Withdraw os = omega arith
 letter-makes Judge os = omega arith
 
 -- So does a form.
-form-makes : (c : Asking) → length (madeOf c) ≤ 1
+form-makes : (c : FormCall) → length (madeOf c) ≤ 1
 unfolding madeOf byForm
 form-makes c = go (formOf (c .text))
   where
     -- By what its text is.
-    go : (f : Form) → length (byForm f (λ n line. []) (λ xs. callFor (c .letter) (wordsOf xs))) ≤ 1
+    go : (f : Form) → length (byForm f (λ n line. []) (λ xs. callFor (c .letter) (wordsOfLines xs))) ≤ 1
     go (fault n line) = omega arith
-    go (form xs) = letter-makes (c .letter) (wordsOf xs)
+    go (form xs) = letter-makes (c .letter) (wordsOfLines xs)
 
 -- Forms make no more calls than they are.
-pub forms-make : (cs : List Asking) → length (madeBy cs) ≤ length cs
+pub forms-make : (cs : List FormCall) → length (madeBy cs) ≤ length cs
 unfolding madeBy
 forms-make [] = omega arith
 forms-make (c ∷ cs) = simp length-append (omega (arith, form-makes c, forms-make cs))
@@ -146,17 +146,17 @@ letter-one Withdraw os = (tt, tt)
 letter-one Judge os = tt
 
 -- So are those of a form.
-form-one : (c : Asking) → OneOrders (madeOf c)
+form-one : (c : FormCall) → OneOrders (madeOf c)
 unfolding madeOf byForm OneOrders
 form-one c = go (formOf (c .text))
   where
     -- By what its text is.
-    go : (f : Form) → OneOrders (byForm f (λ n line. []) (λ xs. callFor (c .letter) (wordsOf xs)))
+    go : (f : Form) → OneOrders (byForm f (λ n line. []) (λ xs. callFor (c .letter) (wordsOfLines xs)))
     go (fault n line) = tt
-    go (form xs) = letter-one (c .letter) (wordsOf xs)
+    go (form xs) = letter-one (c .letter) (wordsOfLines xs)
 
 -- So are those of forms.
-pub forms-one : (cs : List Asking) → OneOrders (madeBy cs)
+pub forms-one : (cs : List FormCall) → OneOrders (madeBy cs)
 unfolding madeBy OneOrders
 forms-one [] = tt
 forms-one (c ∷ cs) = one-both (madeOf c) (madeBy cs) (form-one c) (forms-one cs)
@@ -189,13 +189,13 @@ few-left (c ∷ cs) ws orders p =
 -- ---- the lines of forms
 
 -- What forms leave, and one more.
-pub book-then : (front : List Asking) (c : Asking) (ws : List ℕ) → bookAfter (front ++ (c ∷ [])) ws ≡ callOf c (bookAfter front ws) .words
+pub book-then : (front : List FormCall) (c : FormCall) (ws : List ℕ) → bookAfter (front ++ (c ∷ [])) ws ≡ callOf c (bookAfter front ws) .words
 unfolding bookAfter
 book-then [] c ws = refl
 book-then (d ∷ front) c ws = book-then front c (callOf d ws .words)
 
 -- The lines of forms, of which one is c: those of the forms before it, its own by the book that they leave, and those of the forms behind it.
-pub lines-split : (front : List Asking) (c : Asking) (back : List Asking) (ws : List ℕ)
+pub lines-split : (front : List FormCall) (c : FormCall) (back : List FormCall) (ws : List ℕ)
     → linesFor (front ++ (c ∷ back)) ws
     ≡ linesFor front ws ++ (lineFor (letterByte (c .letter)) (callOf c (bookAfter front ws)) ++ linesFor back (bookAfter (front ++ (c ∷ [])) ws))
 unfolding linesFor bookAfter

@@ -7,7 +7,7 @@ use native.Mathlib.Omega.{arith}
 use Rattle.words.specs.Base.{_∈_}
 use Rattle.section.specs.Entries.{Entry, countOf, Sorted}
 use Rattle.trees.specs.Trees.{Tree, words, Good}
-use Rattle.trees.specs.Reading.{byFound, Found, missing, found, treeOf}
+use Rattle.trees.specs.Reading.{byFound, TreeFound, missing, found, treeOf}
 use Rattle.trees.specs.Fits.{IsOrder}
 use Rattle.trees.specs.Paper.{IsR, IsL, IsP}
 use Rattle.trees.proofs.Orders.{words-read, read-words}
@@ -110,7 +110,7 @@ listed-in [] u m = absurd (List·Memᴰ·not-nil m)
 listed-in (e ∷ es) u m = go (treeOf (e .key)) refl m (listed-in es u)
   where
     -- By what the first entry's words are read as.
-    go : (x : Found) → treeOf (e .key) ≡ x → u ∈ byFound x (treesOf es) (λ t. t ∷ treesOf es) → (u ∈ treesOf es → In es u) → In (e ∷ es) u
+    go : (x : TreeFound) → treeOf (e .key) ≡ x → u ∈ byFound x (treesOf es) (λ t. t ∷ treesOf es) → (u ∈ treesOf es → In es u) → In (e ∷ es) u
     go missing q i later = let r = later i in record { entry = r .entry; there = there (r .there); spelt = r .spelt }
     go (found t) q (here p) later = record { entry = e; there = here refl; spelt = read-words (e .key) t q .0 ∙ ap words (sym p) }
     go (found t) q (there i) later = let r = later i in record { entry = r .entry; there = there (r .there); spelt = r .spelt }
@@ -122,7 +122,7 @@ in-listed [] u g e m q = absurd (List·Memᴰ·not-nil m)
 in-listed (f ∷ es) u g e m q = go (treeOf (f .key)) refl m (λ i. in-listed es u g e i q)
   where
     -- By what the first entry's words are read as, and whether it is the one.
-    go : (x : Found) → treeOf (f .key) ≡ x → e ∈ f ∷ es → (e ∈ es → u ∈ treesOf es) → u ∈ byFound x (treesOf es) (λ t. t ∷ treesOf es)
+    go : (x : TreeFound) → treeOf (f .key) ≡ x → e ∈ f ∷ es → (e ∈ es → u ∈ treesOf es) → u ∈ byFound x (treesOf es) (λ t. t ∷ treesOf es)
     go missing p (here i) later = not-found (sym p ∙ ap (λ (y : Entry). treeOf (y .key)) (sym i) ∙ ap treeOf q ∙ words-read u g)
     go (found t) p (here i) later = here (words-unique u t (sym q ∙ ap (λ (y : Entry). y .key) i ∙ read-words (f .key) t p .0))
     go missing p (there i) later = later i

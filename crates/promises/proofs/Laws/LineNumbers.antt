@@ -11,7 +11,7 @@ use Rattle.figures.specs.declared.Answer.{Answer}
 use Rattle.trees.specs.Trees.{Tree, node, depth, subtrees}
 use Rattle.trees.specs.Reading.{found}
 use Rattle.trees.specs.Fits.{IsOrder}
-use Rattle.trees.specs.Answers.{checkOf, treeAt, lineOf, Writing, cutIntoOf, PartWriting, partIntoOf}
+use Rattle.trees.specs.Answers.{checkOf, treeAt, treeOfLine, Writing, cutIntoOf, PartWriting, partIntoOf}
 use Rattle.trees.specs.Paper.{IsR}
 use Rattle.trees.proofs.Fitting.{order-read}
 use Rattle.trees.proofs.Paper.{r-only}
@@ -104,13 +104,13 @@ judge-line ws os low = go (judged-is ws os)
     go (judged b t i q (no-middle line s e r l u)) = none e (omega arith)
 
 -- The subtree of line 1 is the whole tree.
-first-subtree : (t : Tree) → lineOf 1 (subtrees t) ≡ found t
-unfolding lineOf treeAt subtrees
+first-subtree : (t : Tree) → treeOfLine 1 (subtrees t) ≡ found t
+unfolding treeOfLine treeAt subtrees
 first-subtree (node c f) = refl
 
 -- A line that has a subtree is one of the order's.
-line-within : (t : Tree) (line : ℕ) (s : Tree) → lineOf line (subtrees t) ≡ found s → (1 ≤ line) × (line ≤ length (subtrees t))
-unfolding lineOf
+line-within : (t : Tree) (line : ℕ) (s : Tree) → treeOfLine line (subtrees t) ≡ found s → (1 ≤ line) × (line ≤ length (subtrees t))
+unfolding treeOfLine
 line-within t zero s q = absurd (let y : _≡_ {A = ℕ} 0 1 = cc in omega arith)
 line-within t (suc i) s q = (omega arith, place-within (subtrees t) i s q)
 
@@ -219,7 +219,7 @@ module _ (ws os : List ℕ) (b : Book) (t : Tree) (is : IsBook ws b) (o : IsOrde
           ∙ ap (λ (n : ℕ). record { number = n; line = a .line }) (sym (w .deeper-is-22 d))
 
   -- An unknown line is told by 21 or 22, be it this line or another.
-  pub unknown-told : (line : ℕ) (s : Tree) → lineOf line (subtrees t) ≡ found s → (PartKnown b s → ⊥) → low-unknown ≤ judgeOf ws os .number
+  pub unknown-told : (line : ℕ) (s : Tree) → treeOfLine line (subtrees t) ≡ found s → (PartKnown b s → ⊥) → low-unknown ≤ judgeOf ws os .number
   unknown-told line s q n = go (judgeOf ws os) verdict-row
     where
       -- By the verdict.
@@ -249,7 +249,7 @@ unpassed ws os b t is o not = go (verdict-row ws os b t is o)
   where
     -- An answer with a number from 20 to 22 at a line whose subtree is known to be s comes back so.
     at-line : (s : Tree) {n line : ℕ} → judgeOf ws os ≡ record { number = n; line = line } → top-unknown ≤ n → n ≤ middle-unknown
-        → lineOf line (subtrees t) ≡ found s → ComesBack t (judgeOf ws os)
+        → treeOfLine line (subtrees t) ≡ found s → ComesBack t (judgeOf ws os)
     at-line s {n} {line} e low high q =
         let r = line-of-subtree t line s q in
         let l : judgeOf ws os .line ≡ line = line-of e in
@@ -261,7 +261,7 @@ unpassed ws os b t is o not = go (verdict-row ws os b t is o)
           first = omega (arith, l, bounds .0);
           last = omega (arith, l, bounds .1);
           subtree = s;
-          on = ap (λ (i : ℕ). lineOf i (subtrees t)) l ∙ q;
+          on = ap (λ (i : ℕ). treeOfLine i (subtrees t)) l ∙ q;
           read-aloud = r .0;
           stands = subst (λ (i : ℕ). LineOfText (textOf t) i (r .0)) (sym l) (r .1);
           its-code = r .2;

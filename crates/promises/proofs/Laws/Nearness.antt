@@ -27,7 +27,7 @@ use Rattle.section.proofs.Near.{lower-is-below, equal-not-below, higher-not-bel
 use Rattle.trees.specs.Trees.{Tree, words, subtrees}
 use Rattle.trees.specs.Reading.{found}
 use Rattle.trees.specs.Parts.{top, isLow, middle}
-use Rattle.trees.specs.Answers.{treeAt, lineOf}
+use Rattle.trees.specs.Answers.{treeAt, treeOfLine}
 use Rattle.trees.specs.Paper.{IsR}
 use Rattle.trees.proofs.Fitting.{order-read}
 use Rattle.trees.proofs.Paper.{cut-is-r}
@@ -42,7 +42,7 @@ use Rattle.verdicts.specs.Verdicts.{Lent}
 use Rattle.verdicts.proofs.Fixes.{LeastIs, none-least, is-least, least-is}
 use Rattle.verdicts.proofs.Judgements.{by-verdict, expects}
 use Rattle.promises.specs.Remaining.{HowMany, none-left, one-more, not-this}
-use Rattle.promises.specs.Expected.{PlaceBelow, none-below, last-below, PlaceAbove, none-above, first-above, Stands, it-is-there, it-is-not, IsNear}
+use Rattle.promises.specs.Expected.{PlaceBelow, none-below, last-below, PlaceAbove, none-above, first-above, PartStands, it-is-there, it-is-not, IsNear}
 use Rattle.promises.proofs.Uniqueness.{how-many-once}
 
 -- ---- how keys stand
@@ -246,7 +246,7 @@ module _ (key : List ℕ) (es : List Entry) where
       many = how-many-once _ es _ _ (x .below) (y .below)
 
       -- By whether an entry has the key.
-      go : Stands key es r → Stands key es s → r ≡ s
+      go : PartStands key es r → PartStands key es s → r ≡ s
       go (it-is-there h t l u) (it-is-there k v m w) = same many (t ∙ sym v) (l ∙ sym m) (u ∙ sym w)
       go (it-is-there h t l u) (it-is-not n v m w) = absurd (n h)
       go (it-is-not n t l u) (it-is-there k v m w) = absurd (n k)
@@ -281,13 +281,13 @@ module _ (b : Book) (x : SoundBook b) where
 data HandsOn (b : Book) (t : Tree) (a : Answer) (r : Neighbours) : Type 0 where
   hands-nothing : a .number ≡ done → r ≡ nowhere → HandsOn b t a r
   hands-top : a .number ≡ top-unknown → r ≡ nearOf (words (top (b .k) t)) (b .R) → HandsOn b t a r
-  hands-low : (s : Tree) → a .number ≡ low-unknown → lineOf (a .line) (subtrees t) ≡ found s → r ≡ nearOf (words s) (b .L) → HandsOn b t a r
-  hands-middle : (s : Tree) → a .number ≡ middle-unknown → lineOf (a .line) (subtrees t) ≡ found s → r ≡ nearOf (words (middle (b .k) s)) (b .P)
+  hands-low : (s : Tree) → a .number ≡ low-unknown → treeOfLine (a .line) (subtrees t) ≡ found s → r ≡ nearOf (words s) (b .L) → HandsOn b t a r
+  hands-middle : (s : Tree) → a .number ≡ middle-unknown → treeOfLine (a .line) (subtrees t) ≡ found s → r ≡ nearOf (words (middle (b .k) s)) (b .P)
       → HandsOn b t a r
 
 -- The verdict and what is expected go together so.
 hands-on : (b : Book) (t : Tree) → HandsOn b t (verdict b t) (expected b t)
-unfolding verdict verdictOn expected expectedOn nearTop nearPart if_then_else_ lineOf
+unfolding verdict verdictOn expected expectedOn nearTop nearPart if_then_else_ treeOfLine
 hands-on b t = go (least-is b 0 (subtrees t))
   where
     -- Where no line is doubted, by whether R has the top.
@@ -342,11 +342,11 @@ module _ (ws os : List ℕ) where
       go (hands-middle s f at q) = absurd (omega arith)
 
   -- The subtrees of one line are one.
-  one-subtree : (t s u : Tree) (line : ℕ) → lineOf line (subtrees t) ≡ found s → lineOf line (subtrees t) ≡ found u → s ≡ u
+  one-subtree : (t s u : Tree) (line : ℕ) → treeOfLine line (subtrees t) ≡ found s → treeOfLine line (subtrees t) ≡ found u → s ≡ u
   one-subtree t s u line e f = let z : found s ≡ found u = sym e ∙ f in cc
 
   -- 21 with what L says of the reported line's subtree,
-  pub low-handed : (l : Lent ws os) (s : Tree) → judgeOf ws os .number ≡ low-unknown → lineOf (judgeOf ws os .line) (subtrees (l .tree)) ≡ found s
+  pub low-handed : (l : Lent ws os) (s : Tree) → judgeOf ws os .number ≡ low-unknown → treeOfLine (judgeOf ws os .line) (subtrees (l .tree)) ≡ found s
       → expectedOf ws os ≡ nearOf (words s) (l .book .L)
   low-handed l s e on = go (judge-hands l)
     where
@@ -358,7 +358,7 @@ module _ (ws os : List ℕ) where
       go (hands-middle u f at q) = absurd (omega arith)
 
   -- and 22 with what P says of what stands for it.
-  pub middle-handed : (l : Lent ws os) (s : Tree) → judgeOf ws os .number ≡ middle-unknown → lineOf (judgeOf ws os .line) (subtrees (l .tree)) ≡ found s
+  pub middle-handed : (l : Lent ws os) (s : Tree) → judgeOf ws os .number ≡ middle-unknown → treeOfLine (judgeOf ws os .line) (subtrees (l .tree)) ≡ found s
       → expectedOf ws os ≡ nearOf (words (middle (l .book .k) s)) (l .book .P)
   middle-handed l s e on = go (judge-hands l)
     where

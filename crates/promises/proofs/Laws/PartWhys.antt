@@ -16,7 +16,7 @@ use Rattle.trees.specs.Reading.{missing, found, byFound, refused, byOrder, orde
 use Rattle.trees.specs.Causes.{Cause}
 use Rattle.trees.specs.Fits.{IsOrder}
 use Rattle.trees.specs.Parts.{isLow, middle, partOf}
-use Rattle.trees.specs.Answers.{checkOf, lineOf, Piece, piece, noPiece, subtreeOf, Writing, writing, refuse, write, cutIntoOf, PartWriting, partWriting, noPart, ofKind, partIntoOf}
+use Rattle.trees.specs.Answers.{checkOf, treeOfLine, Piece, piece, noPiece, subtreeOf, Writing, writing, refuse, write, cutIntoOf, PartWriting, partWriting, noPart, ofKind, partIntoOf}
 use Rattle.trees.specs.Standing.{placeOf}
 use Rattle.trees.specs.declared.Kind.the-variants.{Low, Middle}
 use Rattle.trees.specs.declared.Place.the-variants.{Lacking, At}
@@ -25,7 +25,7 @@ use Rattle.trees.proofs.Causes.{cause-is, cause-only, Seen, stopped, passed, se
 use Rattle.trees.proofs.Fitting.{passed-order, order-read}
 use Rattle.trees.proofs.Spots.{spot-part}
 use Rattle.trees.proofs.Lines.{LacksLine, HasLine, placed, place-none, place-past, place-at}
-use Rattle.promises.specs.Whys.{WhyNumbered, numbered, Lacks, line-0, past-last, WhySubtree, subtree-no-order, subtree-lacks, subtree}
+use Rattle.promises.specs.Whys.{WhyNumbered, numbered, LacksLine, line-0, past-last, WhySubtree, subtree-no-order, subtree-lacks, subtree}
 use Rattle.promises.specs.Whys.{WhyCut, cut-no-order, cut-lacks, cut-short, cut-written}
 use Rattle.promises.specs.Whys.{WhyPart, part-no-order, part-lacks, low-short, low-written, middle-short, middle-written}
 use Rattle.promises.proofs.Laws.Refusals.{write-refuses, write-writes}
@@ -61,22 +61,22 @@ module _ (os : List ℕ) (t : Tree) (o : IsOrder os t) where
 
   module _ (line : ℕ) where
     -- A line that it lacks has no subtree.
-    no-subtree : Lacks t line → lineOf line (subtrees t) ≡ missing
+    no-subtree : LacksLine t line → treeOfLine line (subtrees t) ≡ missing
     no-subtree l = go (placed os line (placeOf os line) Lacking refl (place l))
       where
         -- The line has no place.
-        place : Lacks t line → placeOf os line ≡ Lacking
+        place : LacksLine t line → placeOf os line ≡ Lacking
         place (line-0 z) = place-none os line no-cause z
         place (past-last h) = place-past os line no-cause (omega (arith, half-lines))
 
         -- So it has no tree.
-        go : LacksLine os line → lineOf line (subtrees t) ≡ missing
-        go q = let e : q .tree ≡ t = cc (q .is, order-read os t o) in ap (λ (u : Tree). lineOf line (subtrees u)) (sym e) ∙ q .lacks
+        go : LacksLine os line → treeOfLine line (subtrees t) ≡ missing
+        go q = let e : q .tree ≡ t = cc (q .is, order-read os t o) in ap (λ (u : Tree). treeOfLine line (subtrees u)) (sym e) ∙ q .lacks
 
     -- A line that it has is that of a subtree, which is a contiguous part of its words.
     record OfLine : Type 0 where
       of : Tree
-      is : lineOf line (subtrees t) ≡ found of
+      is : treeOfLine line (subtrees t) ≡ found of
       part : take (length (words of)) (drop ((line - 1) * 2) os) ≡ words of
 
     -- Any line but those that it lacks is one of these.
@@ -89,14 +89,14 @@ module _ (os : List ℕ) (t : Tree) (o : IsOrder os t) where
             let e : q .tree ≡ t = cc (q .is, order-read os t o) in
             record {
               of = q .spot .tree;
-              is = ap (λ (u : Tree). lineOf line (subtrees u)) (sym e) ∙ q .spot .is;
+              is = ap (λ (u : Tree). treeOfLine line (subtrees u)) (sym e) ∙ q .spot .is;
               part = spot-part os ((line - 1) * 2) _ (q .spot);
             }
 
 -- What a line of any words is: a refused order, a line that the order lacks, or one that it has.
 data Asked (os : List ℕ) (line : ℕ) : Type 0 where
   no-order : (n : ℕ) → Cause os n → (n ≡ done → ⊥) → Asked os line
-  lacking : (t : Tree) → IsOrder os t → Lacks t line → Asked os line
+  lacking : (t : Tree) → IsOrder os t → LacksLine t line → Asked os line
   there : (t : Tree) (o : IsOrder os t) → OfLine os t o line → Asked os line
 
 -- Every line of any words is one of these.
@@ -124,12 +124,12 @@ module _ (os : List ℕ) (line : ℕ) where
 
   module _ (t : Tree) (o : IsOrder os t) where
     -- So it is for a line that the order lacks.
-    hands-empty : Lacks t line → subtreeOf os line ≡ noPiece
+    hands-empty : LacksLine t line → subtreeOf os line ≡ noPiece
     unfolding subtreeOf byOrder byFound
     hands-empty l = rw (order-read os t o, no-subtree os t o line l)
 
     -- For any other line its subtree's words are, from the line's own on.
-    hands-part : (s : Tree) → lineOf line (subtrees t) ≡ found s → subtreeOf os line ≡ piece ((line - 1) * 2) (words s)
+    hands-part : (s : Tree) → treeOfLine line (subtrees t) ≡ found s → subtreeOf os line ≡ piece ((line - 1) * 2) (words s)
     unfolding subtreeOf byOrder byFound
     hands-part s e = rw (order-read os t o, e)
 
@@ -159,12 +159,12 @@ module _ (os out : List ℕ) (line d : ℕ) where
 
   module _ (t : Tree) (o : IsOrder os t) where
     -- Of a line that the order lacks nothing is written.
-    cuts-empty : Lacks t line → cutIntoOf os line d out ≡ writing (wrote done 0) out
+    cuts-empty : LacksLine t line → cutIntoOf os line d out ≡ writing (wrote done 0) out
     unfolding cutIntoOf byOrder byFound
     cuts-empty l = rw (order-read os t o, no-subtree os t o line l) (write-writes [] out (omega arith))
 
     -- Of any other the cut of its subtree is written, if there is room.
-    cuts-words : (s : Tree) → lineOf line (subtrees t) ≡ found s → cutIntoOf os line d out ≡ write (words (cut s d)) out
+    cuts-words : (s : Tree) → treeOfLine line (subtrees t) ≡ found s → cutIntoOf os line d out ≡ write (words (cut s d)) out
     unfolding cutIntoOf byOrder byFound
     cuts-words s e = rw (order-read os t o, e)
 
@@ -173,7 +173,7 @@ module _ (os out : List ℕ) (line d : ℕ) where
   cut-why = go (asked os line)
     where
       -- A line's cut, by whether the output has room.
-      by-room : (t : Tree) → IsOrder os t → (s : Tree) → lineOf line (subtrees t) ≡ found s → Dec (length out < length (words (cut s d))) → WhyCut os out line d (cutIntoOf os line d out)
+      by-room : (t : Tree) → IsOrder os t → (s : Tree) → treeOfLine line (subtrees t) ≡ found s → Dec (length out < length (words (cut s d))) → WhyCut os out line d (cutIntoOf os line d out)
       by-room t o s i (yes h) = cut-short t s (cuts-words t o s i ∙ write-refuses (words (cut s d)) out h) o i h
       by-room t o s i (no h) =
           let l : length (words (cut s d)) ≤ length out = omega arith in
@@ -202,17 +202,17 @@ module _ (os out : List ℕ) (line k : ℕ) where
 
   module _ (t : Tree) (o : IsOrder os t) where
     -- A line that the order lacks has no part.
-    parts-empty : Lacks t line → partIntoOf os line k out ≡ partWriting (noPart done) out
+    parts-empty : LacksLine t line → partIntoOf os line k out ≡ partWriting (noPart done) out
     unfolding partIntoOf byOrder byFound
     parts-empty l = rw (order-read os t o, no-subtree os t o line l)
 
     -- A subtree of depth at most k-2 is written as a low part, if there is room.
-    parts-low : (s : Tree) → lineOf line (subtrees t) ≡ found s → depth s ≤ k - 2 → partIntoOf os line k out ≡ ofKind Low (write (words s) out)
+    parts-low : (s : Tree) → treeOfLine line (subtrees t) ≡ found s → depth s ≤ k - 2 → partIntoOf os line k out ≡ ofKind Low (write (words s) out)
     unfolding partIntoOf byOrder byFound partOf isLow if_then_else_
     parts-low s e h = rw (order-read os t o, e, le-leb (depth s) (k - 2) h)
 
     -- The cut of a deeper one is written as a middle part, if there is room.
-    parts-middle : (s : Tree) → lineOf line (subtrees t) ≡ found s → k - 2 < depth s → partIntoOf os line k out ≡ ofKind Middle (write (words (cut s (k - 1))) out)
+    parts-middle : (s : Tree) → treeOfLine line (subtrees t) ≡ found s → k - 2 < depth s → partIntoOf os line k out ≡ ofKind Middle (write (words (cut s (k - 1))) out)
     unfolding partIntoOf byOrder byFound partOf isLow middle if_then_else_
     parts-middle s e h = rw (order-read os t o, e, lt-leb (depth s) (k - 2) h)
 
@@ -221,7 +221,7 @@ module _ (os out : List ℕ) (line k : ℕ) where
   part-why = go (asked os line)
     where
       -- A low part, by whether the output has room.
-      low : (t : Tree) → IsOrder os t → (s : Tree) → lineOf line (subtrees t) ≡ found s → depth s ≤ k - 2 → Dec (length out < length (words s))
+      low : (t : Tree) → IsOrder os t → (s : Tree) → treeOfLine line (subtrees t) ≡ found s → depth s ≤ k - 2 → Dec (length out < length (words s))
           → WhyPart os out line k (partIntoOf os line k out)
       low t o s i b (yes h) = low-short t s (parts-low t o s i b ∙ ap (ofKind Low) (write-refuses (words s) out h)) o i b h
       low t o s i b (no h) =
@@ -229,7 +229,7 @@ module _ (os out : List ℕ) (line k : ℕ) where
           low-written t s (parts-low t o s i b ∙ ap (ofKind Low) (write-writes (words s) out l)) o i b l
 
       -- A middle part, by whether the output has room.
-      deep : (t : Tree) → IsOrder os t → (s : Tree) → lineOf line (subtrees t) ≡ found s → k - 2 < depth s → Dec (length out < length (words (cut s (k - 1))))
+      deep : (t : Tree) → IsOrder os t → (s : Tree) → treeOfLine line (subtrees t) ≡ found s → k - 2 < depth s → Dec (length out < length (words (cut s (k - 1))))
           → WhyPart os out line k (partIntoOf os line k out)
       deep t o s i b (yes h) = middle-short t s (parts-middle t o s i b ∙ ap (ofKind Middle) (write-refuses (words (cut s (k - 1))) out h)) o i b h
       deep t o s i b (no h) =
@@ -237,7 +237,7 @@ module _ (os out : List ℕ) (line k : ℕ) where
           middle-written t s (parts-middle t o s i b ∙ ap (ofKind Middle) (write-writes (words (cut s (k - 1))) out l)) o i b l
 
       -- A line's part, by the depth of its subtree.
-      by-depth : (t : Tree) → IsOrder os t → (s : Tree) → lineOf line (subtrees t) ≡ found s → Dec (k - 2 < depth s) → WhyPart os out line k (partIntoOf os line k out)
+      by-depth : (t : Tree) → IsOrder os t → (s : Tree) → treeOfLine line (subtrees t) ≡ found s → Dec (k - 2 < depth s) → WhyPart os out line k (partIntoOf os line k out)
       by-depth t o s i (yes b) = deep t o s i b (decLt (length out) (length (words (cut s (k - 1)))))
       by-depth t o s i (no b) = low t o s i (omega arith) (decLt (length out) (length (words s)))
 

@@ -13,12 +13,12 @@ use Rattle.figures.specs.Limits.{least-k, greatest-k}
 use Rattle.figures.specs.Numbers.{done, k-outside, book-size, short-output}
 use Rattle.figures.specs.Answers.{wrote, refusedAt}
 use Rattle.trees.specs.Trees.{Tree, words, cut, subtrees}
-use Rattle.trees.specs.Reading.{Found, missing, found, byFound, Order, refused, order, byOrder, orderOf}
+use Rattle.trees.specs.Reading.{TreeFound, missing, found, byFound, Order, refused, order, byOrder, orderOf}
 use Rattle.trees.specs.Parts.{partOf}
-use Rattle.trees.specs.Answers.{lineOf, Writing, writing, refuse, write, cutIntoOf, PartWriting, partWriting, noPart, ofKind, partIntoOf}
+use Rattle.trees.specs.Answers.{treeOfLine, Writing, writing, refuse, write, cutIntoOf, PartWriting, partWriting, noPart, ofKind, partIntoOf}
 use Rattle.trees.proofs.Writing.{no-output-room, has-room}
 use Rattle.form.specs.Text.{textOf}
-use Rattle.form.specs.Reading.{Form, fault, form, byForm, formOf, wordsOf, readOf}
+use Rattle.form.specs.Reading.{Form, fault, form, byForm, formOf, wordsOfLines, readOf}
 use Rattle.form.specs.Writing.{writeOf}
 use Rattle.book.specs.Decoding.{sized}
 use Rattle.book.specs.Taught.{bookOf}
@@ -89,7 +89,7 @@ pub cut-refusal-leaves : (os out : List ℕ) (line d : ℕ) → (cutIntoOf os li
     → (cutIntoOf os line d out .out ≡ out) × (cutIntoOf os line d out .answer .count ≡ 0)
 unfolding cutIntoOf
 cut-refusal-leaves os out line d x =
-    order-leaves (orderOf os) out (λ t. byFound (lineOf line (subtrees t)) [] (λ s. words (cut s d))) (cutIntoOf os line d out) refl x
+    order-leaves (orderOf os) out (λ t. byFound (treeOfLine line (subtrees t)) [] (λ s. words (cut s d))) (cutIntoOf os line d out) refl x
 
 -- Writing the part of a line leaves the output where it refuses.
 pub part-refusal-leaves : (os out : List ℕ) (line k : ℕ) → (partIntoOf os line k out .answer .written .number ≡ done → ⊥)
@@ -98,22 +98,22 @@ unfolding partIntoOf byOrder byFound
 part-refusal-leaves os out line k = by-order (orderOf os)
   where
     -- What the call does with the tree of the line, if there is one.
-    part : Found → PartWriting
+    part : TreeFound → PartWriting
     part s = byFound s (partWriting (noPart done) out) (λ s. ofKind (partOf k s .kind) (write (words (partOf k s .tree)) out))
 
     -- By whether the order has the line.
-    by-line : (s : Found) → (part s .answer .written .number ≡ done → ⊥) → (part s .out ≡ out) × (part s .answer .written .count ≡ 0)
+    by-line : (s : TreeFound) → (part s .answer .written .number ≡ done → ⊥) → (part s .out ≡ out) × (part s .answer .written .count ≡ 0)
     by-line missing x = absurd (x refl)
     by-line (found s) x = write-leaves (words (partOf k s .tree)) out x
 
     -- What the call does with the order.
     whole : Order → PartWriting
-    whole o = byOrder o (λ n. partWriting (noPart n) out) (λ t. part (lineOf line (subtrees t)))
+    whole o = byOrder o (λ n. partWriting (noPart n) out) (λ t. part (treeOfLine line (subtrees t)))
 
     -- By whether the words are an order.
     by-order : (o : Order) → (whole o .answer .written .number ≡ done → ⊥) → (whole o .out ≡ out) × (whole o .answer .written .count ≡ 0)
     by-order (refused n) x = (refl, refl)
-    by-order (order t) x = by-line (lineOf line (subtrees t)) x
+    by-order (order t) x = by-line (treeOfLine line (subtrees t)) x
 
 -- Reading a form leaves the output where it refuses.
 pub read-refusal-leaves : (text out : List ℕ) → (readOf text out .answer .number ≡ done → ⊥) → (readOf text out .out ≡ out) × (readOf text out .answer .count ≡ 0)
@@ -122,12 +122,12 @@ read-refusal-leaves text out = go (formOf text)
   where
     -- What the call does with the form.
     whole : Form → Writing
-    whole f = byForm f (λ n line. writing (refusedAt n line) out) (λ xs. write (wordsOf xs) out)
+    whole f = byForm f (λ n line. writing (refusedAt n line) out) (λ xs. write (wordsOfLines xs) out)
 
     -- By whether the text is a form.
     go : (f : Form) → (whole f .answer .number ≡ done → ⊥) → (whole f .out ≡ out) × (whole f .answer .count ≡ 0)
     go (fault n line) x = (refl, refl)
-    go (form xs) x = write-leaves (wordsOf xs) out x
+    go (form xs) x = write-leaves (wordsOfLines xs) out x
 
 -- ---- opening
 

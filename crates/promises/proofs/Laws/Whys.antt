@@ -24,7 +24,7 @@ use Rattle.trees.specs.Answers.{Writing, refuse, write}
 use Rattle.trees.proofs.Causes.{cause-is, cause-refuses, Seen, stopped, passed, seen}
 use Rattle.trees.proofs.Fitting.{passed-order, order-read, read-order}
 use Rattle.form.specs.Text.{Line, linesOf, textOf}
-use Rattle.form.specs.Reading.{Form, fault, form, formOf, wordsOf, readOf}
+use Rattle.form.specs.Reading.{Form, fault, form, formOf, wordsOfLines, readOf}
 use Rattle.form.specs.Writing.{writeOf}
 use Rattle.form.proofs.FirstFault.{first-fault, fault-first, no-bytes as none-read}
 use Rattle.form.proofs.Trips.{order-text, form-order, order-write, form-write, fault-write}
@@ -196,7 +196,7 @@ record TextOf (text : List ℕ) : Type 0 where
 form-is : (text : List ℕ) (xs : List Line) → formOf text ≡ form xs → TextOf text
 form-is text xs e =
     let f = form-order text xs e in
-    let q : IsOrder (wordsOf xs) (f .0) = read-order (wordsOf xs) (f .0) (f .1) in
+    let q : IsOrder (wordsOfLines xs) (f .0) = read-order (wordsOfLines xs) (f .0) (f .1) in
     record { tree = f .0; spelt = sym (f .3); isOrder = subst (λ (v : List ℕ). IsOrder v (f .0)) (q .spelt) q }
 
 -- Reading a form answers by a row of 01's table.

@@ -10,7 +10,7 @@ use Rattle.trees.specs.Reading.{firstTrees, laterTrees, nodeOver, readTrees, by
 use Rattle.trees.specs.Parts.{top, isLow, lows, middle, isMiddle, middles, sameTree, eachOnce, lowParts, middleParts}
 use Rattle.trees.specs.Answers.{write}
 use Rattle.trees.specs.Fits.{fitsOf}
-use Rattle.form.specs.Reading.{isDigit, value, isCode, codeBehind, speltOf, byLine, allowed, siblings, lineOf, byForm, readLines, formOf, children, wordsOf, readOf}
+use Rattle.form.specs.Reading.{isDigit, value, isCode, codeBehind, speltOf, byLine, allowed, siblings, lineOf, byForm, readLines, formOf, children, wordsOfLines, readOf}
 use Rattle.book.specs.Book.{sectionOf, body, used, live, encode, lay, entryInForm, ascendingFrom, sectionInForm, inForm}
 use Rattle.book.specs.Decoding.{topsAt, lowsAt, middlesAt, bookIn, formed, decode, byBook, sized, onBook}
 use Rattle.book.specs.Taught.{addEach, taught, bookOf, teachingsIn, sameSection, agreeing}
@@ -19,7 +19,7 @@ use Rattle.verdicts.specs.Judging.{knows, knowsEach, toFix, leastToFix, verdict
 use Rattle.amend.specs.Counts.{withinCounts}
 use Rattle.effects.specs.Calls.{onOrder, teachTree, teachOf, lowerEach, withdrawn, hasEach, hasParts, withdrawTree, withdrawOf}
 use Rattle.sums.specs.Joining.{joined, joinBooks, joinOf}
-use Rattle.book.specs.Checking.{checkOf}
+use Rattle.book.specs.Checking.{agreeOf}
 use Rattle.form.specs.Text.{linesOf, levelText, codeText, lineText, spell, textOf}
 use Rattle.reply.specs.Replies.{lastDigits, withoutZeros, decimal, field, reply}
 use Rattle.sheet.specs.Sheets.{letterOf, withByte, inputLines, kindOf, withLine, callsOf, sheetOf, firstLine, handedBy, byFirst, handedIn}
@@ -32,7 +32,7 @@ unfolding _and_ if_then_else_ sameWords keep compareOf before count words depth 
     entries span has total add lower fitting sectionOf body used live encode lay entryInForm ascendingFrom sectionInForm inForm topsAt lowsAt
     middlesAt bookIn formed decode byBook sized onBook addEach taught bookOf teachingsIn sameSection agreeing openOf onOrder withinCounts teachTree
     teachOf lowerEach withdrawn hasEach hasParts withdrawTree withdrawOf joined joinBooks joinOf computed heard knows knowsEach below toFix leastToFix verdictOn verdict judgeOf
-    write isDigit value isCode codeBehind speltOf byLine allowed siblings lineOf byForm readLines formOf children wordsOf readOf checkOf
+    write isDigit value isCode codeBehind speltOf byLine allowed siblings lineOf byForm readLines formOf children wordsOfLines readOf agreeOf
 computes = 0
 
 -- Opens those of the desk besides: what is handed in, the text of an order, and the lines that are printed.

@@ -35,7 +35,7 @@ use Rattle.section.specs.Entries.{has}
 use Rattle.effects.specs.Conditions.{BookAndOrder}
 use Rattle.effects.proofs.Calling.{teach-does, withdraw-does}
 use Rattle.reply.specs.Replies.{reply}
-use Rattle.sheet.specs.Sheets.{letter-K, letterByte, Call, faulty, handed, handedIn, openingOf}
+use Rattle.sheet.specs.Sheets.{letter-K, letterByte, FormCall, faulty, handed, handedIn, openingOf}
 use Rattle.sheet.specs.declared.Front.the-variants.{Fault}
 use Rattle.sheet.specs.declared.Letter.{Letter}
 use Rattle.sheet.specs.declared.Letter.the-variants.{Teach, Withdraw, Judge}
@@ -100,7 +100,7 @@ module _ (n : ℕ) (long : head-words ≤ n) (short : n ≤ most-book-words) (b 
 -- ---- lines of calls
 
 -- The lines of calls, by the line of the first, the book that it leaves, and the lines of the others on that book.
-line-then : (n : ℕ) (c : Call) (cs : List Call) (ws : List ℕ) (a : Answer) (b : Book) (says rest : List ℕ) → callOf c ws ≡ outcome a (lay n b)
+line-then : (n : ℕ) (c : FormCall) (cs : List FormCall) (ws : List ℕ) (a : Answer) (b : Book) (says rest : List ℕ) → callOf c ws ≡ outcome a (lay n b)
     → reply (letterByte (c .letter)) a (used b) ≡ says → linesFor cs (lay n b) ≡ rest → linesFor (c ∷ cs) ws ≡ says ++ rest
 unfolding linesFor lineFor lay encode
 line-then n c cs ws a b says rest e f g = rw e (ap₂ (λ (x y : List ℕ). x ++ y) f g)
@@ -174,7 +174,7 @@ abbrev D : Tree
 D = node 1000 (cons (node 2000 (cons (node 16 bare) bare)) (cons (node 3000 (cons (node 3001 bare) bare)) bare))
 
 -- What it hands in: k = 3, and four calls with the texts of these orders.
-abbrev printedCalls : List Call
+abbrev printedCalls : List FormCall
 printedCalls =
     record { letter = Teach; text = textOf A } ∷ record { letter = Judge; text = textOf D } ∷ record { letter = Withdraw; text = textOf A }
     ∷ record { letter = Judge; text = textOf A } ∷ []
@@ -255,7 +255,7 @@ run-lines n enough short =
     (line-then n _ _ (lay n bookNone) _ bookNone _ _ judge-A (said .3) (no-lines (lay n bookNone)))))
 
 -- An input without fault prints "K 0 0 7" LF first, and then the lines of its forms on the opened book.
-pub opening-printed : (input : List ℕ) (k : ℕ) (cs : List Call) → handedIn input ≡ handed k cs → deskOf input ≡ says-K ++ linesFor cs (openOf blank k .words)
+pub opening-printed : (input : List ℕ) (k : ℕ) (cs : List FormCall) → handedIn input ≡ handed k cs → deskOf input ≡ says-K ++ linesFor cs (openOf blank k .words)
 opening-printed input k cs is =
     first-line-printed input k cs is ∙ ap (λ (l : List ℕ). l ++ linesFor cs (openOf blank k .words)) (said .4)
 
@@ -275,7 +275,7 @@ opening-alone =
     opening-printed line-K 3 [] is ∙ ap (λ (l : List ℕ). says-K ++ l) (no-lines (openOf blank 3 .words))
 
 -- A form of no bytes.
-abbrev no-bytes : Call
+abbrev no-bytes : FormCall
 no-bytes = record { letter = Teach; text = [] }
 
 -- "T 10 1 7" LF

@@ -15,7 +15,7 @@ use Rattle.form.specs.Writing.{writeOf}
 use Rattle.book.specs.Book.{lay}
 use Rattle.book.specs.Taught.{bookOf}
 use Rattle.book.specs.Opening.{Outcome, openOf}
-use Rattle.book.specs.Checking.{checkOf as agreesOf}
+use Rattle.book.specs.Checking.{agreeOf}
 use Rattle.verdicts.specs.Judging.{judgeOf}
 use Rattle.effects.specs.Calls.{teachOf, withdrawOf}
 use Rattle.sums.specs.Joining.{joinOf}
@@ -128,7 +128,7 @@ unfolding computes
 verdict-lines = refl
 
 -- "Check: 4, 5, 9." Six words; a book that is not in form and would not agree; one that does not agree; one that does.
-pub agree-checks : map (λ (a : Answer). a .number) (agreesOf (slice 6) ∷ agreesOf (set (lay 60 lacksMiddle) 2 2) ∷ agreesOf (lay 60 lacksMiddle) ∷ agreesOf taughtA ∷ [])
+pub agree-checks : map (λ (a : Answer). a .number) (agreeOf (slice 6) ∷ agreeOf (set (lay 60 lacksMiddle) 2 2) ∷ agreeOf (lay 60 lacksMiddle) ∷ agreeOf taughtA ∷ [])
     ≡ 4 ∷ 5 ∷ 9 ∷ 0 ∷ []
 unfolding computes
 agree-checks = refl

@@ -22,7 +22,7 @@ use Rattle.book.specs.Taught.{bookOf}
 use Rattle.book.specs.Sound.{IsBook, WhyForm, longer}
 use Rattle.book.specs.Opening.{openOf, leave}
 use Rattle.book.specs.declared.BookForm.the-variants.{Refused}
-use Rattle.book.specs.Checking.{checkOf as agreesOf}
+use Rattle.book.specs.Checking.{agreeOf}
 use Rattle.verdicts.specs.Judging.{judgeOf}
 use Rattle.verdicts.specs.Verdicts.{no-book}
 use Rattle.verdicts.proofs.Answers.{judged-only}
@@ -111,13 +111,13 @@ heard-numbers =
     ∷ openOf (slice 7) 1 .answer .number
     ∷ openOf (slice 6) 2 .answer .number
     -- a book with 7 for its k
-    ∷ agreesOf (set taughtA 0 7) .number
+    ∷ agreeOf (set taughtA 0 7) .number
     -- a book of 18 words is taught a node, and one with 65,535 teachings
     ∷ teachOf (openOf (slice 18) 2 .words) (words single) .answer .number
     ∷ teachOf (lay 19 (bookOf 2 (times 65535 single ∷ []))) (words single) .answer .number
     -- a node is withdrawn from an empty book, and a book without its middle part is checked
     ∷ withdrawOf (openOf (slice 19) 2 .words) (words single) .answer .number
-    ∷ agreesOf (lay 60 lacksMiddle) .number
+    ∷ agreeOf (lay 60 lacksMiddle) .number
     -- a text with a letter in its code; a text that is read to no words at all
     ∷ readOf no-ten [] .answer .number
     ∷ readOf ten [] .answer .number
@@ -188,7 +188,7 @@ longer-refused ws e = opened-only ws 2 (leave ws 4) (slice-long refl (omega arit
 
 -- 16,385 words are refused by 4 by every other call on a book, whatever they are, and as a book that is joined to one in form.
 pub longer-refused-by-all : (ws : List ℕ) → length ws ≡ 16385 → (os out file : List ℕ)
-    → (teachOf ws os ≡ leave ws 4) × (withdrawOf ws os ≡ leave ws 4) × (judgeOf ws os ≡ answered 4) × (agreesOf ws ≡ answered 4)
+    → (teachOf ws os ≡ leave ws 4) × (withdrawOf ws os ≡ leave ws 4) × (judgeOf ws os ≡ answered 4) × (agreeOf ws ≡ answered 4)
     × (writeFileOf ws out ≡ refuse 4 out) × (readFileOf file ws ≡ leave ws 4) × ((vs : List ℕ) → joinOf ws vs ≡ leave ws 4)
     × ((us : List ℕ) (b : Book) → IsBook us b → joinOf us ws ≡ leave us 4)
 longer-refused-by-all ws e os out file =

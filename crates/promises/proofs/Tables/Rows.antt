@@ -21,7 +21,7 @@ use Rattle.verdicts.specs.Expecting.{nearPart, nearTop, expectedOn, expected, e
 use Rattle.effects.specs.Calls.{hasParts}
 use Rattle.figures.specs.Limits.{most-book-words}
 use Rattle.figures.specs.Answers.{answered}
-use Rattle.book.specs.Checking.{checkOf}
+use Rattle.book.specs.Checking.{agreeOf}
 use Rattle.book.specs.Opening.{outcome, leave}
 use Rattle.book.proofs.Sound.{laid-book}
 use Rattle.sums.specs.Joining.{joinOf}
@@ -168,7 +168,7 @@ abbrev pub lacksMiddle : Book
 lacksMiddle = withP (bookOf 3 (times 1 A ∷ [])) []
 
 -- It is in form and does not agree with itself, so that checking it answers 9, and withdrawing A is refused by 9.
-missing-part : (inForm lacksMiddle ≡ true) × (checkOf (lay 60 lacksMiddle) ≡ answered 9) × (heard (withdraws A ∷ []) (lay 60 lacksMiddle) ≡ (9 ∷ 0 ∷ 47 ∷ []) ∷ [])
+missing-part : (inForm lacksMiddle ≡ true) × (agreeOf (lay 60 lacksMiddle) ≡ answered 9) × (heard (withdraws A ∷ []) (lay 60 lacksMiddle) ≡ (9 ∷ 0 ∷ 47 ∷ []) ∷ [])
 unfolding computes
 missing-part = (refl, refl, refl)
 
@@ -258,7 +258,7 @@ strangeL = withL bookA2 (add 1 (words single) (bookA2 .L))
 
 -- `no-more` is false of a book that does not agree with itself: that one is in form, and is checked with 9; the parts of A are three sets whose forms include all
 -- that is taught to it; and it passes 1000, which is none of their forms.
-lets-in-more : IsBook (lay 55 strangeL) strangeL × (checkOf (lay 55 strangeL) ≡ answered 9) × IncludeTaught strangeL (setsOf bookA2)
+lets-in-more : IsBook (lay 55 strangeL) strangeL × (agreeOf (lay 55 strangeL) ≡ answered 9) × IncludeTaught strangeL (setsOf bookA2)
     × (judgeOf (lay 55 strangeL) (words single) ≡ answered 0)
     × (FormOf (strangeL .k) (setsOf bookA2) single → ⊥)
 unfolding computes

@@ -13,25 +13,25 @@ use Rattle.recount.proofs.tally_cut.Statement.{statement}
 use Rattle.recount.proofs.tally_cut.Tie as tie
 
 -- What the function was called with, seen from where the cut is written.
-abbrev called : tie.After-put-line → tie.Start
+abbrev called : tie.After-put-cut → tie.Start
 called w = w .before .before .before .before .before .before .before .before .before .before
 
 -- The scratch with the cut.
-abbrev scratch : tie.After-put-line → List ℕ
-scratch w = w .put-line .last .1 .1 .1 .1 .1 .0
+abbrev scratch : tie.After-put-cut → List ℕ
+scratch w = w .put-cut .last .1 .1 .1 .1 .1 .0
 
 -- The words told are those of the cut.
-lent : (w : tie.After-put-line) → let x = called w .args in take (w .put-line .result - 0) (drop 0 (scratch w)) ≡ cutOf (x .order .now) (x .line * 2) (x .d)
-lent w = line-lent _ _ _ _ (w .put-line .ensures .0) (w .put-line .ensures .1)
+lent : (w : tie.After-put-cut) → let x = called w .args in take (w .put-cut .result - 0) (drop 0 (scratch w)) ≡ cutOf (x .order .now) (x .line * 2) (x .d)
+lent w = line-lent _ _ _ _ (w .put-cut .ensures .0) (w .put-cut .ensures .1)
 
 -- The scratch has room for them.
-count-fits : (w : tie.After-put-line) → w .put-line .result ≤ length (scratch w)
+count-fits : (w : tie.After-put-cut) → w .put-cut .result ≤ length (scratch w)
 count-fits w =
     let b = called w in
-    omega (arith, w .put-line .ensures .0, line-short _ _ (b .args .d) (b .pre .0 .sound) (b .pre .1 .1 .0), w .put-line .kept .1 .1 .1 .1 .1 .0, b .pre .1 .1 .1 .0)
+    omega (arith, w .put-cut .ensures .0, line-short _ _ (b .args .d) (b .pre .0 .sound) (b .pre .1 .1 .0), w .put-cut .kept .1 .1 .1 .1 .1 .0, b .pre .1 .1 .1 .0)
 
-put-line-requires : tie.Need-put-line-requires
-put-line-requires c κs =
+put-cut-requires : tie.Need-put-cut-requires
+put-cut-requires c κs =
     let b = c .before .before .before .before .before .before .before .before .before in
     (b .pre .0, (b .pre .1 .0, (b .pre .1 .1 .0, omega (arith, line-short _ _ (b .args .d) (b .pre .0 .sound) (b .pre .1 .1 .0), b .pre .1 .1 .1 .0))))
 
@@ -49,7 +49,7 @@ tally-once-requires c κs =
     let w = c .before .before .before .before .before .before in
     let b = called w in
     let x = b .args in
-    let few : Few (talliedOnce (x .turn .by) (x .turn .number) (soughtIn (take (w .put-line .result - 0) (drop 0 (scratch w))) (listed (x .starts .now) (x .book .now))) (x .marks .now) (x .counts .now)) =
+    let few : Few (talliedOnce (x .turn .by) (x .turn .number) (soughtIn (take (w .put-cut .result - 0) (drop 0 (scratch w))) (listed (x .starts .now) (x .book .now))) (x .marks .now) (x .counts .now)) =
     subst (λ (z : List ℕ). Few (talliedOnce (x .turn .by) (x .turn .number) (soughtIn z (listed (x .starts .now) (x .book .now))) (x .marks .now) (x .counts .now))) (sym (lent w)) (b .pre .1 .1 .1 .1 .1 .1) in
     (b .pre .1 .1 .1 .1 .0, (b .pre .1 .1 .1 .1 .1 .0, few))
 
@@ -79,7 +79,7 @@ pub tally-cut-spec : {M : Type 1} → statement M
 tally-cut-spec =
     tie.close
     (tie.spec
-    put-line-requires
+    put-cut-requires
     sub-tally-once
     part-tally-once-start
     part-tally-once-end

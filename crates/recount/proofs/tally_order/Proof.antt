@@ -10,7 +10,7 @@ use lib.Seq.{drop-drop, getD-drop}
 use borrow.Author.Needs.{needs}
 use Rattle.figures.specs.Numbers.{done}
 use Rattle.section.specs.Entries.{width, firstEntry}
-use Rattle.tally.specs.Tallying.{listed, Ready, Taken}
+use Rattle.tally.specs.Tallying.{listed, TurnReady, Taken}
 use Rattle.trees.specs.Reading.{causeOf}
 use Rattle.recount.specs.Tallies.{partsIn}
 use Rattle.recount.proofs.tally_order.Statement.{statement}
@@ -58,7 +58,7 @@ ordered p = let b = called p in ap causeOf (key-at (b .args .book .now) (b .args
 module _ (b : tie.Start) where
   -- It is ready for it.
   abbrev ReadyFor : ℕ → List ℕ → Type 0
-  ReadyFor by os = Ready (b .args .turn) by (partsIn (b .args .section) (b .args .k .k) os) (listed (b .args .starts .now) (b .args .book .now)) (b .args .counts .now) (b .args .marks .now)
+  ReadyFor by os = TurnReady (b .args .turn) by (partsIn (b .args .section) (b .args .k .k) os) (listed (b .args .starts .now) (b .args .book .now)) (b .args .counts .now) (b .args .marks .now)
 
   -- It was taken for it.
   abbrev TakenFor : List ℕ → List ℕ → Bool → ℕ → List ℕ → Type 0

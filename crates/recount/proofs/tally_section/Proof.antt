@@ -6,7 +6,7 @@ use mathlib.Core.List.{List, [], _∷_}
 use lib.ListN.{length}
 use borrow.Author.Needs.{needs}
 use Rattle.section.specs.Entries.{Entry, counted}
-use Rattle.tally.specs.Tallying.{listed, Ready, Taken}
+use Rattle.tally.specs.Tallying.{listed, TurnReady, Taken}
 use Rattle.tally.proofs.Starts.{length-listed}
 use Rattle.trees.specs.Standing.{cutOf}
 use Rattle.book.specs.Book.{sectionOf}
@@ -34,7 +34,7 @@ es b = listed (b .args .starts .now) (b .args .book .now)
 
 -- The turn is ready for what is counted in a section.
 abbrev ReadyFor : tie.Start → List Entry → Type 0
-ReadyFor b ps = Ready (b .args .turn .number) (b .args .turn .by) ps (es b) (b .args .counts .now) (b .args .marks .now)
+ReadyFor b ps = TurnReady (b .args .turn .number) (b .args .turn .by) ps (es b) (b .args .counts .now) (b .args .marks .now)
 
 -- It is so for the section that is asked for.
 ready-in : (b : tie.Start) (s : Section) → b .args .section ≡ s → ReadyFor b (counts-in s b)

@@ -13,7 +13,7 @@ use Rattle.figures.specs.Limits.{most-nodes, most-words, taught-word, head-word
 use Rattle.figures.specs.Numbers.{done}
 use Rattle.section.specs.Entries.{Entry, width, firstEntry, entries, span}
 use Rattle.section.proofs.Words.{length-entries, span-step, entries-step, past-at, span-at}
-use Rattle.tally.specs.Tallying.{listed, hasAll, tallied, marked, Unmarked, Few, Ready, Taken}
+use Rattle.tally.specs.Tallying.{listed, hasAll, tallied, marked, Unmarked, Few, TurnReady, Taken}
 use Rattle.tally.proofs.Starts.{length-listed}
 use Rattle.tally.proofs.Tallies.{tallied-least, marked-other}
 use Rattle.trees.specs.Reading.{causeOf}
@@ -136,7 +136,7 @@ module _ (book starts : List ℕ) (s : Section) (k : ℕ) (deep : k ≡ bookIn b
 
   -- The turn is ready for it.
   first-ready : Few (talliedAll s (bookIn book .k) (bookIn book .T) (listed starts book) counts₀)
-      → Ready left (firstEntry (drop at book) .count) (partsIn s k (firstEntry (drop at book) .key)) (listed starts book) counts marks
+      → TurnReady left (firstEntry (drop at book) .count) (partsIn s k (firstEntry (drop at book) .key)) (listed starts book) counts marks
   first-ready few =
       let each = sym (length-listed starts book) in
       record { counts = i .long ∙ each; marks = i .wide ∙ each; fresh = i .fresh left (omega arith) (omega arith); few = first-few few }
@@ -189,7 +189,7 @@ reached a = a .before .before .before .before .before .before
 
 -- The turn is ready for its order.
 turn-ready : (c : tie.In-loop Inv-loop μ-loop) → let l = c .before in let x = called l .args in let e = firstEntry (drop (l .loop .at) (book l)) in
-    Ready (l .loop .left) (e .count) (partsIn (x .section) (x .places .k .k) (e .key)) (listed (x .starts .now) (book l)) (l .loop .counts) (l .loop .marks)
+    TurnReady (l .loop .left) (e .count) (partsIn (x .section) (x .places .k .k) (e .key)) (listed (x .starts .now) (book l)) (l .loop .counts) (l .loop .marks)
 turn-ready c =
     let l = c .before in
     let b = called l in

@@ -50,8 +50,8 @@ returns c =
 of-middles-requires : tie.Need-of-middles-requires
 of-middles-requires c κs = search needs
 
-put-line-requires : tie.Need-put-line-requires
-put-line-requires c κs =
+put-cut-requires : tie.Need-put-cut-requires
+put-cut-requires c κs =
     let s = c .before .before .before .before .before .before .before .before .before in
     let short = line-short _ _ (c .before .of-middles .result) (s .pre .1 .0 .sound) (s .pre .1 .1 .0) in
     (s .pre .1 .0, (s .pre .1 .1 .1 .1, (s .pre .1 .1 .0, omega (arith, short, s .pre .1 .1 .1 .0))))
@@ -71,7 +71,7 @@ returns-2 c =
     let w = c .before .before .before in
     let m = w .before .before in
     let e = m .before in
-    seeks-middle _ _ _ _ _ (s .pre .0) (s .pre .1 .0) (line-here s) _ _ (m .of-middles .result) (s .args .cut .now) _ (sym (e .before .is-low .ensures) ∙ e .if1 .left) refl (m .of-middles .ensures) (w .put-line .ensures .0) (w .put-line .ensures .1)
+    seeks-middle _ _ _ _ _ (s .pre .0) (s .pre .1 .0) (line-here s) _ _ (m .of-middles .result) (s .args .cut .now) _ (sym (e .before .is-low .ensures) ∙ e .if1 .left) refl (m .of-middles .ensures) (w .put-cut .ensures .0) (w .put-cut .ensures .1)
 
 pub seek-spec : {M : Type 1} → statement M
 seek-spec =
@@ -85,7 +85,7 @@ seek-spec =
     mul-to
     returns
     of-middles-requires
-    put-line-requires
+    put-cut-requires
     shared-slice-read-many-2
     cast-many-2
     same-length

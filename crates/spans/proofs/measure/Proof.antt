@@ -7,13 +7,13 @@ use native.Mathlib.Omega.{arith}
 use lib.ListN.{length}
 use borrow.Author.Needs.{needs}
 use borrow.Author.Tests.{not-false, not-true}
-use Rattle.trees.specs.Spans.{Front}
+use Rattle.trees.specs.Spans.{FirstSpan}
 use Rattle.trees.proofs.Spanning.{Back, back-start, back-unsound, back-lacking, back-next, back-equal, back-small, back-all, front-start, front-small, leaf-spans, front-leaf, front-node, whole-listed, no-tree}
 use Rattle.spans.proofs.measure.Statement.{statement}
 use Rattle.spans.proofs.measure.Tie as tie
 
 abbrev Inv-loop : tie.InvT-loop
-Inv-loop order spans₀ line₀ first₀ top₀ run₀ spans line first top run = Back order spans₀ spans line × Front order spans line first top run
+Inv-loop order spans₀ line₀ first₀ top₀ run₀ spans line first top run = Back order spans₀ spans line × FirstSpan order spans line first top run
 
 abbrev μ-loop : tie.MeasureT-loop
 μ-loop order spans₀ line₀ first₀ top₀ run₀ spans line first top run = line

@@ -14,7 +14,7 @@ use Rattle.book.specs.Holding.{Holds}
 use Rattle.book.specs.Taught.{agreeing}
 use Rattle.book.specs.declared.Places.{Places}
 use Rattle.book.proofs.Sound.{held-book}
-use Rattle.book.specs.Checking.{checkOf}
+use Rattle.book.specs.Checking.{agreeOf}
 use Rattle.book.proofs.Checking.{check-held}
 use Rattle.files.specs.Files.{storedNumber}
 use Rattle.store.proofs.stored_number.Statement.{statement}
@@ -26,7 +26,7 @@ unfolding storedNumber if_then_else_
 more-words ws n x = rw (ne-eqb n (length ws) x)
 
 -- Words that are all used are answered as a check of their book is.
-just-used : (ws : List ℕ) (p : Places) → Holds ws p → p .used ≡ length ws → checkOf ws .number ≡ storedNumber ws (p .used)
+just-used : (ws : List ℕ) (p : Places) → Holds ws p → p .used ≡ length ws → agreeOf ws .number ≡ storedNumber ws (p .used)
 unfolding storedNumber if_then_else_
 just-used ws p h e =
     ap (λ (a : Answer). a .number) (check-held ws (bookIn ws) (held-book ws p h))

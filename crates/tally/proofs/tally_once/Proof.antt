@@ -12,8 +12,8 @@ use Rattle.words.specs.Base.{if_then_else_}
 use Rattle.figures.specs.Limits.{greatest-count}
 use Rattle.section.specs.Entries.{has}
 use Rattle.tally.specs.Tallying.{listed, soughtIn, Few, onOne, talliedOnce}
-use Rattle.tally.specs.declared.Sought.{Sought}
-use Rattle.tally.specs.declared.Sought.the-variants.{Missing, Number}
+use Rattle.tally.specs.declared.EntryFound.{EntryFound}
+use Rattle.tally.specs.declared.EntryFound.the-variants.{Missing, Number}
 use Rattle.tally.proofs.Starts.{length-listed}
 use Rattle.tally.proofs.Tallies.{sought-lacks, sought-has}
 use Rattle.tally.proofs.tally_once.Statement.{statement}
@@ -21,7 +21,7 @@ use Rattle.tally.proofs.tally_once.Tie as tie
 
 -- ---- what is sought
 
-module _ (f : ℕ → ℕ) (turn : ℕ) (r : Sought) (ms cs : List ℕ) where
+module _ (f : ℕ → ℕ) (turn : ℕ) (r : EntryFound) (ms cs : List ℕ) where
   -- Where nothing is found nothing is changed.
   one-missing : r ≡ Missing → cs ≡ onOne f turn r ms cs
   unfolding onOne
@@ -39,7 +39,7 @@ module _ (f : ℕ → ℕ) (turn : ℕ) (r : Sought) (ms cs : List ℕ) where
     one-kept same = rw (is, eq-eqb (getD ms i 0) turn same)
 
 -- A count that is stored fits where those do that are tallied then.
-stored-fits : (n turn : ℕ) (r : Sought) (ms cs : List ℕ) (i : ℕ) → r ≡ Number i → (getD ms i 0 ≡ turn → ⊥) → i < length cs → Few (talliedOnce n turn r ms cs) → getD cs i 0 + n ≤ greatest-count
+stored-fits : (n turn : ℕ) (r : EntryFound) (ms cs : List ℕ) (i : ℕ) → r ≡ Number i → (getD ms i 0 ≡ turn → ⊥) → i < length cs → Few (talliedOnce n turn r ms cs) → getD cs i 0 + n ≤ greatest-count
 stored-fits n turn r ms cs i is other inside few =
     let v : ℕ = getD cs i 0 + n in
     let e = ap (λ (l : List ℕ). getD l i 0) (one-changed (λ (c : ℕ). c + n) turn r ms cs i is other) in
@@ -57,7 +57,7 @@ number w = w .i .given .0 .0
 
 -- It is the one that is sought.
 found : (w : tie.After-i) → let x = called w .args in soughtIn (x .key .now) (listed (x .starts .now) (x .book .now)) ≡ Number (number w)
-found w = sym (w .before .before .seek .ensures) ∙ w .i .given .1
+found w = sym (w .before .before .find-entry .ensures) ∙ w .i .given .1
 
 -- It has a count.
 counted : (w : tie.After-i) → number w < length (called w .args .counts .now)
@@ -71,8 +71,8 @@ noted w = omega (arith, counted w, called w .pre .1 .0 .0, called w .pre .1 .0 .
 there : (w : tie.After-i) → let x = called w .args in true ≡ has (x .key .now) (listed (x .starts .now) (x .book .now))
 there w = sym (sought-has _ _ (number w) (found w) .1)
 
-seek-requires : tie.Need-seek-requires
-seek-requires c κs = c .before .before .before .before .before .pre .0
+find-entry-requires : tie.Need-find-entry-requires
+find-entry-requires c κs = c .before .before .before .before .before .pre .0
 
 enum-known-i : tie.Need-enum-known-i
 enum-known-i c = search needs
@@ -82,7 +82,7 @@ enum-told c = search needs
 
 returns : tie.Need-returns
 returns c =
-    let missing = sym (c .before .before .seek .ensures) ∙ c .enum-told .given .1 in
+    let missing = sym (c .before .before .find-entry .ensures) ∙ c .enum-told .given .1 in
     (sym (sought-lacks _ _ missing), (one-missing _ _ _ _ _ missing, one-missing _ _ _ _ _ missing))
 
 mul-mark : tie.Need-mul-mark
@@ -136,7 +136,7 @@ pub tally-once-spec : {M : Type 1} → statement M
 tally-once-spec =
     tie.close
     (tie.spec
-    seek-requires
+    find-entry-requires
     enum-known-i
     enum-told
     returns

@@ -1,4 +1,4 @@
--- `tally::seek` meets its contract: at each turn the key can only stand between `low` and `high`. Assumes nothing.
+-- `tally::find_entry` meets its contract: at each turn the key can only stand between `low` and `high`. Assumes nothing.
 use Prim.Native.Nat.{ℕ, _+_, _-_, _/_, _<_}
 use mathlib.Core.Path.{_≡_, sym, ap, _∙_}
 use mathlib.Core.List.{List, []}
@@ -10,8 +10,8 @@ use Rattle.section.specs.Entries.{Entry, counted}
 use Rattle.tally.specs.Tallying.{listed}
 use Rattle.tally.proofs.Starts.{length-listed, listed-at, place-filled}
 use Rattle.tally.proofs.Tallies.{keyAt, Between, between-all, between-none, between-lower, between-higher, between-found}
-use Rattle.tally.proofs.seek.Statement.{statement}
-use Rattle.tally.proofs.seek.Tie as tie
+use Rattle.tally.proofs.find_entry.Statement.{statement}
+use Rattle.tally.proofs.find_entry.Tie as tie
 
 -- The key can only stand between `low` and `high`.
 abbrev Inv-loop : tie.InvT-loop
@@ -108,8 +108,8 @@ loop-again-2 c =
 returns-2 : tie.Need-returns-2 Inv-loop μ-loop
 returns-2 c = sym (between-none _ _ _ _ (c .before .loop .inv) (c .loop-test .left))
 
-pub seek-spec : {M : Type 1} → statement M
-seek-spec =
+pub find-entry-spec : {M : Type 1} → statement M
+find-entry-spec =
     tie.close
     (tie.spec
     Inv-loop

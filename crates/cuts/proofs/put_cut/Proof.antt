@@ -1,4 +1,4 @@
--- `cuts::put_line` meets its contract. The loop's invariant: the cut is written up to a line, and what waits from there on is left. Assumes nothing.
+-- `cuts::put_cut` meets its contract. The loop's invariant: the cut is written up to a line, and what waits from there on is left. Assumes nothing.
 use mathlib.Core.Path.{subst, _∙_}
 use Prim.Native.Nat.{ℕ, _-_}
 use native.Mathlib.Omega.{arith}
@@ -8,8 +8,8 @@ use Rattle.trees.specs.Levels.{LinesLevelled}
 use Rattle.trees.specs.Spans.{GoneOver}
 use Rattle.trees.proofs.LineSpans.{line-open, line-starts, spans-room, levels-room}
 use Rattle.trees.proofs.Putting.{Putting, Turning, put-start, put-length, put-done, turning}
-use Rattle.cuts.proofs.put_line.Statement.{statement}
-use Rattle.cuts.proofs.put_line.Tie as tie
+use Rattle.cuts.proofs.put_cut.Statement.{statement}
+use Rattle.cuts.proofs.put_cut.Tie as tie
 
 abbrev Inv-loop : tie.InvT-loop
 Inv-loop order spans levels line d out₀ own end at₀ count₀ out at count = GoneOver order spans × LinesLevelled order levels × Putting order line own d end out₀ out at count
@@ -111,8 +111,8 @@ same-length c = put-length _ _ _ _ _ _ _ _ _ (c .before .loop .inv .2)
 returns : tie.Need-returns Inv-loop μ-loop
 returns c = put-done _ _ _ _ _ _ _ _ _ (c .before .loop .inv .2) (c .loop-test .left)
 
-pub put-line-spec : {M : Type 1} → statement M
-put-line-spec =
+pub put-cut-spec : {M : Type 1} → statement M
+put-cut-spec =
     tie.close
     (tie.spec
     Inv-loop
