@@ -14,11 +14,11 @@ use Rattle.figures.specs.Limits.{greatest-depth}
 use Rattle.figures.specs.Numbers.{done}
 use Rattle.section.specs.Entries.{Entry, counted, Sorted, byCompared, add}
 use Rattle.section.proofs.Sorting.{add-below}
-use Rattle.trees.specs.Trees.{Tree, words}
-use Rattle.trees.specs.Reading.{byFound, found, treeOf, byOrder, causeOf}
-use Rattle.trees.specs.Fits.{Fits}
-use Rattle.trees.proofs.Orders.{words-read}
-use Rattle.trees.proofs.Fitting.{fits-order-of, order-read}
+use Rattle.order.specs.Trees.{Tree, words}
+use Rattle.order.specs.Reading.{byFound, found, treeOf, byOrder, causeOf}
+use Rattle.order.specs.Fits.{Fits}
+use Rattle.order.proofs.Orders.{words-read}
+use Rattle.order.proofs.Fitting.{fits-order-of, order-read}
 use Rattle.book.specs.Book.{Book, sectionOf, inForm}
 use Rattle.book.specs.Taught.{Teaching, taught, bookOf, teachingsIn, agreeing}
 use Rattle.book.specs.declared.Section.{Section}

@@ -1,4 +1,4 @@
--- What `agree::check` answers, by what the words are. Assumes nothing.
+-- What `book_check::check` answers, by what the words are. Assumes nothing.
 use Prim.Native.Nat.{ℕ}
 use mathlib.Core.Path.{_≡_, refl}
 use mathlib.Core.List.{List}

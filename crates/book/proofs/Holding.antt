@@ -1,4 +1,4 @@
--- What a caller of `look::in_form` has where the words are a book in form, and what a call does where they are one and where they are not.
+-- What a caller of `book_form::in_form` has where the words are a book in form, and what a call does where they are one and where they are not.
 -- Assumes nothing.
 use Prim.Native.Nat.{ℕ, _+_, _<_, _≤_}
 use mathlib.Core.Path.{_≡_, refl, sym, ap, _∙_}
@@ -110,7 +110,7 @@ module _ (ws : List ℕ) where
       go true z false f = not-refused (sym (form-unformed ws z f) ∙ e)
       go false z b f = not-refused (sym (form-unsized ws z) ∙ e)
 
-  -- What a caller of `look::in_form` has where the words are a book in form.
+  -- What a caller of `book_form::in_form` has where the words are a book in form.
   pub holds : (p : Places) → bookFormOf ws ≡ InForm p → Holds ws p
   holds p e =
       let t = told-both p e in

@@ -12,7 +12,7 @@ use lib.Seq.{drop-drop, drop-append-seam}
 use Rattle.words.specs.Base.{_and_, if_then_else_, within, sameWords}
 use Rattle.words.proofs.Tests.{and-left, and-right, and-both, same-words, words-same, either}
 use Rattle.figures.specs.Limits.{head-words, least-k, greatest-k, greatest-count}
-use Rattle.trees.proofs.Fitting.{fits-even}
+use Rattle.order.proofs.Fitting.{fits-even}
 use Rattle.section.specs.Entries.{Entry, firstEntry, entries, width, span, sectionWords, total, Even}
 use Rattle.section.proofs.Words.{length-entries, entries-words, entries-span, words-entries, words-span}
 use Rattle.book.specs.Book.{Book, body, used, live, encode, lay, sectionOf, shallowest, deepest, entryInForm, ascendingFrom, sectionInForm, inForm}

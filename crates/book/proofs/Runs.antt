@@ -14,7 +14,7 @@ use Rattle.words.specs.Base.{_and_, if_then_else_}
 use Rattle.words.specs.Compare.{before}
 use Rattle.words.proofs.Tests.{fails-left, fails-right}
 use Rattle.figures.specs.Limits.{greatest-count}
-use Rattle.trees.specs.Fits.{fitsOf}
+use Rattle.order.specs.Fits.{fitsOf}
 use Rattle.section.specs.Entries.{firstEntry, entries, width, span, total}
 use Rattle.section.proofs.Words.{past-at, span-at, entries-at}
 use Rattle.book.specs.Book.{entryInForm}

@@ -9,8 +9,8 @@ use Rattle.words.specs.Base.{_∈_}
 use Rattle.figures.specs.Limits.{least-k, greatest-k, greatest-count}
 use Rattle.section.specs.Entries.{Entry, countOf, Sorted}
 use Rattle.section.proofs.Sorting.{same-counts}
-use Rattle.trees.specs.Fits.{Fits}
-use Rattle.trees.proofs.Orders.{size, some-lines}
+use Rattle.order.specs.Fits.{Fits}
+use Rattle.order.proofs.Orders.{size, some-lines}
 use Rattle.book.specs.Book.{Book, sectionOf, shallowest, deepest, live, inForm}
 use Rattle.book.specs.Sound.{SoundSection}
 use Rattle.book.specs.declared.Section.{Section}

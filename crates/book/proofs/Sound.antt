@@ -15,9 +15,9 @@ use Rattle.words.specs.Compare.{_≺_}
 use Rattle.words.proofs.Tests.{and-left, and-right, and-both}
 use Rattle.figures.specs.Limits.{head-words, most-book-words, least-k, greatest-k, least-count, greatest-count}
 use Rattle.figures.specs.Numbers.{book-size, not-in-form}
-use Rattle.trees.specs.Trees.{Tree, words, subtrees}
-use Rattle.trees.proofs.Orders.{size}
-use Rattle.trees.proofs.Fitting.{fits-tree, tree-fits, fits-some}
+use Rattle.order.specs.Trees.{Tree, words, subtrees}
+use Rattle.order.proofs.Orders.{size}
+use Rattle.order.proofs.Fitting.{fits-tree, tree-fits, fits-some}
 use Rattle.section.specs.Entries.{Entry, entryWords, total, Below, Sorted}
 use Rattle.book.specs.Book.{Book, sectionOf, shallowest, deepest, used, live, encode, lay, entryInForm, ascendingFrom, sectionInForm, inForm}
 use Rattle.book.specs.Decoding.{bookIn, formed, decode, byBook, onBook, placesOf, bookFormOf}

@@ -8,12 +8,12 @@ use borrow.Author.Tests.{eq-eqb, eqb-true}
 use Rattle.words.specs.Base.{if_then_else_, _∈_}
 use Rattle.words.proofs.Tests.{no-test, and-left, and-right, and-both, same-words, words-same}
 use Rattle.figures.specs.Limits.{greatest-depth, least-k, greatest-k, greatest-count}
-use Rattle.trees.specs.Trees.{Tree, words}
-use Rattle.trees.specs.Parts.{top, sameTree, lowParts, middleParts}
-use Rattle.trees.specs.Fits.{Fits}
-use Rattle.trees.proofs.Unique.{same-tree, tree-same}
-use Rattle.trees.proofs.Once.{NoRepeats, lows-once, middles-once}
-use Rattle.trees.proofs.Fitting.{top-fits, low-fits, middle-fits}
+use Rattle.order.specs.Trees.{Tree, words}
+use Rattle.order.specs.Parts.{top, sameTree, lowParts, middleParts}
+use Rattle.order.specs.Fits.{Fits}
+use Rattle.order.proofs.Unique.{same-tree, tree-same}
+use Rattle.order.proofs.Once.{NoRepeats, lows-once, middles-once}
+use Rattle.order.proofs.Fitting.{top-fits, low-fits, middle-fits}
 use Rattle.section.specs.Entries.{Entry, counted, countsFor, countOf, total, Sorted, add}
 use Rattle.section.proofs.Counts.{count-add, total-add, entry-count}
 use Rattle.section.proofs.Sorting.{sorted-add, sorted-some, add-keys}

@@ -6,8 +6,8 @@ use mathlib.Core.List.{List, [], _∷_, List·Memᴰ·not-nil}
 use native.Mathlib.Omega.{arith}
 use Rattle.words.specs.Base.{if_then_else_, sameWords, _∈_}
 use Rattle.words.proofs.Tests.{words-same}
-use Rattle.trees.specs.Trees.{Tree, words}
-use Rattle.trees.proofs.Once.{NoRepeats, lows-once, middles-once}
+use Rattle.order.specs.Trees.{Tree, words}
+use Rattle.order.proofs.Once.{NoRepeats, lows-once, middles-once}
 use Rattle.section.specs.Entries.{Entry, has, countOf, Sorted}
 use Rattle.section.proofs.Counts.{counts-own, counts-other, counts-sum, count-add, total-add, has-add}
 use Rattle.book.specs.Book.{Book, sectionOf, live}

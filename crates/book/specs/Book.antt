@@ -8,7 +8,7 @@ use Rattle.words.specs.Base.{_and_, within}
 use Rattle.words.specs.Compare.{before}
 use Rattle.figures.specs.Limits.{greatest-depth, least-k, greatest-k, head-words, least-count, greatest-count}
 use Rattle.section.specs.Entries.{Entry, sectionWords, total}
-use Rattle.trees.specs.Fits.{fitsOf}
+use Rattle.order.specs.Fits.{fitsOf}
 use Rattle.book.specs.declared.Section.{Section}
 use Rattle.book.specs.declared.Section.the-variants.{Taught, Tops, Lows, Middles}
 

@@ -1,4 +1,4 @@
--- What `agree::check` answers, for all inputs (01, "The book" and "Numbers the desk hears"). Assumes nothing: these are definitions.
+-- What `book_check::check` answers, for all inputs (01, "The book" and "Numbers the desk hears"). Assumes nothing: these are definitions.
 use Prim.Native.Nat.{ℕ}
 use mathlib.Core.List.{List}
 use Rattle.words.specs.Base.{if_then_else_}

@@ -9,7 +9,7 @@ use Rattle.words.specs.Compare.{_≺_}
 use Rattle.figures.specs.Limits.{greatest-depth, head-words, most-book-words, least-k, greatest-k, least-count, greatest-count}
 use Rattle.figures.specs.Numbers.{book-size, not-in-form}
 use Rattle.section.specs.Entries.{Entry}
-use Rattle.trees.specs.Fits.{Fits}
+use Rattle.order.specs.Fits.{Fits}
 use Rattle.book.specs.Book.{Book, live, lay}
 use Rattle.book.specs.Decoding.{placesOf}
 use Rattle.book.specs.declared.BookForm.{BookForm}

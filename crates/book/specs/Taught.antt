@@ -5,9 +5,9 @@ use mathlib.Core.List.{List, [], _∷_}
 use lib.Dec.{eqb}
 use Rattle.words.specs.Base.{_and_, if_then_else_, sameWords}
 use Rattle.section.specs.Entries.{Entry, add}
-use Rattle.trees.specs.Trees.{Tree, words}
-use Rattle.trees.specs.Reading.{byFound, treeOf}
-use Rattle.trees.specs.Parts.{top, sameTree, lowParts, middleParts}
+use Rattle.order.specs.Trees.{Tree, words}
+use Rattle.order.specs.Reading.{byFound, treeOf}
+use Rattle.order.specs.Parts.{top, sameTree, lowParts, middleParts}
 use Rattle.book.specs.Book.{Book}
 use Rattle.book.specs.declared.Section.{Section}
 use Rattle.book.specs.declared.Section.the-variants.{Taught, Tops, Lows, Middles}

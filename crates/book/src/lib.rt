@@ -1,4 +1,4 @@
-// The book: its sections and where each starts, what a look at its form gives (`look` takes that look), whether a slice has the size of one, and
+// The book: its sections and where each starts, what a look at its form gives (`book_form` takes that look), whether a slice has the size of one, and
 // opening one. Assumes nothing.
 ghost use mathlib.Core.Path.{_≡_};
 ghost use Rattle.words.specs.Base.{within};

@@ -11,17 +11,17 @@ use Rattle.figures.specs.Limits.{least-k, greatest-k, most-nodes, most-words, g
 use Rattle.figures.specs.Numbers.{done}
 use Rattle.section.specs.Entries.{Entry, counted, entryWords, sectionWords, Sorted, total, add, addOnce}
 use Rattle.section.proofs.Once.{sorted-add-once, size-once}
-use Rattle.trees.specs.Trees.{Tree, words, cut, subtrees}
-use Rattle.trees.specs.Reading.{found, byOrder, causeOf}
-use Rattle.trees.specs.Standing.{cutOf}
-use Rattle.trees.specs.Parts.{isLow, top}
-use Rattle.trees.proofs.Orders.{size, some-lines}
-use Rattle.trees.proofs.Causes.{Passed, has-tree}
-use Rattle.trees.proofs.Cutting.{cut-shallow}
-use Rattle.trees.proofs.Shares.{cutNodes, shares}
-use Rattle.trees.proofs.Lines.{cut-spot}
-use Rattle.trees.proofs.LineCuts.{line-short}
-use Rattle.trees.proofs.Spots.{two-words-a-line, top-spot}
+use Rattle.order.specs.Trees.{Tree, words, cut, subtrees}
+use Rattle.order.specs.Reading.{found, byOrder, causeOf}
+use Rattle.order.specs.Standing.{cutOf}
+use Rattle.order.specs.Parts.{isLow, top}
+use Rattle.order.proofs.Orders.{size, some-lines}
+use Rattle.order.proofs.Causes.{Passed, has-tree}
+use Rattle.order.proofs.Cutting.{cut-shallow}
+use Rattle.order.proofs.Shares.{cutNodes, shares}
+use Rattle.order.proofs.Lines.{cut-spot}
+use Rattle.order.proofs.LineCuts.{line-short}
+use Rattle.order.proofs.Spots.{two-words-a-line, top-spot}
 use Rattle.book.specs.Book.{Book, sectionOf, used, live}
 use Rattle.book.specs.declared.Section.{Section}
 use Rattle.book.specs.declared.Section.the-variants.{Taught, Tops, Lows, Middles}

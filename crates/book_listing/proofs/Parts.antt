@@ -14,19 +14,19 @@ use Rattle.section.specs.Entries.{Entry, counted, has, Sorted, add, addOnce}
 use Rattle.section.proofs.Counts.{has-add}
 use Rattle.section.proofs.Sorting.{sorted-add, add-commutes}
 use Rattle.section.proofs.Once.{once-has, once-lacks, sorted-add-once, has-once}
-use Rattle.trees.specs.Trees.{Tree, words, depth, cut, subtrees}
-use Rattle.trees.specs.Parts.{isLow, isMiddle, middle, lows, middles, sameTree, eachOnce, lowParts, middleParts}
-use Rattle.trees.specs.Reading.{found, byOrder}
-use Rattle.trees.specs.Standing.{treeFrom, cutOf}
-use Rattle.trees.specs.Spans.{GoneOver}
-use Rattle.trees.specs.Answers.{treeAt}
-use Rattle.trees.proofs.Unique.{tree-same}
-use Rattle.trees.proofs.Orders.{size}
-use Rattle.trees.proofs.Causes.{Passed}
-use Rattle.trees.proofs.Lines.{Spot, line-spot, tree-next, from-spot, cut-spot}
-use Rattle.trees.proofs.LineSpans.{span-low}
-use Rattle.trees.proofs.Spots.{two-words-a-line, short-order, cut-short}
-use Rattle.trees.proofs.Cutting.{cut-shallow}
+use Rattle.order.specs.Trees.{Tree, words, depth, cut, subtrees}
+use Rattle.order.specs.Parts.{isLow, isMiddle, middle, lows, middles, sameTree, eachOnce, lowParts, middleParts}
+use Rattle.order.specs.Reading.{found, byOrder}
+use Rattle.order.specs.Standing.{treeFrom, cutOf}
+use Rattle.order.specs.Spans.{GoneOver}
+use Rattle.order.specs.Answers.{treeAt}
+use Rattle.order.proofs.Unique.{tree-same}
+use Rattle.order.proofs.Orders.{size}
+use Rattle.order.proofs.Causes.{Passed}
+use Rattle.order.proofs.Lines.{Spot, line-spot, tree-next, from-spot, cut-spot}
+use Rattle.order.proofs.LineSpans.{span-low}
+use Rattle.order.proofs.Spots.{two-words-a-line, short-order, cut-short}
+use Rattle.order.proofs.Cutting.{cut-shallow}
 use Rattle.book.specs.Taught.{addEach}
 use Rattle.book.proofs.Taught.{sorted-each}
 use Rattle.book_listing.specs.Own.{occurring, partsOnce, eachWords, listOf}

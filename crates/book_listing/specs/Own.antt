@@ -5,9 +5,9 @@ use mathlib.Core.List.{List, [], _∷_}
 use lib.ListN.{length}
 use Rattle.figures.specs.Limits.{most-nodes, most-words, head-words, greatest-k}
 use Rattle.section.specs.Entries.{Entry}
-use Rattle.trees.specs.Trees.{Tree, words}
-use Rattle.trees.specs.Reading.{byOrder, orderOf}
-use Rattle.trees.specs.Parts.{lows, middles, lowParts, middleParts}
+use Rattle.order.specs.Trees.{Tree, words}
+use Rattle.order.specs.Reading.{byOrder, orderOf}
+use Rattle.order.specs.Parts.{lows, middles, lowParts, middleParts}
 use Rattle.book.specs.Book.{Book}
 use Rattle.book.specs.declared.Section.{Section}
 use Rattle.book.specs.declared.Section.the-variants.{Taught, Tops, Lows, Middles}

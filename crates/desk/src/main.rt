@@ -3,5 +3,5 @@ use libc::STDIN_FILENO;
 
 // Runs the desk on standard input.
 fn main() {
-    serve::from(STDIN_FILENO);
+    desk_loop::from(STDIN_FILENO);
 }

@@ -8,8 +8,8 @@ use Rattle.words.specs.Base.{over}
 use Rattle.figures.specs.Numbers.{done, short-output}
 use Rattle.figures.specs.Answers.{wrote}
 use Rattle.figures.specs.declared.Written.{Written}
-use Rattle.trees.specs.Answers.{writing, write}
-use Rattle.trees.proofs.Writing.{no-output-room, has-room}
+use Rattle.order.specs.Answers.{writing, write}
+use Rattle.order.proofs.Writing.{no-output-room, has-room}
 use Rattle.form.specs.Reading.{Form, fault, form, formOf, wordsOfLines, readOf}
 use Rattle.form.specs.Turns.{Got}
 use Rattle.form.proofs.Trips.{form-write, fault-write}

@@ -6,10 +6,10 @@ use mathlib.Core.List.{List, [], _∷_}
 use native.Mathlib.Omega.{arith}
 use lib.ListN.{length, length-reverse}
 use Rattle.figures.specs.Limits.{most-nodes, most-words}
-use Rattle.trees.specs.Trees.{Tree, subtrees}
-use Rattle.trees.specs.Answers.{Writing, refuse}
-use Rattle.trees.proofs.Causes.{by-order}
-use Rattle.trees.proofs.Writing.{write-line, write-count}
+use Rattle.order.specs.Trees.{Tree, subtrees}
+use Rattle.order.specs.Answers.{Writing, refuse}
+use Rattle.order.proofs.Causes.{by-order}
+use Rattle.order.proofs.Writing.{write-line, write-count}
 use Rattle.form.specs.Text.{Line, linesOf, textOf}
 use Rattle.form.specs.Reading.{Form, fault, form, formOf, wordsOfLines, readOf}
 use Rattle.form.specs.Faults.{Why, past, misspelt, no-option, not-allowed, too-deep, ninth-child}

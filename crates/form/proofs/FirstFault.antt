@@ -11,7 +11,7 @@ use Rattle.words.specs.Base.{if_then_else_}
 use Rattle.figures.specs.Limits.{most-nodes}
 use Rattle.figures.specs.Numbers.{done, no-form}
 use Rattle.figures.specs.Answers.{refusedAt}
-use Rattle.trees.specs.Answers.{writing}
+use Rattle.order.specs.Answers.{writing}
 use Rattle.form.specs.Text.{digit-0, code-size, Line, lineText, spell}
 use Rattle.form.specs.Reading.{faultNumber, isDigit, figure, value, isCode, codeBehind, speltOf, byLine, lineOf, fault, byForm, readLines, formOf, readOf}
 use Rattle.form.specs.Faults.{Legal, Spelt, Why, past, misspelt, no-option, not-allowed, too-deep, ninth-child, FirstFault}

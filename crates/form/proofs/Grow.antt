@@ -7,7 +7,7 @@ use lib.ListN.{length}
 use borrow.Author.Tests.{eqb-true, lt-ltb}
 use Rattle.words.specs.Base.{if_then_else_, within}
 use Rattle.figures.specs.Limits.{greatest-depth, most-nodes, most-children}
-use Rattle.trees.specs.Trees.{Tree, Forest, node, bare, cons, count, words, depth, depthF, Good, GoodF, subtrees}
+use Rattle.order.specs.Trees.{Tree, Forest, node, bare, cons, count, words, depth, depthF, Good, GoodF, subtrees}
 use Rattle.form.specs.Text.{Line, linesOf, linesF, spell, textOf}
 use Rattle.form.specs.Reading.{allowed, siblings, form, formOf, wordsOfLines}
 use Rattle.form.proofs.Tests.{AllPass}

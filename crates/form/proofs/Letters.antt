@@ -11,7 +11,7 @@ use Rattle.words.proofs.Tests.{no-test, fails-right}
 use Rattle.figures.specs.Limits.{least-code, most-nodes}
 use Rattle.figures.specs.Numbers.{done, no-form}
 use Rattle.figures.specs.Answers.{refusedAt}
-use Rattle.trees.specs.Answers.{writing, write}
+use Rattle.order.specs.Answers.{writing, write}
 use Rattle.form.specs.Text.{digit-0, space, line-feed, digit, code-size, Line, levelText, codeText, lineText, spell}
 use Rattle.form.specs.Reading.{isDigit, value, isCode, codeBehind, speltOf, allowed, siblings, lineOf, Form, fault, form, readLines, formOf, children, wordsOfLines, readOf}
 use Rattle.form.specs.Faults.{greatest-level, misspelt, FirstFault}

@@ -9,9 +9,9 @@ use borrow.Author.Tests.{lt-ltb, le-ltb}
 use lib.ListN.{length, take, drop, set, length-append, length-drop}
 use lib.Seq.{length-take-le, take-at, drop-at, drop-drop, sets-eq}
 use Rattle.words.specs.Base.{if_then_else_, over}
-use Rattle.trees.specs.Trees.{Tree, Forest, node, bare, cons}
-use Rattle.trees.specs.Levels.{treeLevels, rowLevels}
-use Rattle.trees.proofs.Writing.{part-back}
+use Rattle.order.specs.Trees.{Tree, Forest, node, bare, cons}
+use Rattle.order.specs.Levels.{treeLevels, rowLevels}
+use Rattle.order.proofs.Writing.{part-back}
 use Rattle.form.specs.Text.{digit-0, space, line-feed, digit, code-size, levelText, codeText, Line, lineText, spell, linesOf, linesF}
 use Rattle.form.specs.Turns.{levelsOf, ShortLines}
 

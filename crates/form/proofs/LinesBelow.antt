@@ -9,11 +9,11 @@ use native.Mathlib.Omega.{arith}
 use lib.ListN.{length, drop}
 use lib.Seq.{drop-append-add}
 use Rattle.words.specs.Base.{_∈_}
-use Rattle.trees.specs.Trees.{Tree, Forest, node, bare, cons, subtrees, subtreesF}
-use Rattle.trees.specs.Reading.{found}
-use Rattle.trees.specs.Answers.{treeAt}
-use Rattle.trees.proofs.Reading.{not-found}
-use Rattle.trees.proofs.Lines.{at-left, at-right}
+use Rattle.order.specs.Trees.{Tree, Forest, node, bare, cons, subtrees, subtreesF}
+use Rattle.order.specs.Reading.{found}
+use Rattle.order.specs.Answers.{treeAt}
+use Rattle.order.proofs.Reading.{not-found}
+use Rattle.order.proofs.Lines.{at-left, at-right}
 use Rattle.form.specs.Text.{Line, linesOf, linesF}
 use Rattle.form.specs.Faults.{NoDeeper}
 use Rattle.form.proofs.TreeLines.{deeper, row-low, lines-count}

@@ -9,7 +9,7 @@ use lib.ListN.{length, length-append}
 use borrow.Author.Tests.{le-leb, eq-eqb, ne-eqb, lt-ltb, le-ltb}
 use Rattle.words.specs.Base.{_and_, if_then_else_}
 use Rattle.figures.specs.Limits.{greatest-depth, most-nodes, most-children}
-use Rattle.trees.specs.Trees.{Tree, Forest, node, bare, cons, count, depth, depthF, Good, GoodF, subtrees}
+use Rattle.order.specs.Trees.{Tree, Forest, node, bare, cons, count, depth, depthF, Good, GoodF, subtrees}
 use Rattle.form.specs.Text.{Line, linesOf, linesF, lineText, spell, textOf}
 use Rattle.form.specs.Reading.{allowed, siblings, form, readLines, formOf}
 use Rattle.form.proofs.Tests.{AllPass}

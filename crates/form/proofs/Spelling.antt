@@ -10,7 +10,7 @@ use lib.Seq.{drop-cons}
 use borrow.Author.Tests.{ne-eqb, eq-eqb, eqb-true}
 use Rattle.words.specs.Base.{if_then_else_}
 use Rattle.words.proofs.Tests.{and-left, and-right}
-use Rattle.trees.proofs.Writing.{two}
+use Rattle.order.proofs.Writing.{two}
 use Rattle.form.specs.Text.{digit-0, digit-9, space, line-feed, code-size}
 use Rattle.form.specs.Reading.{isDigit, figure, isCode, value, codeBehind, speltOf}
 use Rattle.form.specs.declared.reading.Fault.the-variants.{Misspelt}

@@ -6,7 +6,7 @@ use native.Mathlib.Omega.{arith}
 use lib.ListN.{length, length-append}
 use borrow.Author.Tests.{lt-leb, le-leb, eq-eqb, ne-eqb}
 use Rattle.words.specs.Base.{if_then_else_}
-use Rattle.trees.specs.Trees.{Tree, Forest, node, bare, cons, count, words, wordsF, subtrees, subtreesF}
+use Rattle.order.specs.Trees.{Tree, Forest, node, bare, cons, count, words, wordsF, subtrees, subtreesF}
 use Rattle.form.specs.Text.{Line, linesOf, linesF}
 use Rattle.form.specs.Reading.{children, wordsOfLines}
 use Rattle.form.specs.Faults.{NoDeeper, no-more, back-up}

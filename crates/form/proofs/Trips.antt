@@ -11,12 +11,12 @@ use lib.Seq.{take-append-seam}
 use Rattle.words.specs.Base.{if_then_else_, over}
 use Rattle.figures.specs.Numbers.{done, short-output}
 use Rattle.figures.specs.Answers.{wrote, refusedAt}
-use Rattle.trees.specs.Trees.{Tree}
-use Rattle.trees.specs.Reading.{order, byOrder, orderOf, causeOf}
-use Rattle.trees.specs.Answers.{Writing, writing, refuse, write}
-use Rattle.trees.proofs.Orders.{tree-passes}
-use Rattle.trees.proofs.Causes.{Seen, stopped, passed, seen, order-passed}
-use Rattle.trees.proofs.Unique.{words-unique}
+use Rattle.order.specs.Trees.{Tree}
+use Rattle.order.specs.Reading.{order, byOrder, orderOf, causeOf}
+use Rattle.order.specs.Answers.{Writing, writing, refuse, write}
+use Rattle.order.proofs.Orders.{tree-passes}
+use Rattle.order.proofs.Causes.{Seen, stopped, passed, seen, order-passed}
+use Rattle.order.proofs.Unique.{words-unique}
 use Rattle.form.specs.Text.{Line, linesOf, textOf}
 use Rattle.form.specs.Reading.{Form, fault, form, byForm, formOf, wordsOfLines, readOf}
 use Rattle.form.specs.Writing.{writeOf}

@@ -8,7 +8,7 @@ use Rattle.words.specs.Base.{_and_, if_then_else_, within}
 use Rattle.figures.specs.Limits.{most-nodes, most-children, greatest-depth}
 use Rattle.figures.specs.Numbers.{done, too-large, no-form}
 use Rattle.figures.specs.Answers.{refusedAt}
-use Rattle.trees.specs.Answers.{Writing, writing, write}
+use Rattle.order.specs.Answers.{Writing, writing, write}
 use Rattle.form.specs.Text.{digit-0, digit-9, space, line-feed, code-size, Line}
 use Rattle.form.specs.declared.reading.Fault.{Fault}
 use Rattle.form.specs.declared.reading.Fault.the-variants.{PastLast, Misspelt, NoOption, LevelNotAllowed, TooDeep, NinthChild}

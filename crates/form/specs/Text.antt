@@ -3,7 +3,7 @@ use Prim.Native.Nat.{ℕ, suc, _+_, _/_, _%_}
 use mathlib.Core.List.{List, [], _∷_, _++_}
 use lib.Dec.{ltb}
 use Rattle.words.specs.Base.{if_then_else_}
-use Rattle.trees.specs.Trees.{Tree, node, Forest, bare, cons}
+use Rattle.order.specs.Trees.{Tree, node, Forest, bare, cons}
 
 -- ---- bytes
 

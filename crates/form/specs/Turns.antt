@@ -9,7 +9,7 @@ use Rattle.words.specs.Base.{if_then_else_, within}
 use Rattle.figures.specs.Limits.{most-nodes, most-words, most-children, greatest-depth}
 use Rattle.figures.specs.Numbers.{done}
 use Rattle.figures.specs.Answers.{refusedAt, wrote}
-use Rattle.trees.specs.Reading.{byOrder, orderOf}
+use Rattle.order.specs.Reading.{byOrder, orderOf}
 use Rattle.figures.specs.declared.Written.{Written}
 use Rattle.form.specs.Text.{Line, linesOf}
 use Rattle.form.specs.Reading.{speltOf, byLine, Form, fault, form, wordsOfLines}

@@ -5,13 +5,13 @@ use mathlib.Core.List.{List}
 use native.Mathlib.Omega.{arith}
 use Rattle.figures.specs.declared.Answer.{Answer}
 use Rattle.figures.specs.declared.Written.{Written}
-use Rattle.trees.specs.Answers.{Writing, writing}
+use Rattle.order.specs.Answers.{Writing, writing}
 use Rattle.form.specs.Reading.{readOf}
 use Rattle.form.specs.Writing.{writeOf}
 use Rattle.form.proofs.Figures.{read-line-most, read-count-most, print-line, print-count}
 use Rattle.book.specs.Opening.{Outcome, outcome}
-use Rattle.files.specs.Files.{writeFileOf}
-use Rattle.files.proofs.Writing.{filed-line, filed-count}
+use Rattle.book_filing.specs.Files.{writeFileOf}
+use Rattle.book_filing.proofs.Writing.{filed-line, filed-count}
 use Rattle.ofb.specs.Interface.{toldOf, toldWrittenOf, handed, outcomeInC, writingInC}
 use Rattle.ofb.specs.declared.OfbAnswer.{OfbAnswer}
 

@@ -5,14 +5,14 @@ use mathlib.Core.List.{List}
 use native.Mathlib.Omega.{arith}
 use lib.ListN.{length, take, drop}
 use Rattle.figures.specs.Limits.{most-words}
-use Rattle.trees.specs.Standing.{placeOf}
-use Rattle.trees.specs.Answers.{Piece, noPiece, subtreeOf}
-use Rattle.trees.specs.declared.Place.{Place}
-use Rattle.trees.specs.declared.Place.the-variants.{Refused, Lacking, At}
-use Rattle.trees.proofs.Lines.{HasLine, placed, StandsAt, stands-at}
-use Rattle.trees.proofs.Orders.{two-words}
-use Rattle.trees.proofs.Spots.{spot-within, spot-part}
-use Rattle.trees.proofs.Answers.{subtree-refused, subtree-lacks, subtree-is}
+use Rattle.order.specs.Standing.{placeOf}
+use Rattle.order.specs.Answers.{Piece, noPiece, subtreeOf}
+use Rattle.order.specs.declared.Place.{Place}
+use Rattle.order.specs.declared.Place.the-variants.{Refused, Lacking, At}
+use Rattle.order.proofs.Lines.{HasLine, placed, StandsAt, stands-at}
+use Rattle.order.proofs.Orders.{two-words}
+use Rattle.order.proofs.Spots.{spot-within, spot-part}
+use Rattle.order.proofs.Answers.{subtree-refused, subtree-lacks, subtree-is}
 
 module _ (os : List ℕ) (line : ℕ) where
   -- Where the part lies: it is empty, at the front, or it stands where the line does.

@@ -6,9 +6,9 @@ use lib.ListN.{length}
 use Rattle.words.specs.Base.{if_then_else_}
 use Rattle.figures.specs.declared.Answer.{Answer}
 use Rattle.figures.specs.declared.Written.{Written}
-use Rattle.trees.specs.Answers.{Writing, Piece}
+use Rattle.order.specs.Answers.{Writing, Piece}
 use Rattle.book.specs.Opening.{Outcome}
-use Rattle.verdicts.specs.declared.Judgement.{Judgement}
+use Rattle.book_judging.specs.declared.Judgement.{Judgement}
 use Rattle.ofb.specs.declared.OfbAnswer.{OfbAnswer}
 use Rattle.ofb.specs.declared.OfbJudged.{OfbJudged}
 use Rattle.ofb.specs.declared.OfbPart.{OfbPart}

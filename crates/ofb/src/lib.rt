@@ -2,20 +2,20 @@
 // slice is a pointer and a length to C. Assumes nothing beyond each inner function's `requires`.
 ghost use mathlib.Core.Path.{_≡_};
 ghost use Prim.Native.Nat.{_^_, _<_};
-ghost use Rattle.trees.specs.Answers.{subtreeOf};
+ghost use Rattle.order.specs.Answers.{subtreeOf};
 ghost use Rattle.book.specs.Opening.{openOf};
 ghost use Rattle.section.specs.Near.{Small};
-ghost use Rattle.verdicts.specs.Expecting.{judgementOf};
-ghost use Rattle.effects.specs.Calls.{teachOf, withdrawOf};
-ghost use Rattle.sums.specs.Joining.{joinOf};
+ghost use Rattle.book_judging.specs.Expecting.{judgementOf};
+ghost use Rattle.book_teaching.specs.Calls.{teachOf, withdrawOf};
+ghost use Rattle.book_joining.specs.Joining.{joinOf};
 ghost use Rattle.book.specs.Checking.{agreeOf};
-ghost use Rattle.files.specs.Files.{writeFileOf, readFileOf};
+ghost use Rattle.book_filing.specs.Files.{writeFileOf, readFileOf};
 ghost use Rattle.form.specs.Reading.{readOf};
 ghost use Rattle.form.specs.Writing.{writeOf};
 ghost use Rattle.ofb.specs.Interface.{toldOf, toldWrittenOf, toldJudgedOf, handed, outcomeInC, writingInC, partInC};
+use book_judging::Judgement;
 use figures::Answer;
 use figures::Written;
-use verdicts::Judgement;
 
 // An answer, as C has it.
 #[repr(C)]
@@ -94,93 +94,93 @@ pub extern "C" fn ofb_open(book: &mut [u16], k: u16) -> OfbAnswer
     told(answer)
 }
 
-// Teaches an order: `teach::teach`.
+// Teaches an order: `book_teach::teach`.
 #[no_mangle]
 pub extern "C" fn ofb_teach(book: &mut [u16], order: &[u16]) -> OfbAnswer
     ensures { λ r. ⌜ handed r (now (book .exit)) ≡ outcomeInC (teachOf (now (book .entry)) (now (order .entry))) ⌝ }
 {
-    let answer = teach::teach(book, order);
+    let answer = book_teach::teach(book, order);
     told(answer)
 }
 
-// Withdraws an order: `teach::withdraw`.
+// Withdraws an order: `book_teach::withdraw`.
 #[no_mangle]
 pub extern "C" fn ofb_withdraw(book: &mut [u16], order: &[u16]) -> OfbAnswer
     ensures { λ r. ⌜ handed r (now (book .exit)) ≡ outcomeInC (withdrawOf (now (book .entry)) (now (order .entry))) ⌝ }
 {
-    let answer = teach::withdraw(book, order);
+    let answer = book_teach::withdraw(book, order);
     told(answer)
 }
 
-// Joins another book to a book: `join::join`.
+// Joins another book to a book: `book_join::join`.
 #[no_mangle]
 pub extern "C" fn ofb_join(book: &mut [u16], other: &[u16]) -> OfbAnswer
     ensures { λ r. ⌜ handed r (now (book .exit)) ≡ outcomeInC (joinOf (now (book .entry)) (now (other .entry))) ⌝ }
 {
-    let answer = join::join(book, other);
+    let answer = book_join::join(book, other);
     told(answer)
 }
 
-// Judges an order by a book: `judge::judge`.
+// Judges an order by a book: `book_judge::judge`.
 #[no_mangle]
 pub extern "C" fn ofb_judge(book: &[u16], order: &[u16]) -> OfbJudged
     ensures { λ r. ⌜ r ≡ toldJudgedOf (judgementOf (now (book .entry)) (now (order .entry))) ⌝ }
 {
-    let judged = judge::judge(book, order);
+    let judged = book_judge::judge(book, order);
     told_judged(judged)
 }
 
-// Whether a book agrees with itself: `agree::check`.
+// Whether a book agrees with itself: `book_check::check`.
 #[no_mangle]
 pub extern "C" fn ofb_check(book: &[u16]) -> OfbAnswer
     ensures { λ r. ⌜ r ≡ toldOf (agreeOf (now (book .entry))) ⌝ }
 {
-    let answer = agree::check(book);
+    let answer = book_check::check(book);
     told(answer)
 }
 
-// Writes a book's file: `store::write`.
+// Writes a book's file: `book_file::write`.
 #[no_mangle]
 pub extern "C" fn ofb_write_file(book: &[u16], out: &mut [u8]) -> OfbAnswer
     ensures { λ r. ⌜ handed r (now (out .exit)) ≡ writingInC (writeFileOf (now (book .entry)) (now (out .entry))) ⌝ }
 {
-    let answer = store::write(book, out);
+    let answer = book_file::write(book, out);
     told_written(answer)
 }
 
-// Reads a book's file: `store::read`.
+// Reads a book's file: `book_file::read`.
 #[no_mangle]
 pub extern "C" fn ofb_read_file(file: &[u8], book: &mut [u16]) -> OfbAnswer
     ensures { λ r. ⌜ handed r (now (book .exit)) ≡ outcomeInC (readFileOf (now (file .entry)) (now (book .entry))) ⌝ }
 {
-    let answer = store::read(file, book);
+    let answer = book_file::read(file, book);
     told(answer)
 }
 
-// Reads the text of a form: `scan::read`.
+// Reads the text of a form: `form_read::read`.
 #[no_mangle]
 pub extern "C" fn ofb_read_text(text: &[u8], out: &mut [u16]) -> OfbAnswer
     ensures { λ r. ⌜ handed r (now (out .exit)) ≡ writingInC (readOf (now (text .entry)) (now (out .entry))) ⌝ }
 {
-    let answer = scan::read(text, out);
+    let answer = form_read::read(text, out);
     told_written(answer)
 }
 
-// Writes the text of an order: `print::write`.
+// Writes the text of an order: `form_write::write`.
 #[no_mangle]
 pub extern "C" fn ofb_write_text(order: &[u16], out: &mut [u8]) -> OfbAnswer
     ensures { λ r. ⌜ handed r (now (out .exit)) ≡ writingInC (writeOf (now (order .entry)) (now (out .entry))) ⌝ }
 {
-    let answer = print::write(order, out);
+    let answer = form_write::write(order, out);
     told_written(answer)
 }
 
-// The place of the subtree of a line: `cuts::subtree`.
+// The place of the subtree of a line: `order_cuts::subtree`.
 #[no_mangle]
 pub extern "C" fn ofb_subtree(order: &[u16], line: usize) -> OfbPart
     ensures { λ r. ⌜ r ≡ partInC (subtreeOf (now (order .entry)) line) ⌝ }
 {
-    let words = cuts::subtree(order, line).len();
+    let words = order_cuts::subtree(order, line).len();
     if words == 0 {
         return OfbPart { start: 0, words: 0 };
     }

@@ -17,10 +17,10 @@ use Rattle.figures.specs.Numbers.{done, no-room, not-taught, top-unknown, low-u
 use Rattle.figures.specs.Answers.{answered}
 use Rattle.figures.specs.declared.Answer.{Answer}
 use Rattle.section.specs.Entries.{has}
-use Rattle.trees.specs.Trees.{Tree, words, subtrees}
-use Rattle.trees.specs.Fits.{IsOrder}
-use Rattle.trees.specs.Parts.{top, isLow}
-use Rattle.trees.proofs.Fitting.{order-read, read-order}
+use Rattle.order.specs.Trees.{Tree, words, subtrees}
+use Rattle.order.specs.Fits.{IsOrder}
+use Rattle.order.specs.Parts.{top, isLow}
+use Rattle.order.proofs.Fitting.{order-read, read-order}
 use Rattle.form.specs.Text.{textOf}
 use Rattle.form.specs.Reading.{Form, fault, form, byForm, formOf, wordsOfLines}
 use Rattle.form.proofs.Trips.{form-order}
@@ -29,18 +29,18 @@ use Rattle.book.specs.Opening.{outcome, openOf}
 use Rattle.book.specs.Taught.{bookOf}
 use Rattle.book.proofs.Sound.{head-says}
 use Rattle.book.proofs.Openings.{opened-book, opened-used, number-is}
-use Rattle.verdicts.specs.Judging.{Doubt, no-doubt, doubt, leastToFix, verdictOn, verdict, judgeOf}
-use Rattle.verdicts.proofs.Judgements.{by-verdict}
-use Rattle.effects.specs.Calls.{teachOf, withdrawOf}
-use Rattle.effects.specs.Conditions.{_exactly-when_}
-use Rattle.effects.proofs.Conditions.{teach-refusal-leaves, withdraw-refusal-leaves}
-use Rattle.reply.specs.Replies.{reply}
-use Rattle.sheet.specs.Sheets.{letter-K, letterByte, FormCall, Handed, faulty, handed, handedIn, openingBy, openingOf, frontAnswer}
-use Rattle.sheet.specs.declared.Front.the-variants.{Fault}
-use Rattle.sheet.specs.declared.Letter.{Letter}
-use Rattle.sheet.specs.declared.Letter.the-variants.{Teach, Withdraw, Judge}
-use Rattle.ask.specs.Asking.{askOf, callOf}
-use Rattle.calls.specs.Desk.{lineFor, linesFor, printedFor, deskOf}
+use Rattle.book_judging.specs.Judging.{Doubt, no-doubt, doubt, leastToFix, verdictOn, verdict, judgeOf}
+use Rattle.book_judging.proofs.Judgements.{by-verdict}
+use Rattle.book_teaching.specs.Calls.{teachOf, withdrawOf}
+use Rattle.book_teaching.specs.Conditions.{_exactly-when_}
+use Rattle.book_teaching.proofs.Conditions.{teach-refusal-leaves, withdraw-refusal-leaves}
+use Rattle.desk_line.specs.Replies.{reply}
+use Rattle.desk_input.specs.Sheets.{letter-K, letterByte, FormCall, Handed, faulty, handed, handedIn, openingBy, openingOf, frontAnswer}
+use Rattle.desk_input.specs.declared.Front.the-variants.{Fault}
+use Rattle.desk_input.specs.declared.Letter.{Letter}
+use Rattle.desk_input.specs.declared.Letter.the-variants.{Teach, Withdraw, Judge}
+use Rattle.desk_call.specs.Asking.{askOf, callOf}
+use Rattle.desk_step.specs.Desk.{lineFor, linesFor, printedFor, deskOf}
 use Rattle.promises.specs.Remaining.{after, remaining, timesOf, booked, ExactlyThese, MadeOf}
 use Rattle.promises.specs.Starts.{opening}
 use Rattle.promises.specs.AtTheDesk.{madeBy, bookAfter, DeskNumber, is-done, is-no-room, is-not-taught, is-top, is-low, is-middle}
@@ -310,7 +310,7 @@ module _ (input : List ℕ) (k : ℕ) (cs : List FormCall) (is : handedIn input 
       ap (reply (letterByte (c .letter)) (callOf c (desk-book front) .answer))
       (ap (λ (ws : List ℕ). getD ws used-word 0) (sym (book-then front c opened)) ∙ desk-words-used (front ++ (c ∷ [])))
 
--- The first line of any input is that of its opening or of its first fault, by the number and the line of `sheet::opening`.
+-- The first line of any input is that of its opening or of its first fault, by the number and the line of `desk_input::opening`.
 pub first-answer : (input : List ℕ) → (used : ℕ) × (rest : List ℕ) × (deskOf input ≡ reply letter-K (frontAnswer (openingOf input)) used ++ rest)
 unfolding openingOf
 first-answer input = go (handedIn input) refl

@@ -17,14 +17,14 @@ use Rattle.figures.specs.Limits.{head-words}
 use Rattle.figures.specs.Numbers.{done}
 use Rattle.section.specs.Entries.{Entry, counted, sectionWords, has, countOf, Sorted}
 use Rattle.section.proofs.Counts.{has-counts}
-use Rattle.changes.specs.Editing.{lowerAll}
-use Rattle.changes.proofs.Lowering.{size-lower-all}
-use Rattle.trees.specs.Trees.{Tree, words}
-use Rattle.trees.specs.Parts.{top, lowParts, middleParts}
-use Rattle.trees.specs.Fits.{IsOrder}
-use Rattle.trees.specs.Paper.{IsR, IsL, IsP}
-use Rattle.trees.proofs.Fitting.{order-read}
-use Rattle.trees.proofs.Paper.{top-is-r, r-only, low-is-l, l-is-low, middle-is-p, p-is-middle}
+use Rattle.section_change.specs.Editing.{lowerAll}
+use Rattle.section_change.proofs.Lowering.{size-lower-all}
+use Rattle.order.specs.Trees.{Tree, words}
+use Rattle.order.specs.Parts.{top, lowParts, middleParts}
+use Rattle.order.specs.Fits.{IsOrder}
+use Rattle.order.specs.Paper.{IsR, IsL, IsP}
+use Rattle.order.proofs.Fitting.{order-read}
+use Rattle.order.proofs.Paper.{top-is-r, r-only, low-is-l, l-is-low, middle-is-p, p-is-middle}
 use Rattle.book.specs.Book.{Book, sectionOf, body, used, live, encode, lay}
 use Rattle.book.specs.Sound.{IsBook}
 use Rattle.book.specs.Decoding.{placesOf}
@@ -36,11 +36,11 @@ use Rattle.book.proofs.Heads.{is-sized}
 use Rattle.book.proofs.Meaning.{lay-long, used-fits}
 use Rattle.book.proofs.Sections.{form-sorted}
 use Rattle.book.proofs.Teachings.{live-taught, times-counted, times-other, count-after-taught}
-use Rattle.effects.specs.Calls.{teachOf, withdrawOf, lowerEach, withdrawn}
-use Rattle.effects.specs.Conditions.{_exactly-when_, BookAndOrder, PartMissing, from-tops, from-lows, from-middles}
-use Rattle.effects.proofs.Adds.{live-withdrawn}
-use Rattle.effects.proofs.Conditions.{teach-0, teach-writes, withdraw-0, withdraw-writes}
-use Rattle.effects.proofs.Undoing.{count-after-withdrawn}
+use Rattle.book_teaching.specs.Calls.{teachOf, withdrawOf, lowerEach, withdrawn}
+use Rattle.book_teaching.specs.Conditions.{_exactly-when_, BookAndOrder, PartMissing, from-tops, from-lows, from-middles}
+use Rattle.book_teaching.proofs.Adds.{live-withdrawn}
+use Rattle.book_teaching.proofs.Conditions.{teach-0, teach-writes, withdraw-0, withdraw-writes}
+use Rattle.book_teaching.proofs.Undoing.{count-after-withdrawn}
 use Rattle.promises.specs.Books.{LowerThan, ends-first, less, same-word, StandsAt, OneTeachingMore}
 
 -- ---- word by word

@@ -6,15 +6,15 @@ use mathlib.Core.List.{List, [], _∷_, _++_}
 use lib.ListN.{length}
 use Rattle.figures.specs.Limits.{head-words, most-book-words, least-k, greatest-k}
 use Rattle.figures.specs.Numbers.{low-unknown}
-use Rattle.trees.specs.Trees.{Tree}
-use Rattle.trees.specs.Fits.{IsOrder}
-use Rattle.trees.proofs.Fitting.{order-read}
+use Rattle.order.specs.Trees.{Tree}
+use Rattle.order.specs.Fits.{IsOrder}
+use Rattle.order.proofs.Fitting.{order-read}
 use Rattle.form.specs.Reading.{readOf}
 use Rattle.book.specs.Taught.{bookOf}
 use Rattle.book.specs.Opening.{openOf}
 use Rattle.book.proofs.Openings.{opened-book}
-use Rattle.verdicts.specs.Judging.{judgeOf}
-use Rattle.verdicts.proofs.Judgements.{by-verdict}
+use Rattle.book_judging.specs.Judging.{judgeOf}
+use Rattle.book_judging.proofs.Judgements.{by-verdict}
 use Rattle.promises.specs.Heard.{A, B, C, single, pair, three, firstLeaf, opens, teaches, withdraws, judges, slice, heard, readAs}
 use Rattle.promises.proofs.Tables.Computed.{computes}
 use Rattle.promises.proofs.Laws.FirstLeaf.{leaf-verdict}

@@ -18,75 +18,75 @@ use prog.Memory
 use prog.Routine
 use prog.Wp
 use Rattle.figures.specs.Answers.{depthOf, numberOf}
-use Rattle.trees.specs.Answers.{checkOf, subtreeOf, pieceAt, writing, cutIntoOf, partWriting, partIntoOf}
+use Rattle.order.specs.Answers.{checkOf, subtreeOf, pieceAt, writing, cutIntoOf, partWriting, partIntoOf}
 use Rattle.form.specs.Reading.{readOf}
 use Rattle.form.specs.Writing.{writeOf}
 use Rattle.book.specs.Decoding.{bookFormOf}
 use Rattle.book.specs.Opening.{outcome, openOf}
-use Rattle.verdicts.specs.Expecting.{judgementOf}
-use Rattle.effects.specs.Calls.{teachOf, withdrawOf}
-use Rattle.sums.specs.Joining.{joinOf}
+use Rattle.book_judging.specs.Expecting.{judgementOf}
+use Rattle.book_teaching.specs.Calls.{teachOf, withdrawOf}
+use Rattle.book_joining.specs.Joining.{joinOf}
 use Rattle.book.specs.Checking.{agreeOf}
-use Rattle.files.specs.Files.{writeFileOf, readFileOf}
-use Rattle.sheet.specs.Sheets.{letterByte, openingOf}
-use Rattle.calls.specs.Steps.{stepping, beginOf, stepOf}
-use Rattle.order.proofs.check as order-check
-use Rattle.cuts.proofs.subtree
-use Rattle.cuts.proofs.cut_into as cut-into
-use Rattle.parts.proofs.part_into as part-into
-use Rattle.scan.proofs.read
-use Rattle.print.proofs.write
-use Rattle.look.proofs.in_form as in-form
+use Rattle.book_filing.specs.Files.{writeFileOf, readFileOf}
+use Rattle.desk_input.specs.Sheets.{letterByte, openingOf}
+use Rattle.desk_step.specs.Steps.{stepping, beginOf, stepOf}
+use Rattle.order_check.proofs.check as order-check
+use Rattle.order_cuts.proofs.subtree
+use Rattle.order_cuts.proofs.cut_into as cut-into
+use Rattle.order_parts.proofs.part_into as part-into
+use Rattle.form_read.proofs.read
+use Rattle.form_write.proofs.write
+use Rattle.book_form.proofs.in_form as in-form
 use Rattle.book.proofs.open as book-open
-use Rattle.judge.proofs.judge
-use Rattle.teach.proofs.teach
-use Rattle.teach.proofs.withdraw
-use Rattle.join.proofs.join
-use Rattle.agree.proofs.check as agree-check
-use Rattle.store.proofs.write as store-write
-use Rattle.store.proofs.read as store-read
-use Rattle.sheet.proofs.opening
-use Rattle.sheet.proofs.Letter.byte as letter-byte
-use Rattle.calls.proofs.begin as calls-begin
-use Rattle.calls.proofs.step as calls-step
-use Rattle.order.proofs.check.Statement as order-check-statement
-use Rattle.order.proofs.check.Met as order-check-met
-use Rattle.cuts.proofs.subtree.Statement as subtree-statement
-use Rattle.cuts.proofs.subtree.Met as subtree-met
-use Rattle.cuts.proofs.cut_into.Statement as cut-into-statement
-use Rattle.cuts.proofs.cut_into.Met as cut-into-met
-use Rattle.parts.proofs.part_into.Statement as part-into-statement
-use Rattle.parts.proofs.part_into.Met as part-into-met
-use Rattle.scan.proofs.read.Statement as read-statement
-use Rattle.scan.proofs.read.Met as read-met
-use Rattle.print.proofs.write.Statement as write-statement
-use Rattle.print.proofs.write.Met as write-met
-use Rattle.look.proofs.in_form.Statement as in-form-statement
-use Rattle.look.proofs.in_form.Met as in-form-met
+use Rattle.book_judge.proofs.judge
+use Rattle.book_teach.proofs.teach
+use Rattle.book_teach.proofs.withdraw
+use Rattle.book_join.proofs.join
+use Rattle.book_check.proofs.check as agree-check
+use Rattle.book_file.proofs.write as store-write
+use Rattle.book_file.proofs.read as store-read
+use Rattle.desk_input.proofs.opening
+use Rattle.desk_input.proofs.Letter.byte as letter-byte
+use Rattle.desk_step.proofs.begin as calls-begin
+use Rattle.desk_step.proofs.step as calls-step
+use Rattle.order_check.proofs.check.Statement as order-check-statement
+use Rattle.order_check.proofs.check.Met as order-check-met
+use Rattle.order_cuts.proofs.subtree.Statement as subtree-statement
+use Rattle.order_cuts.proofs.subtree.Met as subtree-met
+use Rattle.order_cuts.proofs.cut_into.Statement as cut-into-statement
+use Rattle.order_cuts.proofs.cut_into.Met as cut-into-met
+use Rattle.order_parts.proofs.part_into.Statement as part-into-statement
+use Rattle.order_parts.proofs.part_into.Met as part-into-met
+use Rattle.form_read.proofs.read.Statement as read-statement
+use Rattle.form_read.proofs.read.Met as read-met
+use Rattle.form_write.proofs.write.Statement as write-statement
+use Rattle.form_write.proofs.write.Met as write-met
+use Rattle.book_form.proofs.in_form.Statement as in-form-statement
+use Rattle.book_form.proofs.in_form.Met as in-form-met
 use Rattle.book.proofs.open.Statement as book-open-statement
 use Rattle.book.proofs.open.Met as book-open-met
-use Rattle.judge.proofs.judge.Statement as judge-statement
-use Rattle.judge.proofs.judge.Met as judge-met
-use Rattle.teach.proofs.teach.Statement as teach-statement
-use Rattle.teach.proofs.teach.Met as teach-met
-use Rattle.teach.proofs.withdraw.Statement as withdraw-statement
-use Rattle.teach.proofs.withdraw.Met as withdraw-met
-use Rattle.join.proofs.join.Statement as join-statement
-use Rattle.join.proofs.join.Met as join-met
-use Rattle.agree.proofs.check.Statement as agree-check-statement
-use Rattle.agree.proofs.check.Met as agree-check-met
-use Rattle.store.proofs.write.Statement as store-write-statement
-use Rattle.store.proofs.write.Met as store-write-met
-use Rattle.store.proofs.read.Statement as store-read-statement
-use Rattle.store.proofs.read.Met as store-read-met
-use Rattle.sheet.proofs.opening.Statement as opening-statement
-use Rattle.sheet.proofs.opening.Met as opening-met
-use Rattle.sheet.proofs.Letter.byte.Statement as letter-byte-statement
-use Rattle.sheet.proofs.Letter.byte.Met as letter-byte-met
-use Rattle.calls.proofs.begin.Statement as calls-begin-statement
-use Rattle.calls.proofs.begin.Met as calls-begin-met
-use Rattle.calls.proofs.step.Statement as calls-step-statement
-use Rattle.calls.proofs.step.Met as calls-step-met
+use Rattle.book_judge.proofs.judge.Statement as judge-statement
+use Rattle.book_judge.proofs.judge.Met as judge-met
+use Rattle.book_teach.proofs.teach.Statement as teach-statement
+use Rattle.book_teach.proofs.teach.Met as teach-met
+use Rattle.book_teach.proofs.withdraw.Statement as withdraw-statement
+use Rattle.book_teach.proofs.withdraw.Met as withdraw-met
+use Rattle.book_join.proofs.join.Statement as join-statement
+use Rattle.book_join.proofs.join.Met as join-met
+use Rattle.book_check.proofs.check.Statement as agree-check-statement
+use Rattle.book_check.proofs.check.Met as agree-check-met
+use Rattle.book_file.proofs.write.Statement as store-write-statement
+use Rattle.book_file.proofs.write.Met as store-write-met
+use Rattle.book_file.proofs.read.Statement as store-read-statement
+use Rattle.book_file.proofs.read.Met as store-read-met
+use Rattle.desk_input.proofs.opening.Statement as opening-statement
+use Rattle.desk_input.proofs.opening.Met as opening-met
+use Rattle.desk_input.proofs.Letter.byte.Statement as letter-byte-statement
+use Rattle.desk_input.proofs.Letter.byte.Met as letter-byte-met
+use Rattle.desk_step.proofs.begin.Statement as calls-begin-statement
+use Rattle.desk_step.proofs.begin.Met as calls-begin-met
+use Rattle.desk_step.proofs.step.Statement as calls-step-statement
+use Rattle.desk_step.proofs.step.Met as calls-step-met
 use Rattle.figures.proofs.depths.Depth.new as depth-new
 use Rattle.figures.proofs.depths.Depth.new.Statement as depth-new-statement
 use Rattle.figures.proofs.depths.Depth.new.Met as depth-new-met
@@ -106,31 +106,31 @@ use Rattle.figures.proofs.depths.Depth.of_middles.Met as depth-of-middles-met
 -- ---- "Every call ends and touches only what it was lent"
 
 module _ {M : Type 1} where
-  -- `order::check`
+  -- `order_check::check`
   pub order-check-meets : order-check-statement.statement M
   order-check-meets = order-check-met.met
 
-  -- `cuts::subtree`
+  -- `order_cuts::subtree`
   pub subtree-meets : subtree-statement.statement M
   subtree-meets = subtree-met.met
 
-  -- `cuts::cut_into`
+  -- `order_cuts::cut_into`
   pub cut-into-meets : cut-into-statement.statement M
   cut-into-meets = cut-into-met.met
 
-  -- `parts::part_into`
+  -- `order_parts::part_into`
   pub part-into-meets : part-into-statement.statement M
   part-into-meets = part-into-met.met
 
-  -- `scan::read`
+  -- `form_read::read`
   pub read-meets : read-statement.statement M
   read-meets = read-met.met
 
-  -- `print::write`
+  -- `form_write::write`
   pub write-meets : write-statement.statement M
   write-meets = write-met.met
 
-  -- `look::in_form`
+  -- `book_form::in_form`
   pub in-form-meets : in-form-statement.statement M
   in-form-meets = in-form-met.met
 
@@ -138,47 +138,47 @@ module _ {M : Type 1} where
   pub open-meets : book-open-statement.statement M
   open-meets = book-open-met.met
 
-  -- `judge::judge`
+  -- `book_judge::judge`
   pub judge-meets : judge-statement.statement M
   judge-meets = judge-met.met
 
-  -- `teach::teach`
+  -- `book_teach::teach`
   pub teach-meets : teach-statement.statement M
   teach-meets = teach-met.met
 
-  -- `teach::withdraw`
+  -- `book_teach::withdraw`
   pub withdraw-meets : withdraw-statement.statement M
   withdraw-meets = withdraw-met.met
 
-  -- `join::join`
+  -- `book_join::join`
   pub join-meets : join-statement.statement M
   join-meets = join-met.met
 
-  -- `agree::check`
+  -- `book_check::check`
   pub check-meets : agree-check-statement.statement M
   check-meets = agree-check-met.met
 
-  -- `store::write`
+  -- `book_file::write`
   pub write-file-meets : store-write-statement.statement M
   write-file-meets = store-write-met.met
 
-  -- `store::read`
+  -- `book_file::read`
   pub read-file-meets : store-read-statement.statement M
   read-file-meets = store-read-met.met
 
-  -- `sheet::opening`
+  -- `desk_input::opening`
   pub opening-meets : opening-statement.statement M
   opening-meets = opening-met.met
 
-  -- `sheet::Letter::byte`
+  -- `desk_input::Letter::byte`
   pub letter-byte-meets : letter-byte-statement.statement M
   letter-byte-meets = letter-byte-met.met
 
-  -- `calls::begin`
+  -- `desk_step::begin`
   pub begin-meets : calls-begin-statement.statement M
   begin-meets = calls-begin-met.met
 
-  -- `calls::step`
+  -- `desk_step::step`
   pub step-meets : calls-step-statement.statement M
   step-meets = calls-step-met.met
 
@@ -207,39 +207,39 @@ module _ {M : Type 1} where
 module _ {M : Type 1} (𝓤 : URA.URA M) (H : Wp.Heap 𝓤) (A : Atoms.Atoms 𝓤) (mem : Memory.Memory → Logic.SProp 𝓤) (run : Routine.Routine → Monad.Fun 𝓤) where
   open Notation.Connectives (Notation.connectives 𝓤) using (⌜_⌝, ⊤ₛ)
 
-  -- `order::check`
+  -- `order_check::check`
   pub order-check-says : (κs args g r : _) → let c = order-check.spec 𝓤 H A mem run κs args in
       (c .ghost ≡ Unit {0}) × (c .requires g ≡ ⊤ₛ) × (c .ensures g r ≡ exits 𝓤 H A order-check.signature (order-check.ended .kept) κs args (λ end. ⌜ r ≡ checkOf (now (args .0)) ⌝))
   order-check-says κs args g r = (refl, refl, refl)
 
-  -- `cuts::subtree`
+  -- `order_cuts::subtree`
   pub subtree-says : (κs args g r : _) → let c = subtree.spec 𝓤 H A mem run κs args in
       (c .ghost ≡ Unit {0}) × (c .requires g ≡ ⊤ₛ) × (c .ensures g r ≡ exits 𝓤 H A subtree.signature (subtree.ended .kept) κs args (λ end. ⌜ (ptr r, now r) ≡ pieceAt (ptr (args .0)) (subtreeOf (now (args .0)) (args .1 .0)) ⌝))
   subtree-says κs args g r = (refl, refl, refl)
 
-  -- `cuts::cut_into`
+  -- `order_cuts::cut_into`
   pub cut-into-says : (κs args g r : _) → let c = cut-into.spec 𝓤 H A mem run κs args in
       (c .ghost ≡ Unit {0}) × (c .requires g ≡ ⊤ₛ)
       × (c .ensures g r ≡ exits 𝓤 H A cut-into.signature (cut-into.ended .kept) κs args (λ end. ⌜ writing r (now (end .1 .1 .1 .0)) ≡ cutIntoOf (now (args .0)) (args .1 .0) (args .1 .1 .0) (now (args .1 .1 .1 .0)) ⌝))
   cut-into-says κs args g r = (refl, refl, refl)
 
-  -- `parts::part_into`
+  -- `order_parts::part_into`
   pub part-into-says : (κs args g r : _) → let c = part-into.spec 𝓤 H A mem run κs args in
       (c .ghost ≡ Unit {0}) × (c .requires g ≡ ⊤ₛ)
       × (c .ensures g r ≡ exits 𝓤 H A part-into.signature (part-into.ended .kept) κs args (λ end. ⌜ partWriting r (now (end .1 .1 .1 .0)) ≡ partIntoOf (now (args .0)) (args .1 .0) (args .1 .1 .0 .k) (now (args .1 .1 .1 .0)) ⌝))
   part-into-says κs args g r = (refl, refl, refl)
 
-  -- `scan::read`
+  -- `form_read::read`
   pub read-says : (κs args g r : _) → let c = read.spec 𝓤 H A mem run κs args in
       (c .ghost ≡ Unit {0}) × (c .requires g ≡ ⊤ₛ) × (c .ensures g r ≡ exits 𝓤 H A read.signature (read.ended .kept) κs args (λ end. ⌜ writing r (now (end .1 .0)) ≡ readOf (now (args .0)) (now (args .1 .0)) ⌝))
   read-says κs args g r = (refl, refl, refl)
 
-  -- `print::write`
+  -- `form_write::write`
   pub write-says : (κs args g r : _) → let c = write.spec 𝓤 H A mem run κs args in
       (c .ghost ≡ Unit {0}) × (c .requires g ≡ ⊤ₛ) × (c .ensures g r ≡ exits 𝓤 H A write.signature (write.ended .kept) κs args (λ end. ⌜ writing r (now (end .1 .0)) ≡ writeOf (now (args .0)) (now (args .1 .0)) ⌝))
   write-says κs args g r = (refl, refl, refl)
 
-  -- `look::in_form`
+  -- `book_form::in_form`
   pub in-form-says : (κs args g r : _) → let c = in-form.spec 𝓤 H A mem run κs args in
       (c .ghost ≡ Unit {0}) × (c .requires g ≡ ⊤ₛ) × (c .ensures g r ≡ exits 𝓤 H A in-form.signature (in-form.ended .kept) κs args (λ end. ⌜ r ≡ bookFormOf (now (args .0)) ⌝))
   in-form-says κs args g r = (refl, refl, refl)
@@ -249,58 +249,58 @@ module _ {M : Type 1} (𝓤 : URA.URA M) (H : Wp.Heap 𝓤) (A : Atoms.Atoms �
       (c .ghost ≡ Unit {0}) × (c .requires g ≡ ⊤ₛ) × (c .ensures g r ≡ exits 𝓤 H A book-open.signature (book-open.ended .kept) κs args (λ end. ⌜ outcome r (now (end .0)) ≡ openOf (now (args .0)) (args .1 .0) ⌝))
   open-says κs args g r = (refl, refl, refl)
 
-  -- `judge::judge`
+  -- `book_judge::judge`
   pub judge-says : (κs args g r : _) → let c = judge.spec 𝓤 H A mem run κs args in
       (c .ghost ≡ Unit {0}) × (c .requires g ≡ ⊤ₛ) × (c .ensures g r ≡ exits 𝓤 H A judge.signature (judge.ended .kept) κs args (λ end. ⌜ r ≡ judgementOf (now (args .0)) (now (args .1 .0)) ⌝))
   judge-says κs args g r = (refl, refl, refl)
 
-  -- `teach::teach`
+  -- `book_teach::teach`
   pub teach-says : (κs args g r : _) → let c = teach.spec 𝓤 H A mem run κs args in
       (c .ghost ≡ Unit {0}) × (c .requires g ≡ ⊤ₛ) × (c .ensures g r ≡ exits 𝓤 H A teach.signature (teach.ended .kept) κs args (λ end. ⌜ outcome r (now (end .0)) ≡ teachOf (now (args .0)) (now (args .1 .0)) ⌝))
   teach-says κs args g r = (refl, refl, refl)
 
-  -- `teach::withdraw`
+  -- `book_teach::withdraw`
   pub withdraw-says : (κs args g r : _) → let c = withdraw.spec 𝓤 H A mem run κs args in
       (c .ghost ≡ Unit {0}) × (c .requires g ≡ ⊤ₛ) × (c .ensures g r ≡ exits 𝓤 H A withdraw.signature (withdraw.ended .kept) κs args (λ end. ⌜ outcome r (now (end .0)) ≡ withdrawOf (now (args .0)) (now (args .1 .0)) ⌝))
   withdraw-says κs args g r = (refl, refl, refl)
 
-  -- `join::join`
+  -- `book_join::join`
   pub join-says : (κs args g r : _) → let c = join.spec 𝓤 H A mem run κs args in
       (c .ghost ≡ Unit {0}) × (c .requires g ≡ ⊤ₛ) × (c .ensures g r ≡ exits 𝓤 H A join.signature (join.ended .kept) κs args (λ end. ⌜ outcome r (now (end .0)) ≡ joinOf (now (args .0)) (now (args .1 .0)) ⌝))
   join-says κs args g r = (refl, refl, refl)
 
-  -- `agree::check`
+  -- `book_check::check`
   pub check-says : (κs args g r : _) → let c = agree-check.spec 𝓤 H A mem run κs args in
       (c .ghost ≡ Unit {0}) × (c .requires g ≡ ⊤ₛ) × (c .ensures g r ≡ exits 𝓤 H A agree-check.signature (agree-check.ended .kept) κs args (λ end. ⌜ r ≡ agreeOf (now (args .0)) ⌝))
   check-says κs args g r = (refl, refl, refl)
 
-  -- `store::write`
+  -- `book_file::write`
   pub write-file-says : (κs args g r : _) → let c = store-write.spec 𝓤 H A mem run κs args in
       (c .ghost ≡ Unit {0}) × (c .requires g ≡ ⊤ₛ) × (c .ensures g r ≡ exits 𝓤 H A store-write.signature (store-write.ended .kept) κs args (λ end. ⌜ writing r (now (end .1 .0)) ≡ writeFileOf (now (args .0)) (now (args .1 .0)) ⌝))
   write-file-says κs args g r = (refl, refl, refl)
 
-  -- `store::read`
+  -- `book_file::read`
   pub read-file-says : (κs args g r : _) → let c = store-read.spec 𝓤 H A mem run κs args in
       (c .ghost ≡ Unit {0}) × (c .requires g ≡ ⊤ₛ) × (c .ensures g r ≡ exits 𝓤 H A store-read.signature (store-read.ended .kept) κs args (λ end. ⌜ outcome r (now (end .1 .0)) ≡ readFileOf (now (args .0)) (now (args .1 .0)) ⌝))
   read-file-says κs args g r = (refl, refl, refl)
 
-  -- `sheet::opening`
+  -- `desk_input::opening`
   pub opening-says : (κs args g r : _) → let c = opening.spec 𝓤 H A mem run κs args in
       (c .ghost ≡ Unit {0}) × (c .requires g ≡ ⊤ₛ) × (c .ensures g r ≡ exits 𝓤 H A opening.signature (opening.ended .kept) κs args (λ end. ⌜ r ≡ openingOf (now (args .0)) ⌝))
   opening-says κs args g r = (refl, refl, refl)
 
-  -- `sheet::Letter::byte`
+  -- `desk_input::Letter::byte`
   pub letter-byte-says : (κs args g r : _) → let c = letter-byte.spec 𝓤 H A mem run κs args in
       (c .ghost ≡ Unit {0}) × (c .requires g ≡ ⊤ₛ) × (c .ensures g r ≡ exits 𝓤 H A letter-byte.signature (letter-byte.ended .kept) κs args (λ end. ⌜ r ≡ letterByte (args .0) ⌝))
   letter-byte-says κs args g r = (refl, refl, refl)
 
-  -- `calls::begin`
+  -- `desk_step::begin`
   pub begin-says : (κs args g r : _) → let c = calls-begin.spec 𝓤 H A mem run κs args in
       (c .ghost ≡ Unit {0}) × (c .requires g ≡ ⊤ₛ)
       × (c .ensures g r ≡ exits 𝓤 H A calls-begin.signature (calls-begin.ended .kept) κs args (λ end. ⌜ stepping r (now (end .1 .0)) (now (end .1 .1 .0)) ≡ beginOf (now (args .0)) (now (args .1 .0)) (now (args .1 .1 .0)) ⌝))
   begin-says κs args g r = (refl, refl, refl)
 
-  -- `calls::step`
+  -- `desk_step::step`
   pub step-says : (κs args g r : _) → let c = calls-step.spec 𝓤 H A mem run κs args in
       (c .ghost ≡ Unit {0}) × (c .requires g ≡ ⊤ₛ)
       × (c .ensures g r ≡ exits 𝓤 H A calls-step.signature (calls-step.ended .kept) κs args (λ end. ⌜ stepping r (now (end .1 .0)) (now (end .1 .1 .0)) ≡ stepOf (now (args .0)) (now (args .1 .0)) (now (args .1 .1 .0)) ⌝))

@@ -4,7 +4,7 @@
 -- That a call ends, reads and writes only within what it was lent and wraps no sum is the theorem of each function, which the prover checks before it
 -- passes a crate: proofs/Contracts.antt cites those of the public functions (`teach-meets` and the like), and shows that their contracts ask nothing
 -- and say just the equations that stand here (`teach-says` and the like). What is lent by `&` comes back as it was, by the same theorem: so
--- `order::check`, `cuts::subtree`, `look::in_form`, `judge::judge`, `agree::check` and `sheet::opening`, which are lent nothing to write (proofs/Lent.antt),
+-- `order_check::check`, `order_cuts::subtree`, `book_form::in_form`, `book_judge::judge`, `book_check::check` and `desk_input::opening`, which are lent nothing to write (proofs/Lent.antt),
 -- change nothing. Of what the others leave this file speaks. Assumes nothing.
 use Prim.Native.Nat.{ℕ, suc, _-_, _≤_, _<_}
 use mathlib.Core.Path.{_≡_, refl, sym, ap, subst, _∙_}
@@ -19,44 +19,44 @@ use Rattle.figures.specs.Answers.{depthOf, askedTold}
 use Rattle.figures.specs.declared.depths.Asked.{Asked}
 use Rattle.figures.specs.declared.Answer.{Answer}
 use Rattle.figures.specs.declared.Written.{Written}
-use Rattle.trees.specs.Trees.{Tree, cut}
-use Rattle.trees.specs.Paper.{IsR}
-use Rattle.trees.proofs.Paper.{cut-is-r}
-use Rattle.trees.specs.Answers.{checkOf, subtreeOf, pieceAt, Writing, writing, cutIntoOf, PartWriting, partWriting, partIntoOf}
-use Rattle.trees.specs.declared.PartWritten.{PartWritten}
+use Rattle.order.specs.Trees.{Tree, cut}
+use Rattle.order.specs.Paper.{IsR}
+use Rattle.order.proofs.Paper.{cut-is-r}
+use Rattle.order.specs.Answers.{checkOf, subtreeOf, pieceAt, Writing, writing, cutIntoOf, PartWriting, partWriting, partIntoOf}
+use Rattle.order.specs.declared.PartWritten.{PartWritten}
 use Rattle.form.specs.Reading.{readOf}
 use Rattle.form.specs.Writing.{writeOf}
 use Rattle.form.proofs.Figures.{print-line}
 use Rattle.book.specs.Decoding.{bookFormOf, formTold}
 use Rattle.book.specs.Opening.{Outcome, outcome, openOf}
 use Rattle.book.specs.declared.BookForm.{BookForm}
-use Rattle.verdicts.specs.Judging.{judgeOf}
-use Rattle.verdicts.specs.Verdicts.{Judged}
-use Rattle.verdicts.proofs.Answers.{judged-is, judged-only}
-use Rattle.effects.specs.Calls.{teachOf, withdrawOf}
-use Rattle.effects.specs.Whys.{WhyTaught, WhyWithdrawn}
-use Rattle.effects.proofs.Whys.{teach-why, teach-only, withdraw-why, withdraw-only}
-use Rattle.effects.proofs.Conditions.{teach-refusal-leaves, withdraw-refusal-leaves, teach-line, withdraw-line}
-use Rattle.sums.specs.Joining.{joinOf}
-use Rattle.sums.proofs.Joins.{join-line, join-leaves as join-refusal-leaves}
+use Rattle.book_judging.specs.Judging.{judgeOf}
+use Rattle.book_judging.specs.Verdicts.{Judged}
+use Rattle.book_judging.proofs.Answers.{judged-is, judged-only}
+use Rattle.book_teaching.specs.Calls.{teachOf, withdrawOf}
+use Rattle.book_teaching.specs.Whys.{WhyTaught, WhyWithdrawn}
+use Rattle.book_teaching.proofs.Whys.{teach-why, teach-only, withdraw-why, withdraw-only}
+use Rattle.book_teaching.proofs.Conditions.{teach-refusal-leaves, withdraw-refusal-leaves, teach-line, withdraw-line}
+use Rattle.book_joining.specs.Joining.{joinOf}
+use Rattle.book_joining.proofs.Joins.{join-line, join-leaves as join-refusal-leaves}
 use Rattle.book.specs.Checking.{agreeOf}
 use Rattle.book.proofs.Openings.{open-line}
 use Rattle.book.proofs.Checking.{check-line as agrees-line}
-use Rattle.files.specs.Files.{writeFileOf, readFileOf}
-use Rattle.files.proofs.Writing.{filed-line}
-use Rattle.files.proofs.Restoring.{restored-line}
-use Rattle.reply.specs.Replies.{reply-room}
-use Rattle.sheet.specs.Sheets.{Handed, faulty, handed, handedIn, openingBy, openingOf}
-use Rattle.sheet.specs.Places.{letterAt}
-use Rattle.sheet.specs.Whys.{WhyFront}
-use Rattle.sheet.specs.declared.Front.{Front}
-use Rattle.sheet.specs.declared.Front.the-variants.{Fault}
-use Rattle.sheet.specs.declared.LineKind.the-variants.{Other}
-use Rattle.sheet.proofs.Reasons.{opening-why, opening-only}
-use Rattle.calls.specs.Steps.{Stepping, stepping, idle, begunBy, beginOf, stepOf}
-use Rattle.calls.specs.declared.Printed.{Printed}
-use Rattle.calls.proofs.Runs.{begin-behind, step-behind}
-use Rattle.calls.proofs.Steps.{begin-short, step-short, step-other}
+use Rattle.book_filing.specs.Files.{writeFileOf, readFileOf}
+use Rattle.book_filing.proofs.Writing.{filed-line}
+use Rattle.book_filing.proofs.Restoring.{restored-line}
+use Rattle.desk_line.specs.Replies.{reply-room}
+use Rattle.desk_input.specs.Sheets.{Handed, faulty, handed, handedIn, openingBy, openingOf}
+use Rattle.desk_input.specs.Places.{letterAt}
+use Rattle.desk_input.specs.Whys.{WhyFront}
+use Rattle.desk_input.specs.declared.Front.{Front}
+use Rattle.desk_input.specs.declared.Front.the-variants.{Fault}
+use Rattle.desk_input.specs.declared.LineKind.the-variants.{Other}
+use Rattle.desk_input.proofs.Reasons.{opening-why, opening-only}
+use Rattle.desk_step.specs.Steps.{Stepping, stepping, idle, begunBy, beginOf, stepOf}
+use Rattle.desk_step.specs.declared.Printed.{Printed}
+use Rattle.desk_step.proofs.Runs.{begin-behind, step-behind}
+use Rattle.desk_step.proofs.Steps.{begin-short, step-short, step-other}
 use Rattle.promises.specs.Whys.{WhyNumbered, WhySubtree, WhyCut, WhyPart, WhyDepth, WhyLooked, WhyOpened, WhyChecked, WhyJoined, WhyPrinted, WhyRead, WhyFiled, WhyRestored}
 use Rattle.promises.proofs.Laws.Whys.{depth-why, depth-only, looked-why, looked-only, opened-why, opened-only, printed-why, printed-only, read-why, read-only}
 use Rattle.promises.proofs.Laws.PartWhys.{numbered-why, numbered-only, subtree-why, subtree-only, cut-why, cut-only, part-why, part-only}
@@ -92,7 +92,7 @@ module _ (ws os text file out : List ℕ) (k line d : ℕ) where
   pub part-rows : Exactly (WhyPart os out line k) (partIntoOf os line k out)
   part-rows = (part-why os out line k, part-only os out line k)
 
-  -- 4 and 5: `look::in_form`, by the number, line and places that `formTold` gives each case
+  -- 4 and 5: `book_form::in_form`, by the number, line and places that `formTold` gives each case
   pub form-rows : Exactly (WhyLooked ws) (formTold (bookFormOf ws))
   form-rows = (looked-why ws, looked-only ws)
 
@@ -146,7 +146,7 @@ module _ (ws vs : List ℕ) where
   pub join-rows : Exactly (WhyJoined ws vs) (joinOf ws vs)
   join-rows = (joined-why ws vs, joined-only ws vs)
 
-  -- `join::join`: the line is 0.
+  -- `book_join::join`: the line is 0.
   pub join-no-line : joinOf ws vs .answer .line ≡ 0
   join-no-line = join-line ws vs
 
@@ -158,15 +158,15 @@ cut-keeps t d = let e : suc d - 1 ≡ d = omega arith in subst (λ (n : ℕ). Is
 
 -- "for every other answer, 0 and 11 included, it is 0": only a verdict of 20, 21 or 22, and 2 or 10 for a text, have another line.
 module _ (ws os text file out : List ℕ) (k line d : ℕ) where
-  -- `order::check`
+  -- `order_check::check`
   pub order-no-line : checkOf os .line ≡ 0
   order-no-line = check-line os
 
-  -- `cuts::cut_into`
+  -- `order_cuts::cut_into`
   pub cut-no-line : cutIntoOf os line d out .answer .line ≡ 0
   cut-no-line = cut-line os out line d
 
-  -- `parts::part_into`
+  -- `order_parts::part_into`
   pub part-no-line : partIntoOf os line k out .answer .written .line ≡ 0
   part-no-line = part-line os out line k
 
@@ -174,35 +174,35 @@ module _ (ws os text file out : List ℕ) (k line d : ℕ) where
   pub open-no-line : openOf ws k .answer .line ≡ 0
   open-no-line = open-line ws k
 
-  -- `teach::teach`
+  -- `book_teach::teach`
   pub teach-no-line : teachOf ws os .answer .line ≡ 0
   teach-no-line = teach-line ws os
 
-  -- `teach::withdraw`
+  -- `book_teach::withdraw`
   pub withdraw-no-line : withdrawOf ws os .answer .line ≡ 0
   withdraw-no-line = withdraw-line ws os
 
-  -- `agree::check`
+  -- `book_check::check`
   pub check-no-line : agreeOf ws .line ≡ 0
   check-no-line = agrees-line ws
 
-  -- `print::write`
+  -- `form_write::write`
   pub write-no-line : writeOf os out .answer .line ≡ 0
   write-no-line = print-line os out
 
-  -- `store::write`
+  -- `book_file::write`
   pub write-file-no-line : writeFileOf ws out .answer .line ≡ 0
   write-file-no-line = filed-line ws out
 
-  -- `store::read`
+  -- `book_file::read`
   pub read-file-no-line : readFileOf file ws .answer .line ≡ 0
   read-file-no-line = restored-line file ws
 
-  -- `scan::read`, where it answers neither 2 nor 10
+  -- `form_read::read`, where it answers neither 2 nor 10
   pub read-no-line : (readOf text out .answer .number ≡ too-large → ⊥) → (readOf text out .answer .number ≡ no-form → ⊥) → readOf text out .answer .line ≡ 0
   read-no-line = read-line text out
 
-  -- `judge::judge`, where it gives no verdict but 0
+  -- `book_judge::judge`, where it gives no verdict but 0
   pub judge-no-line : judgeOf ws os .number < top-unknown → judgeOf ws os .line ≡ 0
   judge-no-line = judge-line ws os
 
@@ -227,31 +227,31 @@ two-steps e f = (ap (λ (o : Stepping). o .step) (same e f), ap (λ (o : Steppin
 -- "Two outcomes allowed by one promise are shown equal": r and s are two answers that the contract allows, and what stands beside them what was lent
 -- to be written, right after each call.
 module _ (ws os text file out : List ℕ) (k line d : ℕ) where
-  -- `order::check`
+  -- `order_check::check`
   pub one-check : {r s : Answer} → r ≡ checkOf os → s ≡ checkOf os → r ≡ s
   one-check = same
 
-  -- `cuts::subtree`: the place of the part that is handed out, behind that of the order, and its words
+  -- `order_cuts::subtree`: the place of the part that is handed out, behind that of the order, and its words
   pub one-subtree : (at : ℕ × ℕ) {p q : ℕ × ℕ} {u v : List ℕ} → (p, u) ≡ pieceAt at (subtreeOf os line) → (q, v) ≡ pieceAt at (subtreeOf os line) → (p ≡ q) × (u ≡ v)
   one-subtree at e f = (ap (λ (x : (ℕ × ℕ) × List ℕ). x .0) (same e f), ap (λ (x : (ℕ × ℕ) × List ℕ). x .1) (same e f))
 
-  -- `cuts::cut_into`
+  -- `order_cuts::cut_into`
   pub one-cut : {r s : Written} {u v : List ℕ} → writing r u ≡ cutIntoOf os line d out → writing s v ≡ cutIntoOf os line d out → (r ≡ s) × (u ≡ v)
   one-cut = two-writings
 
-  -- `parts::part_into`
+  -- `order_parts::part_into`
   pub one-part : {r s : PartWritten} {u v : List ℕ} → partWriting r u ≡ partIntoOf os line k out → partWriting s v ≡ partIntoOf os line k out → (r ≡ s) × (u ≡ v)
   one-part e f = (ap (λ (o : PartWriting). o .answer) (same e f), ap (λ (o : PartWriting). o .out) (same e f))
 
-  -- `scan::read`
+  -- `form_read::read`
   pub one-read : {r s : Written} {u v : List ℕ} → writing r u ≡ readOf text out → writing s v ≡ readOf text out → (r ≡ s) × (u ≡ v)
   one-read = two-writings
 
-  -- `print::write`
+  -- `form_write::write`
   pub one-write : {r s : Written} {u v : List ℕ} → writing r u ≡ writeOf os out → writing s v ≡ writeOf os out → (r ≡ s) × (u ≡ v)
   one-write = two-writings
 
-  -- `look::in_form`
+  -- `book_form::in_form`
   pub one-form : {r s : BookForm} → r ≡ bookFormOf ws → s ≡ bookFormOf ws → r ≡ s
   one-form = same
 
@@ -259,43 +259,43 @@ module _ (ws os text file out : List ℕ) (k line d : ℕ) where
   pub one-open : {r s : Answer} {u v : List ℕ} → outcome r u ≡ openOf ws k → outcome s v ≡ openOf ws k → (r ≡ s) × (u ≡ v)
   one-open = two-outcomes
 
-  -- `judge::judge`
+  -- `book_judge::judge`
   pub one-judgement : {r s : Answer} → r ≡ judgeOf ws os → s ≡ judgeOf ws os → r ≡ s
   one-judgement = same
 
-  -- `teach::teach`
+  -- `book_teach::teach`
   pub one-teaching : {r s : Answer} {u v : List ℕ} → outcome r u ≡ teachOf ws os → outcome s v ≡ teachOf ws os → (r ≡ s) × (u ≡ v)
   one-teaching = two-outcomes
 
-  -- `teach::withdraw`
+  -- `book_teach::withdraw`
   pub one-withdrawal : {r s : Answer} {u v : List ℕ} → outcome r u ≡ withdrawOf ws os → outcome s v ≡ withdrawOf ws os → (r ≡ s) × (u ≡ v)
   one-withdrawal = two-outcomes
 
-  -- `join::join`
+  -- `book_join::join`
   pub one-joining : (vs : List ℕ) {r s : Answer} {u v : List ℕ} → outcome r u ≡ joinOf ws vs → outcome s v ≡ joinOf ws vs → (r ≡ s) × (u ≡ v)
   one-joining vs = two-outcomes
 
-  -- `agree::check`
+  -- `book_check::check`
   pub one-agreement : {r s : Answer} → r ≡ agreeOf ws → s ≡ agreeOf ws → r ≡ s
   one-agreement = same
 
-  -- `store::write`
+  -- `book_file::write`
   pub one-write-file : {r s : Written} {u v : List ℕ} → writing r u ≡ writeFileOf ws out → writing s v ≡ writeFileOf ws out → (r ≡ s) × (u ≡ v)
   one-write-file = two-writings
 
-  -- `store::read`
+  -- `book_file::read`
   pub one-read-file : {r s : Answer} {u v : List ℕ} → outcome r u ≡ readFileOf file ws → outcome s v ≡ readFileOf file ws → (r ≡ s) × (u ≡ v)
   one-read-file = two-outcomes
 
-  -- `sheet::opening`
+  -- `desk_input::opening`
   pub one-opening : {r s : Front} → r ≡ openingOf text → s ≡ openingOf text → r ≡ s
   one-opening = same
 
-  -- `calls::begin`
+  -- `desk_step::begin`
   pub one-begin : {r s : Printed} {u v p q : List ℕ} → stepping r u p ≡ beginOf text ws out → stepping s v q ≡ beginOf text ws out → (r ≡ s) × (u ≡ v) × (p ≡ q)
   one-begin = two-steps
 
-  -- `calls::step`
+  -- `desk_step::step`
   pub one-step : {r s : Printed} {u v p q : List ℕ} → stepping r u p ≡ stepOf text ws out → stepping s v q ≡ stepOf text ws out → (r ≡ s) × (u ≡ v) × (p ≡ q)
   one-step = two-steps
 
@@ -303,7 +303,7 @@ module _ (ws os text file out : List ℕ) (k line d : ℕ) where
   pub one-depth : {r s : Asked} → r ≡ depthOf k → s ≡ depthOf k → r ≡ s
   one-depth = same
 
-  -- `figures::Asked::number`, `Depth::value`, `Depth::of_tops`, `Depth::of_middles` and `sheet::Letter::byte`: n is the number that their contracts name.
+  -- `figures::Asked::number`, `Depth::value`, `Depth::of_tops`, `Depth::of_middles` and `desk_input::Letter::byte`: n is the number that their contracts name.
   pub one-number : {r s n : ℕ} → r ≡ n → s ≡ n → r ≡ s
   one-number = same
 
@@ -315,39 +315,39 @@ module _ (ws os text file out : List ℕ) (k line d : ℕ) where
   pub open-leaves : (openOf ws k .answer .number ≡ done → ⊥) → openOf ws k .words ≡ ws
   open-leaves = open-refusal-leaves ws k
 
-  -- `teach::teach`
+  -- `book_teach::teach`
   pub teach-leaves : (teachOf ws os .answer .number ≡ done → ⊥) → teachOf ws os .words ≡ ws
   teach-leaves = teach-refusal-leaves ws os
 
-  -- `teach::withdraw`
+  -- `book_teach::withdraw`
   pub withdraw-leaves : (withdrawOf ws os .answer .number ≡ done → ⊥) → withdrawOf ws os .words ≡ ws
   withdraw-leaves = withdraw-refusal-leaves ws os
 
-  -- `join::join`
+  -- `book_join::join`
   pub join-leaves : (vs : List ℕ) → (joinOf ws vs .answer .number ≡ done → ⊥) → joinOf ws vs .words ≡ ws
   join-leaves vs = join-refusal-leaves ws vs
 
-  -- `scan::read`
+  -- `form_read::read`
   pub read-leaves : (readOf text out .answer .number ≡ done → ⊥) → (readOf text out .out ≡ out) × (readOf text out .answer .count ≡ 0)
   read-leaves = read-refusal-leaves text out
 
-  -- `print::write`
+  -- `form_write::write`
   pub write-leaves : (writeOf os out .answer .number ≡ done → ⊥) → (writeOf os out .out ≡ out) × (writeOf os out .answer .count ≡ 0)
   write-leaves = print-refusal-leaves os out
 
-  -- `store::write`
+  -- `book_file::write`
   pub write-file-leaves : (writeFileOf ws out .answer .number ≡ done → ⊥) → (writeFileOf ws out .out ≡ out) × (writeFileOf ws out .answer .count ≡ 0)
   write-file-leaves = file-refusal-leaves ws out
 
-  -- `store::read`
+  -- `book_file::read`
   pub read-file-leaves : (readFileOf file ws .answer .number ≡ done → ⊥) → readFileOf file ws .words ≡ ws
   read-file-leaves = restore-refusal-leaves file ws
 
-  -- `cuts::cut_into`
+  -- `order_cuts::cut_into`
   pub cut-leaves : (cutIntoOf os line d out .answer .number ≡ done → ⊥) → (cutIntoOf os line d out .out ≡ out) × (cutIntoOf os line d out .answer .count ≡ 0)
   cut-leaves = cut-refusal-leaves os out line d
 
-  -- `parts::part_into`
+  -- `order_parts::part_into`
   pub part-leaves : (partIntoOf os line k out .answer .written .number ≡ done → ⊥)
       → (partIntoOf os line k out .out ≡ out) × (partIntoOf os line k out .answer .written .count ≡ 0)
   part-leaves = part-refusal-leaves os out line k
@@ -355,7 +355,7 @@ module _ (ws os text file out : List ℕ) (k line d : ℕ) where
 -- A step at the desk prints a refusal's line to the front of the output: the words of the book's slice stay by a fault, as they do by a form that is
 -- refused (`desk-leaves`, proofs/AtTheDesk.antt); a step that prints no line leaves all, and one that does the bytes behind its line.
 module _ (ws text out : List ℕ) where
-  -- `calls::begin`: by a fault the words of the book's slice stay.
+  -- `desk_step::begin`: by a fault the words of the book's slice stay.
   pub begin-leaves : (a : Answer) → openingOf text ≡ Fault a → beginOf text ws out .book ≡ ws
   unfolding openingOf beginOf begunBy if_then_else_
   begin-leaves a = go (ltb (length out) reply-room) (handedIn text)
@@ -370,7 +370,7 @@ module _ (ws text out : List ℕ) where
   pub begin-idle : length out < reply-room → beginOf text ws out ≡ idle ws out
   begin-idle h = sym (begin-short text ws out h)
 
-  -- `calls::step`: so it is then too,
+  -- `desk_step::step`: so it is then too,
   pub step-idle : length out < reply-room → stepOf text ws out ≡ idle ws out
   step-idle h = sym (step-short text ws out h)
 
@@ -378,10 +378,10 @@ module _ (ws text out : List ℕ) where
   pub step-other-idle : reply-room ≤ length out → letterAt text ≡ Other → stepOf text ws out ≡ idle ws out
   step-other-idle h e = sym (step-other text ws out h e)
 
-  -- The bytes of the output behind the line that `calls::begin` gives stay,
+  -- The bytes of the output behind the line that `desk_step::begin` gives stay,
   pub begin-tail : drop (beginOf text ws out .step .count) (beginOf text ws out .out) ≡ drop (beginOf text ws out .step .count) out
   begin-tail = begin-behind text ws out
 
-  -- and those behind the line that `calls::step` gives.
+  -- and those behind the line that `desk_step::step` gives.
   pub step-tail : drop (stepOf text ws out .step .count) (stepOf text ws out .out) ≡ drop (stepOf text ws out .step .count) out
   step-tail = step-behind text ws out

@@ -2,8 +2,8 @@
 -- defines them. Codes are read as decimal. A sound form goes to text and back unchanged; so does a book that agrees with itself, to file and back into
 -- a slice of its own length."
 --
--- García's paper is document 000. Its r, l and p are `IsR`, `IsL` and `IsP` (trees/specs/Paper.antt), said by positions and labels. A tree is in a section if one of its
--- entries has the tree's words (`In`, verdicts/specs/Verdicts.antt). Assumes nothing.
+-- García's paper is document 000. Its r, l and p are `IsR`, `IsL` and `IsP` (order/specs/Paper.antt), said by positions and labels. A tree is in a section if one of its
+-- entries has the tree's words (`In`, book_judging/specs/Verdicts.antt). Assumes nothing.
 use Prim.Native.Nat.{ℕ, suc, _+_, _*_, _-_, _/_, _%_, _≤_, _<_}
 use mathlib.Core.Path.{_≡_, refl, sym, ap, subst, _∙_}
 use mathlib.Core.Bool.{false}
@@ -15,13 +15,13 @@ use Rattle.figures.specs.Limits.{least-code, greatest-code, most-nodes, used-wo
 use Rattle.figures.specs.Numbers.{done, no-form, top-unknown, low-unknown}
 use Rattle.figures.specs.Answers.{answered, wrote, refusedAt}
 use Rattle.figures.specs.declared.Answer.{Answer}
-use Rattle.trees.specs.Trees.{Tree, node, Good, subtrees, below}
-use Rattle.trees.specs.Fits.{IsOrder}
-use Rattle.trees.specs.Paper.{StrictlyBelow, IsR}
-use Rattle.trees.specs.Reading.{found}
-use Rattle.trees.specs.Answers.{treeOfLine, writing, write}
-use Rattle.trees.proofs.Cutting.{subtree-good}
-use Rattle.trees.proofs.Fitting.{order-read}
+use Rattle.order.specs.Trees.{Tree, node, Good, subtrees, below}
+use Rattle.order.specs.Fits.{IsOrder}
+use Rattle.order.specs.Paper.{StrictlyBelow, IsR}
+use Rattle.order.specs.Reading.{found}
+use Rattle.order.specs.Answers.{treeOfLine, writing, write}
+use Rattle.order.proofs.Cutting.{subtree-good}
+use Rattle.order.proofs.Fitting.{order-read}
 use Rattle.form.specs.Text.{Line, digit-0, space, line-feed, code-size, linesOf, levelText, codeText, lineText, spell, textOf}
 use Rattle.form.specs.Reading.{isDigit, speltOf, form, readLines, children, wordsOfLines, readOf}
 use Rattle.form.specs.Faults.{ChildrenBehind, greatest-level}
@@ -38,11 +38,11 @@ use Rattle.form.proofs.Trips.{order-text, order-write, form-write, written-read
 use Rattle.book.specs.Book.{Book}
 use Rattle.book.specs.Sound.{IsBook}
 use Rattle.book.specs.Opening.{outcome}
-use Rattle.verdicts.specs.Judging.{judgeOf}
-use Rattle.verdicts.specs.Verdicts.{In, PassesBy}
-use Rattle.verdicts.proofs.Answers.{answered-passes, passes-answered}
-use Rattle.effects.specs.Conditions.{_exactly-when_}
-use Rattle.files.specs.Files.{front-bytes, fileOf, writeFileOf, readFileOf}
+use Rattle.book_judging.specs.Judging.{judgeOf}
+use Rattle.book_judging.specs.Verdicts.{In, PassesBy}
+use Rattle.book_judging.proofs.Answers.{answered-passes, passes-answered}
+use Rattle.book_teaching.specs.Conditions.{_exactly-when_}
+use Rattle.book_filing.specs.Files.{front-bytes, fileOf, writeFileOf, readFileOf}
 use Rattle.promises.specs.Agreement.{Agrees}
 use Rattle.promises.specs.Forms.{LevelInTens, InTens, LineStands, ComesBack, LinesBelow, PartKnown, NoLineUnknown, LineWanted, Told}
 use Rattle.promises.proofs.Laws.FormLines.{level-tens, tens-level, tens-most, lines-below, below-by-lines}

@@ -17,19 +17,19 @@ use Rattle.figures.specs.Numbers.{done, no-room, too-many, not-taught}
 use Rattle.figures.specs.Answers.{answered}
 use Rattle.figures.specs.declared.Answer.{Answer}
 use Rattle.section.specs.Entries.{countOf}
-use Rattle.trees.specs.Trees.{Tree}
-use Rattle.trees.specs.Fits.{IsOrder}
-use Rattle.trees.specs.Answers.{write}
+use Rattle.order.specs.Trees.{Tree}
+use Rattle.order.specs.Fits.{IsOrder}
+use Rattle.order.specs.Answers.{write}
 use Rattle.book.specs.Book.{Book, used}
 use Rattle.book.specs.Sound.{IsBook}
 use Rattle.book.specs.Opening.{outcome, openOf}
-use Rattle.verdicts.specs.Judging.{judgeOf}
-use Rattle.effects.specs.Calls.{teachOf, withdrawOf}
-use Rattle.effects.specs.Conditions.{_exactly-when_}
-use Rattle.sums.specs.Joining.{CountsAdded, joinOf}
-use Rattle.sums.proofs.Joins.{either-way, regrouped, regrouped-back, join-empty}
+use Rattle.book_judging.specs.Judging.{judgeOf}
+use Rattle.book_teaching.specs.Calls.{teachOf, withdrawOf}
+use Rattle.book_teaching.specs.Conditions.{_exactly-when_}
+use Rattle.book_joining.specs.Joining.{CountsAdded, joinOf}
+use Rattle.book_joining.proofs.Joins.{either-way, regrouped, regrouped-back, join-empty}
 use Rattle.book.specs.Checking.{agreeOf}
-use Rattle.files.specs.Files.{fileOf, writeFileOf, readFileOf}
+use Rattle.book_filing.specs.Files.{fileOf, writeFileOf, readFileOf}
 use Rattle.promises.specs.Remaining.{Call, afterBy, after, ordersIn, remainingBy, remaining, timesOf, SameOrders, taughtAll, NoneRefused, booked, ExactlyThese, MadeOf}
 use Rattle.promises.specs.Starts.{Start, opening, reading, startedBy, taughtFirst, startK}
 use Rattle.promises.specs.Agreement.{Agrees}
@@ -81,11 +81,11 @@ module _ (start : Start) (slice : List ℕ) (started : startedBy start slice .an
         → NoneRefused qs (openOf other k .words) × (taughtAll qs (openOf other k .words) ≡ book)
     in-every-word = taught-alone slice k (taughtFirst start) (startedBy start slice .words) (begins start slice started) cs
 
-    -- It "agrees with itself": `agree::check` answers 0.
+    -- It "agrees with itself": `book_check::check` answers 0.
     pub agrees-with-itself : agreeOf book ≡ answered done
     agrees-with-itself = grown-agrees slice k (taughtFirst start) (startedBy start slice .words) (begins start slice started) cs
 
-    -- Demands 2 and 3 together: "A new order made only of parts the book has seen passes" and no other does. `judge::judge` answers 0 exactly if the
+    -- Demands 2 and 3 together: "A new order made only of parts the book has seen passes" and no other does. `book_judge::judge` answers 0 exactly if the
     -- order's r is the r of an order that remains, each of its l an l of one, and each of its p a p of one.
     pub passes-by-remaining : (os : List ℕ) (t : Tree) → IsOrder os t → (judgeOf book os .number ≡ done) exactly-when MadeOf k orders t
     passes-by-remaining os t = passes-made k orders book os t parts-and-counts
@@ -135,7 +135,7 @@ module _ (start : Start) (slice : List ℕ) (started : startedBy start slice .an
         ((length (ordersIn (c .T) ++ orders) ≤ greatest-count) × (used (booked k (ordersIn (c .T) ++ orders)) ≤ length slice))
     joined-exactly = joining-0 slice k (taughtFirst start) (startedBy start slice .words) (begins start slice started) cs
 
-    -- The book can be stored: `store::write` writes its file, or answers 11 where the output is too short.
+    -- The book can be stored: `book_file::write` writes its file, or answers 11 where the output is too short.
     pub can-be-stored : (out : List ℕ) → writeFileOf book out ≡ write (fileOf (booked k orders)) out
     can-be-stored = stores slice k (taughtFirst start) (startedBy start slice .words) (begins start slice started) cs
 

@@ -11,13 +11,13 @@ use Rattle.words.specs.Base.{_∈_, if_then_else_}
 use Rattle.figures.specs.Limits.{most-input}
 use Rattle.figures.specs.Numbers.{too-large}
 use Rattle.figures.specs.Answers.{answered}
-use Rattle.effects.specs.Conditions.{_exactly-when_}
+use Rattle.book_teaching.specs.Conditions.{_exactly-when_}
 use Rattle.form.specs.Text.{line-feed}
-use Rattle.sheet.specs.Sheets.{letterByte, FormCall, Sheet, sheetOf, FirstLine, otherwise, asks, firstLine, faulty, handed, handedBy, byFirst, handedIn}
-use Rattle.sheet.specs.Joined.{joinedCalls, sheetBytes, StartsLine, nothing-before, LetterLine, Plain, Parts, part}
-use Rattle.sheet.specs.declared.Letter.{Letter}
-use Rattle.sheet.proofs.Meaning.{sheet-is, sheet-only, parts-first, parts-plain, joined-both, joined-more, parts-both, parts-start}
-use Rattle.sheet.proofs.Reasons.{first-is, first-only}
+use Rattle.desk_input.specs.Sheets.{letterByte, FormCall, Sheet, sheetOf, FirstLine, otherwise, asks, firstLine, faulty, handed, handedBy, byFirst, handedIn}
+use Rattle.desk_input.specs.Joined.{joinedCalls, sheetBytes, StartsLine, nothing-before, LetterLine, Plain, Parts, part}
+use Rattle.desk_input.specs.declared.Letter.{Letter}
+use Rattle.desk_input.proofs.Meaning.{sheet-is, sheet-only, parts-first, parts-plain, joined-both, joined-more, parts-both, parts-start}
+use Rattle.desk_input.proofs.Reasons.{first-is, first-only}
 use Rattle.promises.specs.DeskInput.{InputIs, LetterBehind, BeginsForm}
 
 -- ---- what is handed in

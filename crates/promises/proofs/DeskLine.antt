@@ -8,9 +8,9 @@ use lib.ListN.{length, drop, getD}
 use Rattle.figures.specs.Limits.{used-word, desk-book-words}
 use Rattle.figures.specs.Numbers.{done, no-form}
 use Rattle.figures.specs.declared.Answer.{Answer}
-use Rattle.trees.specs.Trees.{Tree, words}
-use Rattle.trees.specs.Fits.{IsOrder}
-use Rattle.trees.proofs.Fitting.{read-order}
+use Rattle.order.specs.Trees.{Tree, words}
+use Rattle.order.specs.Fits.{IsOrder}
+use Rattle.order.proofs.Fitting.{read-order}
 use Rattle.form.specs.Text.{Line, spell, textOf}
 use Rattle.form.specs.Reading.{Form, fault, form, byForm, formOf, wordsOfLines}
 use Rattle.form.specs.Faults.{FirstFault}
@@ -19,21 +19,21 @@ use Rattle.form.proofs.Trips.{form-order}
 use Rattle.book.specs.Book.{Book}
 use Rattle.book.specs.Sound.{IsBook}
 use Rattle.book.specs.Opening.{Outcome, outcome, openOf}
-use Rattle.verdicts.specs.Judging.{judgeOf}
-use Rattle.verdicts.proofs.Answers.{judged-is, judged-only}
-use Rattle.effects.specs.Calls.{teachOf, withdrawOf}
-use Rattle.effects.proofs.Whys.{teach-why, teach-only, withdraw-why, withdraw-only}
-use Rattle.reply.specs.Replies.{most-digits, decimal, field, reply, reply-room}
-use Rattle.reply.proofs.Meaning.{decimal-value, decimal-digits, decimal-bare}
-use Rattle.sheet.specs.Sheets.{letter-K, letterByte, FormCall, handed, handedIn}
-use Rattle.sheet.specs.declared.Letter.{Letter}
-use Rattle.sheet.specs.declared.Letter.the-variants.{Teach, Withdraw, Judge}
-use Rattle.ask.specs.Asking.{askOf, callOf}
-use Rattle.calls.specs.Desk.{lineFor, linesFor, deskOf}
-use Rattle.calls.specs.Lines.{feeds}
-use Rattle.calls.specs.Steps.{Run, stepOf}
-use Rattle.calls.proofs.Lines.{feeds-append, line-feeds, calls-feeds, letter-no-feed}
-use Rattle.calls.proofs.Runs.{Finished, run-goes-on, run-prints, run-from}
+use Rattle.book_judging.specs.Judging.{judgeOf}
+use Rattle.book_judging.proofs.Answers.{judged-is, judged-only}
+use Rattle.book_teaching.specs.Calls.{teachOf, withdrawOf}
+use Rattle.book_teaching.proofs.Whys.{teach-why, teach-only, withdraw-why, withdraw-only}
+use Rattle.desk_line.specs.Replies.{most-digits, decimal, field, reply, reply-room}
+use Rattle.desk_line.proofs.Meaning.{decimal-value, decimal-digits, decimal-bare}
+use Rattle.desk_input.specs.Sheets.{letter-K, letterByte, FormCall, handed, handedIn}
+use Rattle.desk_input.specs.declared.Letter.{Letter}
+use Rattle.desk_input.specs.declared.Letter.the-variants.{Teach, Withdraw, Judge}
+use Rattle.desk_call.specs.Asking.{askOf, callOf}
+use Rattle.desk_step.specs.Desk.{lineFor, linesFor, deskOf}
+use Rattle.desk_step.specs.Lines.{feeds}
+use Rattle.desk_step.specs.Steps.{Run, stepOf}
+use Rattle.desk_step.proofs.Lines.{feeds-append, line-feeds, calls-feeds, letter-no-feed}
+use Rattle.desk_step.proofs.Runs.{Finished, run-goes-on, run-prints, run-from}
 use Rattle.promises.specs.AtTheDesk.{WhyAnswered, no-text, text-at-fault, teaches, withdraws, judges, InDecimal, Says, PrintedFor}
 use Rattle.promises.specs.Forms.{LineOfText, ComesBack, Told}
 use Rattle.promises.proofs.Laws.FormLines.{spell-feeds}
@@ -209,7 +209,7 @@ desk-points text t e o book b is = subst (Told b t) (sym (desk-judges text t e o
 
 -- ---- the steps of the library
 
--- A run of `calls::begin` and `calls::step` on an input, from the opening on while bytes are left, has printed what the desk prints once none are left;
+-- A run of `desk_step::begin` and `desk_step::step` on an input, from the opening on while bytes are left, has printed what the desk prints once none are left;
 pub steps-print : {input : List ℕ} {n : ℕ} {book out printed : List ℕ} → Run input n book out printed → length input ≤ n → printed ≡ deskOf input
 steps-print = run-prints
 

@@ -16,18 +16,18 @@ use Rattle.section.specs.Near.{nowhere, nearOf, nearIn}
 use Rattle.section.specs.declared.Neighbours.{Neighbours}
 use Rattle.section.proofs.Counts.{has-entry}
 use Rattle.section.proofs.Near.{near-is, near-there}
-use Rattle.trees.specs.Trees.{Tree, words}
-use Rattle.trees.specs.Parts.{top, middle}
-use Rattle.trees.proofs.Paper.{r-only, top-is-r}
+use Rattle.order.specs.Trees.{Tree, words}
+use Rattle.order.specs.Parts.{top, middle}
+use Rattle.order.proofs.Paper.{r-only, top-is-r}
 use Rattle.book.specs.declared.BookForm.the-variants.{Refused}
 use Rattle.book.proofs.Sound.{why-only}
-use Rattle.verdicts.specs.Judging.{judgeOf}
-use Rattle.verdicts.specs.Expecting.{expectedOf, judgementOf}
-use Rattle.verdicts.specs.declared.Judgement.{Judgement}
-use Rattle.verdicts.specs.Verdicts.{In, Judged, no-book, no-order, judged}
-use Rattle.verdicts.proofs.Judgements.{none-by-cause, none-unheld}
-use Rattle.verdicts.proofs.Answers.{judged-is, answered-top, answered-low, answered-middle}
-use Rattle.effects.specs.Conditions.{_exactly-when_}
+use Rattle.book_judging.specs.Judging.{judgeOf}
+use Rattle.book_judging.specs.Expecting.{expectedOf, judgementOf}
+use Rattle.book_judging.specs.declared.Judgement.{Judgement}
+use Rattle.book_judging.specs.Verdicts.{In, Judged, no-book, no-order, judged}
+use Rattle.book_judging.proofs.Judgements.{none-by-cause, none-unheld}
+use Rattle.book_judging.proofs.Answers.{judged-is, answered-top, answered-low, answered-middle}
+use Rattle.book_teaching.specs.Conditions.{_exactly-when_}
 use Rattle.promises.specs.Expected.{IsNear, Expected, of-top, of-low, of-middle, of-none}
 use Rattle.promises.proofs.Laws.Nearness.{near-of, near-once, tops-ascend, lows-ascend, middles-ascend, middle-is-r}
 use Rattle.promises.proofs.Laws.Nearness.{none-handed, top-handed, low-handed, middle-handed, Reported, for-top, for-low, for-middle, for-none, reported}
@@ -68,7 +68,7 @@ found-exactly key at es s r =
 -- ---- what judging hands on
 
 module _ (ws os : List ℕ) where
-  -- "Two outcomes allowed by one promise are shown equal": `judge::judge`, with number, line and neighbours.
+  -- "Two outcomes allowed by one promise are shown equal": `book_judge::judge`, with number, line and neighbours.
   pub one-judged : {r s : Judgement} → r ≡ judgementOf ws os → s ≡ judgementOf ws os → r ≡ s
   one-judged e f = e ∙ sym f
 

@@ -15,21 +15,21 @@ use Rattle.figures.specs.Limits.{greatest-count, live-word}
 use Rattle.figures.specs.Numbers.{done, low-unknown}
 use Rattle.figures.specs.Answers.{answered}
 use Rattle.figures.specs.declared.Answer.{Answer}
-use Rattle.trees.specs.Trees.{Tree, words}
-use Rattle.trees.specs.Fits.{IsOrder}
-use Rattle.trees.proofs.Fitting.{read-order}
+use Rattle.order.specs.Trees.{Tree, words}
+use Rattle.order.specs.Fits.{IsOrder}
+use Rattle.order.proofs.Fitting.{read-order}
 use Rattle.book.specs.Book.{Book, used, live, lay}
 use Rattle.book.specs.Sound.{IsBook}
 use Rattle.book.specs.Decoding.{bookIn}
 use Rattle.book.specs.Opening.{Outcome, outcome, openOf}
 use Rattle.book.proofs.Sound.{decode-book, book-only, head-says}
-use Rattle.verdicts.specs.Judging.{judgeOf}
-use Rattle.verdicts.specs.Verdicts.{PassesBy, Judged}
-use Rattle.verdicts.proofs.Answers.{judged-only}
-use Rattle.effects.specs.Calls.{teachOf}
-use Rattle.effects.specs.Conditions.{_exactly-when_}
-use Rattle.effects.specs.Whys.{WhyTaught}
-use Rattle.effects.proofs.Whys.{teach-only}
+use Rattle.book_judging.specs.Judging.{judgeOf}
+use Rattle.book_judging.specs.Verdicts.{PassesBy, Judged}
+use Rattle.book_judging.proofs.Answers.{judged-only}
+use Rattle.book_teaching.specs.Calls.{teachOf}
+use Rattle.book_teaching.specs.Conditions.{_exactly-when_}
+use Rattle.book_teaching.specs.Whys.{WhyTaught}
+use Rattle.book_teaching.proofs.Whys.{teach-only}
 use Rattle.promises.specs.Heard.{single, pair}
 use Rattle.promises.specs.Remaining.{Call, teach, withdraw, join, timesOf, outcomeOf, afterBy, ordersIn, remainBy, remainingBy, booked, ExactlyThese}
 use Rattle.promises.specs.Starts.{Start, opening, startedBy, taughtFirst, startK}

@@ -22,16 +22,16 @@ use Rattle.words.specs.Base.{if_then_else_}
 use Rattle.figures.specs.declared.Answer.{Answer}
 use Rattle.figures.specs.declared.Written.{Written}
 use Rattle.section.specs.Near.{near}
-use Rattle.trees.specs.Answers.{Writing, subtreeOf}
+use Rattle.order.specs.Answers.{Writing, subtreeOf}
 use Rattle.form.specs.Reading.{readOf}
 use Rattle.form.specs.Writing.{writeOf}
 use Rattle.book.specs.Opening.{Outcome, openOf}
-use Rattle.verdicts.specs.Expecting.{judgementOf}
-use Rattle.verdicts.specs.declared.Judgement.{Judgement}
-use Rattle.effects.specs.Calls.{teachOf, withdrawOf}
-use Rattle.sums.specs.Joining.{joinOf}
+use Rattle.book_judging.specs.Expecting.{judgementOf}
+use Rattle.book_judging.specs.declared.Judgement.{Judgement}
+use Rattle.book_teaching.specs.Calls.{teachOf, withdrawOf}
+use Rattle.book_joining.specs.Joining.{joinOf}
 use Rattle.book.specs.Checking.{agreeOf}
-use Rattle.files.specs.Files.{writeFileOf, readFileOf}
+use Rattle.book_filing.specs.Files.{writeFileOf, readFileOf}
 use Rattle.ofb.specs.Interface.{toldOf, toldWrittenOf, toldJudgedOf, handed, outcomeInC, writingInC, partInC}
 use Rattle.ofb.specs.declared.OfbAnswer.{OfbAnswer}
 use Rattle.ofb.specs.declared.OfbJudged.{OfbJudged}

@@ -8,24 +8,24 @@ use contract.Lifetimes.{Within}
 use denote.Builtin
 use denote.Signature.{Slot, plain}
 use Rattle.figures.proofs.depths.Depth as depth
-use Rattle.order.proofs.check as order-check
-use Rattle.cuts.proofs.subtree
-use Rattle.cuts.proofs.cut_into as cut-into
-use Rattle.parts.proofs.part_into as part-into
-use Rattle.scan.proofs.read
-use Rattle.print.proofs.write
-use Rattle.look.proofs.in_form as in-form
+use Rattle.order_check.proofs.check as order-check
+use Rattle.order_cuts.proofs.subtree
+use Rattle.order_cuts.proofs.cut_into as cut-into
+use Rattle.order_parts.proofs.part_into as part-into
+use Rattle.form_read.proofs.read
+use Rattle.form_write.proofs.write
+use Rattle.book_form.proofs.in_form as in-form
 use Rattle.book.proofs.open as book-open
-use Rattle.judge.proofs.judge
-use Rattle.teach.proofs.teach
-use Rattle.teach.proofs.withdraw
-use Rattle.join.proofs.join
-use Rattle.agree.proofs.check as agree-check
-use Rattle.store.proofs.write as store-write
-use Rattle.store.proofs.read as store-read
-use Rattle.sheet.proofs.opening
-use Rattle.calls.proofs.begin as calls-begin
-use Rattle.calls.proofs.step as calls-step
+use Rattle.book_judge.proofs.judge
+use Rattle.book_teach.proofs.teach
+use Rattle.book_teach.proofs.withdraw
+use Rattle.book_join.proofs.join
+use Rattle.book_check.proofs.check as agree-check
+use Rattle.book_file.proofs.write as store-write
+use Rattle.book_file.proofs.read as store-read
+use Rattle.desk_input.proofs.opening
+use Rattle.desk_step.proofs.begin as calls-begin
+use Rattle.desk_step.proofs.step as calls-step
 use Rattle.ofb.proofs.ofb_open as ofb-open
 use Rattle.ofb.proofs.ofb_teach as ofb-teach
 use Rattle.ofb.proofs.ofb_withdraw as ofb-withdraw
@@ -64,31 +64,31 @@ number = plain (λ κs. Builtin.usize)
 
 -- ---- functions for callers outside the repository
 
--- `order::check`
+-- `order_check::check`
 pub order-check-lent : order-check.signature .params ≡ words-read 0 tt ∷ []
 order-check-lent = refl
 
--- `cuts::subtree`
+-- `order_cuts::subtree`
 pub subtree-lent : subtree.signature .params ≡ words-read 0 tt ∷ number ∷ []
 subtree-lent = refl
 
--- `cuts::cut_into`
+-- `order_cuts::cut_into`
 pub cut-into-lent : cut-into.signature .params ≡ words-read 0 tt ∷ number ∷ number ∷ words-written 1 tt ∷ []
 cut-into-lent = refl
 
--- `parts::part_into`
+-- `order_parts::part_into`
 pub part-into-lent : part-into.signature .params ≡ words-read 0 tt ∷ number ∷ plain (λ κs. depth.the-row) ∷ words-written 1 tt ∷ []
 part-into-lent = refl
 
--- `scan::read`
+-- `form_read::read`
 pub read-lent : read.signature .params ≡ bytes-read 0 tt ∷ words-written 1 tt ∷ []
 read-lent = refl
 
--- `print::write`
+-- `form_write::write`
 pub write-lent : write.signature .params ≡ words-read 0 tt ∷ bytes-written 1 tt ∷ []
 write-lent = refl
 
--- `look::in_form`
+-- `book_form::in_form`
 pub in-form-lent : in-form.signature .params ≡ words-read 0 tt ∷ []
 in-form-lent = refl
 
@@ -96,43 +96,43 @@ in-form-lent = refl
 pub book-open-lent : book-open.signature .params ≡ words-written 0 tt ∷ word ∷ []
 book-open-lent = refl
 
--- `judge::judge`
+-- `book_judge::judge`
 pub judge-lent : judge.signature .params ≡ words-read 0 tt ∷ words-read 1 tt ∷ []
 judge-lent = refl
 
--- `teach::teach`
+-- `book_teach::teach`
 pub teach-lent : teach.signature .params ≡ words-written 0 tt ∷ words-read 1 tt ∷ []
 teach-lent = refl
 
--- `teach::withdraw`
+-- `book_teach::withdraw`
 pub withdraw-lent : withdraw.signature .params ≡ words-written 0 tt ∷ words-read 1 tt ∷ []
 withdraw-lent = refl
 
--- `join::join`: the second slice is only read, so that it stays as it came in every word
+-- `book_join::join`: the second slice is only read, so that it stays as it came in every word
 pub join-lent : join.signature .params ≡ words-written 0 tt ∷ words-read 1 tt ∷ []
 join-lent = refl
 
--- `agree::check`
+-- `book_check::check`
 pub agree-check-lent : agree-check.signature .params ≡ words-read 0 tt ∷ []
 agree-check-lent = refl
 
--- `store::write`
+-- `book_file::write`
 pub store-write-lent : store-write.signature .params ≡ words-read 0 tt ∷ bytes-written 1 tt ∷ []
 store-write-lent = refl
 
--- `store::read`
+-- `book_file::read`
 pub store-read-lent : store-read.signature .params ≡ bytes-read 0 tt ∷ words-written 1 tt ∷ []
 store-read-lent = refl
 
--- `sheet::opening`
+-- `desk_input::opening`
 pub opening-lent : opening.signature .params ≡ bytes-read 0 tt ∷ []
 opening-lent = refl
 
--- `calls::begin`
+-- `desk_step::begin`
 pub calls-begin-lent : calls-begin.signature .params ≡ bytes-read 0 tt ∷ words-written 1 tt ∷ bytes-written 2 tt ∷ []
 calls-begin-lent = refl
 
--- `calls::step`
+-- `desk_step::step`
 pub calls-step-lent : calls-step.signature .params ≡ bytes-read 0 tt ∷ words-written 1 tt ∷ bytes-written 2 tt ∷ []
 calls-step-lent = refl
 

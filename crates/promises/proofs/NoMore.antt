@@ -3,8 +3,8 @@
 -- taught orders; and when k-2 is at least the depth of every taught order, only taught orders pass. All for books that agree with themselves. In addition,
 -- withdraw from a book grown from empty never answers 9."
 --
--- It is document 000's Theorem IV.1, a) to e) (learnt/proofs/Least.antt), of the book that judging goes by. Three sets, their forms and the taught orders are those of
--- specs/NoMore.antt; a book that agrees with itself is one that `agree::check` answers by 0 (`check-rows`, Demand1.antt). Assumes nothing.
+-- It is document 000's Theorem IV.1, a) to e) (order_learning/proofs/Least.antt), of the book that judging goes by. Three sets, their forms and the taught orders are those of
+-- specs/NoMore.antt; a book that agrees with itself is one that `book_check::check` answers by 0 (`check-rows`, Demand1.antt). Assumes nothing.
 use Prim.Native.Nat.{ℕ, suc, _-_, _≤_}
 use mathlib.Core.Path.{_≡_, sym, subst}
 use mathlib.Core.List.{List, [], _∷_}
@@ -12,22 +12,22 @@ use native.Mathlib.Omega.{arith}
 use Rattle.words.specs.Base.{_∈_}
 use Rattle.figures.specs.Numbers.{done, not-agreeing}
 use Rattle.figures.specs.Answers.{answered}
-use Rattle.trees.specs.Trees.{Tree, words, depth}
-use Rattle.trees.specs.Fits.{IsOrder}
-use Rattle.trees.proofs.Causes.{cause-small}
-use Rattle.learnt.specs.Learning.{Learnt}
-use Rattle.learnt.proofs.Least.{includes, least, only-these, fewer-deeper}
+use Rattle.order.specs.Trees.{Tree, words, depth}
+use Rattle.order.specs.Fits.{IsOrder}
+use Rattle.order.proofs.Causes.{cause-small}
+use Rattle.order_learning.specs.Learning.{Learnt}
+use Rattle.order_learning.proofs.Least.{includes, least, only-these, fewer-deeper}
 use Rattle.book.specs.Book.{Book}
 use Rattle.book.specs.Sound.{IsBook}
 use Rattle.book.proofs.Sound.{refused-4-5}
 use Rattle.book.proofs.Openings.{one-number}
-use Rattle.verdicts.specs.Judging.{judgeOf}
-use Rattle.effects.specs.Calls.{teachOf, withdrawOf}
-use Rattle.effects.specs.Conditions.{_exactly-when_}
-use Rattle.effects.specs.Whys.{WhyWithdrawn, withdraw-no-book, withdraw-no-order, no-entry, part-missing, book-withdrawn}
-use Rattle.effects.proofs.Sequences.{agreeing-no-9}
-use Rattle.effects.proofs.Whys.{withdraw-why}
-use Rattle.sums.specs.Joining.{joinOf}
+use Rattle.book_judging.specs.Judging.{judgeOf}
+use Rattle.book_teaching.specs.Calls.{teachOf, withdrawOf}
+use Rattle.book_teaching.specs.Conditions.{_exactly-when_}
+use Rattle.book_teaching.specs.Whys.{WhyWithdrawn, withdraw-no-book, withdraw-no-order, no-entry, part-missing, book-withdrawn}
+use Rattle.book_teaching.proofs.Sequences.{agreeing-no-9}
+use Rattle.book_teaching.proofs.Whys.{withdraw-why}
+use Rattle.book_joining.specs.Joining.{joinOf}
 use Rattle.promises.specs.Remaining.{Call, after, remaining, taughtAll, booked, ExactlyThese}
 use Rattle.promises.specs.Starts.{Start, startedBy, taughtFirst, startK}
 use Rattle.promises.specs.Agreement.{Agrees}

@@ -13,8 +13,8 @@ use Rattle.figures.specs.Limits.{greatest-depth, least-k}
 use Rattle.section.specs.Entries.{Entry, has, countsFor, countOf, total, Sorted, lower}
 use Rattle.section.proofs.Counts.{count-lower, total-lower, has-count, has-entry, entry-has, lacks-counts}
 use Rattle.section.proofs.Sorting.{sorted-lower}
-use Rattle.trees.specs.Trees.{Tree, words}
-use Rattle.trees.specs.Fits.{Fits}
+use Rattle.order.specs.Trees.{Tree, words}
+use Rattle.order.specs.Fits.{Fits}
 use Rattle.book.specs.Book.{Book, sectionOf, live, lay}
 use Rattle.book.specs.Sound.{SoundBook}
 use Rattle.book.specs.declared.Section.{Section}

@@ -12,7 +12,7 @@ use Rattle.figures.specs.Numbers.{done}
 use Rattle.figures.specs.Answers.{answered}
 use Rattle.section.specs.Entries.{Entry, countsFor, countOf}
 use Rattle.book.specs.Opening.{Outcome}
-use Rattle.effects.specs.Calls.{teachOf}
+use Rattle.book_teaching.specs.Calls.{teachOf}
 use Rattle.promises.specs.Remaining.{Call, outcomeOf, afterBy, after, ordersIn, without, remainBy, remainingBy, remaining, timesOf, SameOrders, taughtAll, NoneRefused}
 use Rattle.promises.proofs.Laws.Orders.{times-without}
 

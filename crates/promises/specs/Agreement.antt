@@ -3,8 +3,8 @@
 use Prim.Native.Nat.{ℕ, _+_, _-_}
 use mathlib.Core.List.{List, [], _∷_}
 use Rattle.section.specs.Entries.{Entry, countOf}
-use Rattle.trees.specs.Trees.{Tree, words}
-use Rattle.trees.specs.Paper.{IsR, IsL, IsP}
+use Rattle.order.specs.Trees.{Tree, words}
+use Rattle.order.specs.Paper.{IsR, IsL, IsP}
 use Rattle.book.specs.Book.{Book}
 use Rattle.promises.specs.Remaining.{HasPart}
 

@@ -7,20 +7,20 @@ use mathlib.Core.List.{List, [], _∷_, _++_}
 use lib.ListN.{getD}
 use Rattle.figures.specs.Limits.{used-word}
 use Rattle.figures.specs.Numbers.{done, too-large, no-room, not-taught, no-form, top-unknown, low-unknown, middle-unknown}
-use Rattle.trees.specs.Trees.{Tree, words}
-use Rattle.trees.specs.Fits.{IsOrder}
+use Rattle.order.specs.Trees.{Tree, words}
+use Rattle.order.specs.Fits.{IsOrder}
 use Rattle.form.specs.Text.{space, line-feed, textOf}
 use Rattle.form.specs.Reading.{byForm, formOf, wordsOfLines}
 use Rattle.form.specs.Faults.{FirstFault}
 use Rattle.book.specs.Opening.{Outcome, outcome}
-use Rattle.verdicts.specs.Verdicts.{Judged}
-use Rattle.effects.specs.Whys.{WhyTaught, WhyWithdrawn}
-use Rattle.reply.specs.Meaning.{allDigits, noLeadingZero, valueOf}
-use Rattle.sheet.specs.Sheets.{letterByte, FormCall}
-use Rattle.sheet.specs.declared.Letter.{Letter}
-use Rattle.sheet.specs.declared.Letter.the-variants.{Teach, Withdraw, Judge}
-use Rattle.ask.specs.Asking.{callOf}
-use Rattle.calls.specs.Lines.{feeds}
+use Rattle.book_judging.specs.Verdicts.{Judged}
+use Rattle.book_teaching.specs.Whys.{WhyTaught, WhyWithdrawn}
+use Rattle.desk_line.specs.Meaning.{allDigits, noLeadingZero, valueOf}
+use Rattle.desk_input.specs.Sheets.{letterByte, FormCall}
+use Rattle.desk_input.specs.declared.Letter.{Letter}
+use Rattle.desk_input.specs.declared.Letter.the-variants.{Teach, Withdraw, Judge}
+use Rattle.desk_call.specs.Asking.{callOf}
+use Rattle.desk_step.specs.Lines.{feeds}
 use Rattle.promises.specs.Remaining.{Call, teach, withdraw}
 
 -- ---- the calls that forms make

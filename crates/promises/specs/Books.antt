@@ -5,8 +5,8 @@ use mathlib.Core.Path.{_≡_}
 use mathlib.Core.List.{List, [], _∷_}
 use lib.ListN.{length, take, drop}
 use Rattle.section.specs.Entries.{Entry, sectionWords, countOf}
-use Rattle.trees.specs.Trees.{Tree, words}
-use Rattle.trees.specs.Paper.{IsR, IsL, IsP}
+use Rattle.order.specs.Trees.{Tree, words}
+use Rattle.order.specs.Paper.{IsR, IsL, IsP}
 use Rattle.book.specs.Book.{Book, live}
 
 -- "compared word by word from the first": the first word in which two differ is less in the lower one, or the lower one ends there.

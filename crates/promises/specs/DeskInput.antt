@@ -6,9 +6,9 @@ use mathlib.Core.List.{List, [], _∷_, _++_}
 use lib.ListN.{length}
 use Rattle.figures.specs.Limits.{least-k, greatest-k, most-input}
 use Rattle.form.specs.Text.{digit-0, space, line-feed}
-use Rattle.sheet.specs.Sheets.{letter-K, FormCall}
-use Rattle.sheet.specs.Joined.{joinedCalls, LetterLine, Parts}
-use Rattle.sheet.specs.declared.Letter.{Letter}
+use Rattle.desk_input.specs.Sheets.{letter-K, FormCall}
+use Rattle.desk_input.specs.Joined.{joinedCalls, LetterLine, Parts}
+use Rattle.desk_input.specs.declared.Letter.{Letter}
 
 -- The input is line 1 with that k, and these forms, each below its letter.
 pub record InputIs (input : List ℕ) (k : ℕ) (cs : List FormCall) : Type 0 where

@@ -11,9 +11,9 @@ use Rattle.figures.specs.declared.Answer.{Answer}
 use Rattle.section.specs.Entries.{Entry}
 use Rattle.section.specs.Near.{nowhere}
 use Rattle.section.specs.declared.Neighbours.{Neighbours}
-use Rattle.trees.specs.Trees.{Tree, words}
-use Rattle.trees.specs.Paper.{IsR}
-use Rattle.verdicts.specs.Verdicts.{TopUnknown, LowUnknown, MiddleUnknown}
+use Rattle.order.specs.Trees.{Tree, words}
+use Rattle.order.specs.Paper.{IsR}
+use Rattle.book_judging.specs.Verdicts.{TopUnknown, LowUnknown, MiddleUnknown}
 use Rattle.promises.specs.Remaining.{HowMany}
 
 -- Some entry of the section has the key.

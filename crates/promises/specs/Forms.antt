@@ -7,15 +7,15 @@ use lib.ListN.{length, getD}
 use Rattle.words.specs.Base.{_∈_}
 use Rattle.figures.specs.Numbers.{done, top-unknown, low-unknown, middle-unknown}
 use Rattle.figures.specs.declared.Answer.{Answer}
-use Rattle.trees.specs.Trees.{Tree, words, depth, subtrees}
-use Rattle.trees.specs.Reading.{found}
-use Rattle.trees.specs.Answers.{treeOfLine}
-use Rattle.trees.specs.Paper.{StrictlyBelow, IsR}
+use Rattle.order.specs.Trees.{Tree, words, depth, subtrees}
+use Rattle.order.specs.Reading.{found}
+use Rattle.order.specs.Answers.{treeOfLine}
+use Rattle.order.specs.Paper.{StrictlyBelow, IsR}
 use Rattle.form.specs.Text.{Line, digit-0, space, line-feed, levelText, codeText, lineText, spell, textOf}
 use Rattle.form.specs.Faults.{NoDeeper}
 use Rattle.book.specs.Book.{Book}
-use Rattle.verdicts.specs.Verdicts.{In, Passes}
-use Rattle.calls.specs.Lines.{feeds}
+use Rattle.book_judging.specs.Verdicts.{In, Passes}
+use Rattle.desk_step.specs.Lines.{feeds}
 
 -- ---- in tens
 
@@ -78,7 +78,7 @@ pub record LinesBelow (form : List Line) (line n : ℕ) : Type 0 where
 -- ---- which line comes back
 
 -- A subtree's part is in the book: "every subtree of depth at most k-2" is a low part itself, and of a deeper one the middle part is its r of index k.
--- Said apart from the rows of judging (`Known`, verdicts/specs/Verdicts.antt), so that a change of these is seen here.
+-- Said apart from the rows of judging (`Known`, book_judging/specs/Verdicts.antt), so that a change of these is seen here.
 pub record PartKnown (b : Book) (s : Tree) : Type 0 where
   pub low : depth s ≤ b .k - 2 → In (b .L) s
   pub middle : b .k - 1 ≤ depth s → (u : Tree) → IsR (b .k) s u → In (b .P) u

@@ -4,11 +4,11 @@ use Prim.Native.Nat.{ℕ, suc}
 use mathlib.Core.List.{List, [], _∷_}
 use lib.ListN.{getD, replicate}
 use Rattle.figures.specs.Limits.{used-word}
-use Rattle.trees.specs.Trees.{Tree, node, Forest, bare, cons, words}
-use Rattle.trees.specs.Answers.{Writing}
+use Rattle.order.specs.Trees.{Tree, node, Forest, bare, cons, words}
+use Rattle.order.specs.Answers.{Writing}
 use Rattle.book.specs.Opening.{Outcome, outcome, openOf}
-use Rattle.verdicts.specs.Judging.{judgeOf}
-use Rattle.effects.specs.Calls.{teachOf, withdrawOf}
+use Rattle.book_judging.specs.Judging.{judgeOf}
+use Rattle.book_teaching.specs.Calls.{teachOf, withdrawOf}
 
 -- ---- orders
 

@@ -4,12 +4,12 @@ use Prim.Native.Nat.{ℕ}
 use mathlib.Core.List.{List, [], _∷_}
 use Rattle.words.specs.Base.{_∈_}
 use Rattle.section.specs.Entries.{Entry}
-use Rattle.trees.specs.Trees.{Tree, words}
-use Rattle.trees.specs.Reading.{byFound, treeOf}
-use Rattle.trees.specs.Fits.{IsOrder}
-use Rattle.learnt.specs.Learning.{LetIn}
+use Rattle.order.specs.Trees.{Tree, words}
+use Rattle.order.specs.Reading.{byFound, treeOf}
+use Rattle.order.specs.Fits.{IsOrder}
+use Rattle.order_learning.specs.Learning.{LetIn}
 use Rattle.book.specs.Book.{Book}
-use Rattle.verdicts.specs.Verdicts.{In}
+use Rattle.book_judging.specs.Verdicts.{In}
 
 -- ---- three sets
 

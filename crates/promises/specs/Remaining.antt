@@ -9,17 +9,17 @@ use Rattle.words.specs.Base.{if_then_else_, sameWords, _∈_}
 use Rattle.figures.specs.Numbers.{done}
 use Rattle.figures.specs.Answers.{answered}
 use Rattle.section.specs.Entries.{Entry, countOf}
-use Rattle.trees.specs.Trees.{Tree, words}
-use Rattle.trees.specs.Reading.{byFound, treeOf}
-use Rattle.trees.specs.Fits.{IsOrder}
-use Rattle.trees.specs.Paper.{IsR, IsL, IsP}
+use Rattle.order.specs.Trees.{Tree, words}
+use Rattle.order.specs.Reading.{byFound, treeOf}
+use Rattle.order.specs.Fits.{IsOrder}
+use Rattle.order.specs.Paper.{IsR, IsL, IsP}
 use Rattle.book.specs.Book.{Book, live}
 use Rattle.book.specs.Decoding.{bookIn}
 use Rattle.book.specs.Sound.{IsBook}
 use Rattle.book.specs.Taught.{taught, bookOf}
 use Rattle.book.specs.Opening.{Outcome}
-use Rattle.effects.specs.Calls.{teachOf, withdrawOf}
-use Rattle.sums.specs.Joining.{joinOf}
+use Rattle.book_teaching.specs.Calls.{teachOf, withdrawOf}
+use Rattle.book_joining.specs.Joining.{joinOf}
 
 -- ---- calls
 

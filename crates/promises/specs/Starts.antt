@@ -5,7 +5,7 @@ use mathlib.Core.List.{List, []}
 use lib.ListN.{drop}
 use Rattle.book.specs.Decoding.{byBook}
 use Rattle.book.specs.Opening.{Outcome, openOf}
-use Rattle.files.specs.Files.{front-bytes, storedIn, readFileOf}
+use Rattle.book_filing.specs.Files.{front-bytes, storedIn, readFileOf}
 use Rattle.promises.specs.Remaining.{ordersIn}
 
 -- A run starts with an empty book of some k, or "by reading a file".

@@ -1,6 +1,6 @@
 -- The rows of 01's table that numbering an order, handing out and writing its parts, asking for a k, opening, checking, joining, and reading and
 -- writing a form or a file can answer, by trees, lines and sizes, apart from the tests of their definitions ("Numbers the desk hears"). Those of a
--- book's form are in book/specs/Sound.antt, of judging in verdicts/specs/Verdicts.antt, of teaching and withdrawing in effects/specs/Whys.antt.
+-- book's form are in book/specs/Sound.antt, of judging in book_judging/specs/Verdicts.antt, of teaching and withdrawing in book_teaching/specs/Whys.antt.
 -- Assumes nothing: these are definitions.
 use Prim.Native.Nat.{ℕ, _+_, _-_, _*_, _≤_, _<_}
 use mathlib.Core.Path.{_≡_}
@@ -12,12 +12,12 @@ use Rattle.figures.specs.Limits.{head-words, most-book-words, least-k, greatest
 use Rattle.figures.specs.Numbers.{done, k-outside, book-size, no-room, too-many, not-agreeing, no-form, short-output, no-mark, other-version, no-stored-book, other-k}
 use Rattle.figures.specs.Answers.{answered, wrote, refusedAt}
 use Rattle.figures.specs.declared.Answer.{Answer}
-use Rattle.trees.specs.Trees.{Tree, words, depth, cut, subtrees}
-use Rattle.trees.specs.Reading.{found}
-use Rattle.trees.specs.Causes.{Cause}
-use Rattle.trees.specs.Fits.{IsOrder}
-use Rattle.trees.specs.Answers.{treeOfLine, Piece, piece, Writing, writing, refuse, PartWriting, partWriting, noPart, ofKind}
-use Rattle.trees.specs.declared.Kind.the-variants.{Low, Middle}
+use Rattle.order.specs.Trees.{Tree, words, depth, cut, subtrees}
+use Rattle.order.specs.Reading.{found}
+use Rattle.order.specs.Causes.{Cause}
+use Rattle.order.specs.Fits.{IsOrder}
+use Rattle.order.specs.Answers.{treeOfLine, Piece, piece, Writing, writing, refuse, PartWriting, partWriting, noPart, ofKind}
+use Rattle.order.specs.declared.Kind.the-variants.{Low, Middle}
 use Rattle.form.specs.Text.{textOf}
 use Rattle.form.specs.Faults.{FirstFault}
 use Rattle.book.specs.Book.{Book, used, live, encode}
@@ -27,14 +27,14 @@ use Rattle.book.specs.Taught.{emptyBook}
 use Rattle.book.specs.Opening.{Outcome, leave, writeBook}
 use Rattle.book.specs.declared.BookForm.the-variants.{Refused}
 use Rattle.book.specs.declared.Places.{Places}
-use Rattle.sums.specs.Joining.{CountsAdded}
+use Rattle.book_joining.specs.Joining.{CountsAdded}
 use Rattle.octets.specs.Octets.{bytesOf}
-use Rattle.files.specs.Files.{mark, mark-bytes, version, front-bytes, fileOf}
+use Rattle.book_filing.specs.Files.{mark, mark-bytes, version, front-bytes, fileOf}
 use Rattle.promises.specs.Agreement.{Agrees}
 
 -- ---- orders and their parts
 
--- Why `order::check` answers a: "Within an order: empty or odd length, over 128 words, the other causes of 1, depth."
+-- Why `order_check::check` answers a: "Within an order: empty or odd length, over 128 words, the other causes of 1, depth."
 pub data WhyNumbered (os : List ℕ) (a : Answer) : Type 0 where
   -- 0, 1 and 2: the cause's number, with line 0
   numbered : (n : ℕ) → a ≡ answered n → Cause os n → WhyNumbered os a
@@ -46,7 +46,7 @@ pub data LacksLine (t : Tree) (line : ℕ) : Type 0 where
   -- It has no line past the one of its last node.
   past-last : length (subtrees t) < line → LacksLine t line
 
--- Why `cuts::subtree` hands out p: "A subtree is a contiguous part of the order's words, and is handed out as that part, asked for by its
+-- Why `order_cuts::subtree` hands out p: "A subtree is a contiguous part of the order's words, and is handed out as that part, asked for by its
 -- line; for an order with a cause of 1 or 2, or a line the order lacks, an empty part is handed out". Lines count from 1, in preorder.
 pub data WhySubtree (os : List ℕ) (line : ℕ) (p : Piece) : Type 0 where
   -- "for an order with a cause of 1 or 2": an empty part, at the front

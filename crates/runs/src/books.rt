@@ -14,11 +14,11 @@ use crate::kinds;
 use book::BookForm;
 use book::Places;
 use ofb::OfbAnswer;
-use report::fill;
-use report::kept;
-use report::mark;
-use report::say;
-use report::wide;
+use runs_kit::fill;
+use runs_kit::kept;
+use runs_kit::mark;
+use runs_kit::say;
+use runs_kit::wide;
 
 // Says the k of a book, the places where its sections R, L and P start, and its words used.
 fn places(places: Places) {

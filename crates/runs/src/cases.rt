@@ -5,9 +5,9 @@ use crate::forms;
 use crate::kinds;
 use crate::orders;
 use crate::stored;
-use report::line;
-use report::same;
-use report::say;
+use runs_kit::line;
+use runs_kit::same;
+use runs_kit::say;
 
 // Runs a case by its kind and the words that stand behind that, with two kept books and a kept file.
 fn with_words(kind: u64, given: &[u16], book: &mut [u16], other: &mut [u16], file: &mut [u16]) {
@@ -19,7 +19,7 @@ fn with_words(kind: u64, given: &[u16], book: &mut [u16], other: &mut [u16], fil
         kinds::PART => orders::part(given),
         kinds::WRITE => forms::write(given),
         kinds::THERE => forms::there(given),
-        kinds::FORM => books::form(look::in_form(given)),
+        kinds::FORM => books::form(book_form::in_form(given)),
         kinds::OPEN => books::open(given, book),
         kinds::LAY => books::lay(given, book),
         kinds::SHOW => books::show(given, book),

@@ -1,9 +1,9 @@
 // The files that are run: an input of the desk as a whole, and any other line by line.
 use crate::cases;
-use report::kept;
-use report::line;
-use report::same;
-use report::say;
+use runs_kit::kept;
+use runs_kit::line;
+use runs_kit::same;
+use runs_kit::say;
 
 // The bytes that a name may have.
 const NAME: usize = 64;
@@ -57,7 +57,7 @@ fn run(name: &[u8]) {
         return;
     }
     if at_the_desk(name) {
-        serve::from(fd);
+        desk_loop::from(fd);
     } else {
         read(fd);
     }

@@ -1,4 +1,4 @@
-// The kinds of cases by number, as `report::line::kind` gives it for a name: two digits for each letter, a being 01 and z 26.
+// The kinds of cases by number, as `runs_kit::line::kind` gives it for a name: two digits for each letter, a being 01 and z 26.
 
 // Of orders: see `orders`.
 pub const CHECK: u64 = 3_08_05_03_11;

@@ -7,14 +7,14 @@
 // The call of `subtree` is made through the function for C (`ofb`); there is none for the others.
 use figures::Asked;
 use figures::Depth;
-use report::lent;
-use report::say;
-use report::wide;
-use trees::Kind;
+use order::Kind;
+use runs_kit::lent;
+use runs_kit::say;
+use runs_kit::wide;
 
 // Runs a case of `check`.
 pub fn check(given: &[u16]) {
-    let answer = order::check(given);
+    let answer = order_check::check(given);
     say::heard(answer.number, answer.line);
 }
 
@@ -45,7 +45,7 @@ pub fn subtree(given: &[u16]) {
 
 // Writes the cut at d of a line to an output, and says what came of it.
 fn cut_to(order: &[u16], line: usize, d: usize, out: &mut [u16]) {
-    let written = cuts::cut_into(order, line, d, out);
+    let written = order_cuts::cut_into(order, line, d, out);
     let count = written.count;
     lent::answer(written.number, written.line, count);
     lent::tree(out, count);
@@ -79,7 +79,7 @@ fn kind(kind: Kind) {
 
 // Writes the part of a line to an output, and says what came of it.
 fn part_to(order: &[u16], line: usize, k: Depth, out: &mut [u16]) {
-    let found = parts::part_into(order, line, k, out);
+    let found = order_parts::part_into(order, line, k, out);
     let sort = found.kind;
     let written = found.written;
     let count = written.count;

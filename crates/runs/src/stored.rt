@@ -15,16 +15,16 @@ ghost use Prim.Native.Nat.{_≤_};
 ghost use lib.ListN.{length};
 use figures::limits::MOST_BOOK_WORDS;
 use figures::numbers::DONE;
-use report::fill;
-use report::kept;
-use report::kept::BEFORE;
-use report::kept::MOST_FILE;
-use report::lent;
-use report::lent::HELD_BYTE;
-use report::line;
-use report::same;
-use report::say;
-use report::wide;
+use runs_kit::fill;
+use runs_kit::kept;
+use runs_kit::kept::BEFORE;
+use runs_kit::kept::MOST_FILE;
+use runs_kit::lent;
+use runs_kit::lent::HELD_BYTE;
+use runs_kit::line;
+use runs_kit::same;
+use runs_kit::say;
+use runs_kit::wide;
 
 // Keeps bytes behind the first `had` of the kept file, and says how many it has then.
 pub fn lay(given: &[u16], had: usize, file: &mut [u16]) {

@@ -1,5 +1,5 @@
 -- `ofb_join` meets its contract: the line is 0. Assumes nothing.
-use Rattle.sums.proofs.Joins.{join-line}
+use Rattle.book_joining.proofs.Joins.{join-line}
 use Rattle.ofb.proofs.Handing.{outcome-fits, outcome-handed}
 use borrow.Author.Needs.{needs}
 use Rattle.ofb.proofs.ofb_join.Statement.{statement}

@@ -3,8 +3,8 @@ use Prim.Native.Nat.{_^_}
 use mathlib.Core.Path.{ap, sym, subst, _∙_}
 use native.Mathlib.Omega.{arith}
 use Rattle.section.specs.Near.{Small}
-use Rattle.verdicts.specs.declared.Judgement.{Judgement}
-use Rattle.verdicts.proofs.Figures.{judge-line-most, expected-fits}
+use Rattle.book_judging.specs.declared.Judgement.{Judgement}
+use Rattle.book_judging.proofs.Figures.{judge-line-most, expected-fits}
 use Rattle.ofb.specs.Interface.{toldJudgedOf}
 use borrow.Author.Needs.{needs}
 use Rattle.ofb.proofs.ofb_judge.Statement.{statement}

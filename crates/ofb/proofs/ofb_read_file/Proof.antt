@@ -1,5 +1,5 @@
 -- `ofb_read_file` meets its contract: the line is 0. Assumes nothing.
-use Rattle.files.proofs.Restoring.{restored-line}
+use Rattle.book_filing.proofs.Restoring.{restored-line}
 use Rattle.ofb.proofs.Handing.{outcome-fits, outcome-handed}
 use borrow.Author.Needs.{needs}
 use Rattle.ofb.proofs.ofb_read_file.Statement.{statement}

@@ -1,5 +1,5 @@
 -- `ofb_teach` meets its contract: the line is 0. Assumes nothing.
-use Rattle.effects.proofs.Conditions.{teach-line}
+use Rattle.book_teaching.proofs.Conditions.{teach-line}
 use Rattle.ofb.proofs.Handing.{outcome-fits, outcome-handed}
 use borrow.Author.Needs.{needs}
 use Rattle.ofb.proofs.ofb_teach.Statement.{statement}

@@ -11,10 +11,10 @@ use Rattle.figures.specs.Limits.{least-k}
 use Rattle.section.specs.Entries.{Entry, has, countOf, Sorted}
 use Rattle.section.proofs.Counts.{has-entry, lacks-counts}
 use Rattle.section.proofs.Sorting.{same-counts}
-use Rattle.trees.specs.Trees.{Tree, words}
-use Rattle.trees.specs.Fits.{IsOrder}
-use Rattle.trees.specs.Paper.{IsR, IsL, IsP}
-use Rattle.trees.proofs.Fitting.{fits-order-of}
+use Rattle.order.specs.Trees.{Tree, words}
+use Rattle.order.specs.Fits.{IsOrder}
+use Rattle.order.specs.Paper.{IsR, IsL, IsP}
+use Rattle.order.proofs.Fitting.{fits-order-of}
 use Rattle.book.specs.Book.{Book, sectionOf, inForm}
 use Rattle.book.specs.Sound.{SoundBook}
 use Rattle.book.specs.Taught.{Teaching, bookOf, teachingsIn, anyTree, agreeing, treesIn, timesIn}
@@ -25,7 +25,7 @@ use Rattle.book.proofs.Taught.{any-in, in-any, taught-k, each-keys, section-sam
 use Rattle.book.proofs.Teachings.{taught-section, times-counted, times-other, count-after-taught}
 use Rattle.book.proofs.Sections.{form-sorted}
 use Rattle.book.proofs.Agreeing.{TaughtOrders, form-orders, later-taught, first, teachings-sorted, agreeing-is}
-use Rattle.effects.specs.Conditions.{_exactly-when_}
+use Rattle.book_teaching.specs.Conditions.{_exactly-when_}
 use Rattle.promises.specs.Remaining.{HasPart}
 use Rattle.promises.specs.Agreement.{CountsOf, no-entry, counts, counts-not, Agrees}
 use Rattle.promises.proofs.Laws.Orders.{top-part, part-top, low-part, part-low, middle-part, part-middle}

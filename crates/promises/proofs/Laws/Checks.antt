@@ -17,7 +17,7 @@ use Rattle.book.specs.declared.BookForm.the-variants.{Refused}
 use Rattle.book.proofs.Sound.{why-is, why-only}
 use Rattle.book.specs.Checking.{agreeOf}
 use Rattle.book.proofs.Checking.{check-unheld, check-held}
-use Rattle.effects.specs.Conditions.{_exactly-when_}
+use Rattle.book_teaching.specs.Conditions.{_exactly-when_}
 use Rattle.promises.specs.Remaining.{Call, after, remaining, booked}
 use Rattle.promises.specs.Agreement.{Agrees}
 use Rattle.promises.specs.Whys.{WhyChecked, check-no-book, disagrees, agrees}

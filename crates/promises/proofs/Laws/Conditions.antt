@@ -14,23 +14,23 @@ use Rattle.figures.specs.Limits.{least-k, greatest-k, greatest-count, head-word
 use Rattle.figures.specs.Numbers.{done, no-room, too-many, not-taught}
 use Rattle.section.specs.Entries.{has}
 use Rattle.section.proofs.Counts.{has-count}
-use Rattle.trees.specs.Trees.{Tree, words}
-use Rattle.trees.specs.Fits.{IsOrder}
-use Rattle.trees.proofs.Fitting.{order-read}
+use Rattle.order.specs.Trees.{Tree, words}
+use Rattle.order.specs.Fits.{IsOrder}
+use Rattle.order.proofs.Fitting.{order-read}
 use Rattle.book.specs.Book.{Book, sectionOf, used, live}
 use Rattle.book.specs.Sound.{IsBook}
 use Rattle.book.specs.Taught.{taught, agreeing}
 use Rattle.book.specs.declared.Section.the-variants.{Taught}
 use Rattle.book.proofs.Sound.{sound-form}
 use Rattle.book.proofs.Openings.{number-is}
-use Rattle.effects.specs.Calls.{teachOf, withdrawOf}
-use Rattle.effects.specs.Conditions.{_exactly-when_, BookAndOrder, WouldPass, lives}
-use Rattle.effects.proofs.Conditions.{teach-7, teach-6, teach-0, withdraw-0, withdraw-8}
-use Rattle.effects.proofs.Reasons.{within-none}
-use Rattle.effects.proofs.Sequences.{agreeing-withdraws}
-use Rattle.sums.specs.Joining.{joined, joinOf}
-use Rattle.sums.proofs.Joined.{grown as joined-from}
-use Rattle.sums.proofs.Joins.{Both, join-passes, join-crowded, join-does}
+use Rattle.book_teaching.specs.Calls.{teachOf, withdrawOf}
+use Rattle.book_teaching.specs.Conditions.{_exactly-when_, BookAndOrder, WouldPass, lives}
+use Rattle.book_teaching.proofs.Conditions.{teach-7, teach-6, teach-0, withdraw-0, withdraw-8}
+use Rattle.book_teaching.proofs.Reasons.{within-none}
+use Rattle.book_teaching.proofs.Sequences.{agreeing-withdraws}
+use Rattle.book_joining.specs.Joining.{joined, joinOf}
+use Rattle.book_joining.proofs.Joined.{grown as joined-from}
+use Rattle.book_joining.proofs.Joins.{Both, join-passes, join-crowded, join-does}
 use Rattle.promises.specs.Remaining.{Call, after, ordersIn, remaining, timesOf, booked}
 use Rattle.promises.specs.Agreement.{Agrees}
 use Rattle.promises.proofs.Laws.Agreement.{sound-agreeing}

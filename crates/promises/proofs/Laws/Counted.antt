@@ -8,17 +8,17 @@ use lib.ListN.{length, replicate, length-append, length-replicate}
 use Rattle.figures.specs.Limits.{greatest-depth}
 use Rattle.section.specs.Entries.{Entry, total}
 use Rattle.section.proofs.Sorting.{sorted-some}
-use Rattle.trees.specs.Trees.{Tree}
-use Rattle.trees.specs.Fits.{Fits, IsOrder}
-use Rattle.trees.proofs.Fitting.{fits-order-of}
+use Rattle.order.specs.Trees.{Tree}
+use Rattle.order.specs.Fits.{Fits, IsOrder}
+use Rattle.order.proofs.Fitting.{fits-order-of}
 use Rattle.book.specs.Book.{Book}
 use Rattle.book.specs.Taught.{taught, bookOf, teachingsIn}
 use Rattle.book.proofs.Taught.{taught-k, none-in}
 use Rattle.book.proofs.Agreeing.{TaughtOrders, later-taught, first, teachings-sorted}
 use Rattle.book.proofs.Teachings.{taught-twice}
 use Rattle.book.proofs.Sections.{InOrder}
-use Rattle.amend.proofs.Sums.{added, added-turns, none-added}
-use Rattle.effects.proofs.Adds.{taught-added}
+use Rattle.book_change.proofs.Sums.{added, added-turns, none-added}
+use Rattle.book_teaching.proofs.Adds.{taught-added}
 use Rattle.promises.specs.Remaining.{ordersIn, booked}
 use Rattle.promises.proofs.Laws.Orders.{Orders, one-order-more, booked-first, booked-k, booked-sorted}
 

@@ -12,15 +12,15 @@ use Rattle.form.proofs.Figures.{text-line}
 use Rattle.book.specs.Opening.{outcome}
 use Rattle.book.proofs.Meaning.{used-fits}
 use Rattle.book.proofs.Sound.{head-says}
-use Rattle.effects.proofs.Conditions.{teach-line, withdraw-line}
-use Rattle.verdicts.proofs.Figures.{judge-line-most}
-use Rattle.reply.specs.Replies.{most-digits, decimal}
-use Rattle.reply.specs.Meaning.{valueOf}
-use Rattle.reply.proofs.Meaning.{decimal-value}
-use Rattle.sheet.specs.Sheets.{FormCall, handed, handedIn}
-use Rattle.sheet.specs.declared.Letter.{Letter}
-use Rattle.sheet.specs.declared.Letter.the-variants.{Teach, Withdraw, Judge}
-use Rattle.ask.specs.Asking.{askOf, callOf}
+use Rattle.book_teaching.proofs.Conditions.{teach-line, withdraw-line}
+use Rattle.book_judging.proofs.Figures.{judge-line-most}
+use Rattle.desk_line.specs.Replies.{most-digits, decimal}
+use Rattle.desk_line.specs.Meaning.{valueOf}
+use Rattle.desk_line.proofs.Meaning.{decimal-value}
+use Rattle.desk_input.specs.Sheets.{FormCall, handed, handedIn}
+use Rattle.desk_input.specs.declared.Letter.{Letter}
+use Rattle.desk_input.specs.declared.Letter.the-variants.{Teach, Withdraw, Judge}
+use Rattle.desk_call.specs.Asking.{askOf, callOf}
 use Rattle.promises.specs.Starts.{opening}
 use Rattle.promises.specs.AtTheDesk.{madeBy, DeskNumber, is-done, is-too-large, is-no-form, is-no-room, is-not-taught, is-top, is-low, is-middle}
 use Rattle.promises.proofs.Laws.Handing.{book-then}

@@ -9,15 +9,15 @@ use lib.Seq.{take-append-seam}
 use Rattle.figures.specs.Limits.{used-word}
 use Rattle.figures.specs.Numbers.{done}
 use Rattle.figures.specs.Answers.{answered}
-use Rattle.trees.specs.Answers.{Writing, refuse, write}
+use Rattle.order.specs.Answers.{Writing, refuse, write}
 use Rattle.book.specs.Book.{Book, lay}
 use Rattle.book.specs.Sound.{IsBook}
 use Rattle.book.specs.Opening.{Outcome, outcome, leave}
 use Rattle.book.proofs.Meaning.{lay-long, used-fits}
 use Rattle.book.proofs.Sound.{head-says, refused-4-5}
 use Rattle.book.proofs.Openings.{number-is, words-are}
-use Rattle.files.specs.Files.{front-bytes, fileOf, writeFileOf, readFileOf}
-use Rattle.files.proofs.Writing.{file-long}
+use Rattle.book_filing.specs.Files.{front-bytes, fileOf, writeFileOf, readFileOf}
+use Rattle.book_filing.proofs.Writing.{file-long}
 use Rattle.promises.specs.Agreement.{Agrees}
 use Rattle.promises.specs.Whys.{IsFile, WhyFiled, file-no-book, file-disagrees, file-short, filed}
 use Rattle.promises.specs.Whys.{BookSized, WhyRestored, restore-shorter, restore-longer, few-bytes, wrong-mark, wrong-version, no-used-words, restore-disagrees, restore-no-room, restores}

@@ -15,7 +15,7 @@ use Rattle.words.proofs.Tests.{no-test, and-right, and-both, fails-right, same-
 use Rattle.figures.specs.Limits.{head-words, most-book-words}
 use Rattle.figures.specs.Answers.{answered}
 use Rattle.figures.specs.Numbers.{book-size, no-room, not-in-form, not-agreeing, no-mark, other-version, no-stored-book}
-use Rattle.trees.specs.Answers.{Writing, refuse, write}
+use Rattle.order.specs.Answers.{Writing, refuse, write}
 use Rattle.book.specs.Book.{Book, used, encode}
 use Rattle.book.specs.Decoding.{bookFormOf, sized}
 use Rattle.book.specs.Sound.{IsBook, WhyForm, shorter, longer, formless, book}
@@ -25,11 +25,11 @@ use Rattle.book.specs.declared.BookForm.the-variants.{Refused}
 use Rattle.book.proofs.Heads.{too-short, too-long, is-sized}
 use Rattle.book.proofs.Sound.{form-sound, sound-form, why-is, why-only}
 use Rattle.octets.specs.Octets.{bytesOf}
-use Rattle.files.specs.Files.{mark, mark-bytes, version, front-bytes, fileOf, writeFileOf, isMarked, storedIn, readBookOf, readRestOf, readFileOf}
-use Rattle.files.proofs.Stored.{Stored, stored-some, stored-is, stored-none}
-use Rattle.files.proofs.Writing.{file-unheld, file-by}
-use Rattle.files.proofs.Reading.{mark-short, marked-long, read-unsized, read-unmarked, read-other, read-rest}
-use Rattle.files.proofs.Restoring.{restore-none, restore-some, restored-disagreeing, restored-short, restored-written}
+use Rattle.book_filing.specs.Files.{mark, mark-bytes, version, front-bytes, fileOf, writeFileOf, isMarked, storedIn, readBookOf, readRestOf, readFileOf}
+use Rattle.book_filing.proofs.Stored.{Stored, stored-some, stored-is, stored-none}
+use Rattle.book_filing.proofs.Writing.{file-unheld, file-by}
+use Rattle.book_filing.proofs.Reading.{mark-short, marked-long, read-unsized, read-unmarked, read-other, read-rest}
+use Rattle.book_filing.proofs.Restoring.{restore-none, restore-some, restored-disagreeing, restored-short, restored-written}
 use Rattle.promises.specs.Agreement.{Agrees}
 use Rattle.promises.specs.Whys.{UsedWords, IsFile, BookSized, WhyFiled, file-no-book, file-disagrees, file-short, filed}
 use Rattle.promises.specs.Whys.{WhyRestored, restore-shorter, restore-longer, few-bytes, wrong-mark, wrong-version, no-used-words, restore-disagrees, restore-no-room, restores}

@@ -9,10 +9,10 @@ use lib.Dec.{leb}
 use Rattle.words.specs.Base.{if_then_else_, _and_}
 use Rattle.figures.specs.Numbers.{low-unknown}
 use Rattle.section.specs.Entries.{has}
-use Rattle.trees.specs.Trees.{Tree, node, Forest, bare, cons, words, depth, subtrees, subtreesF, below}
-use Rattle.trees.specs.Parts.{isLow, middle}
+use Rattle.order.specs.Trees.{Tree, node, Forest, bare, cons, words, depth, subtrees, subtreesF, below}
+use Rattle.order.specs.Parts.{isLow, middle}
 use Rattle.book.specs.Book.{Book}
-use Rattle.verdicts.specs.Judging.{knows, knowsEach, toFix, doubt, leastToFix, verdictOn, verdict}
+use Rattle.book_judging.specs.Judging.{knows, knowsEach, toFix, doubt, leastToFix, verdictOn, verdict}
 use Rattle.promises.specs.Heard.{firstLeaf, leafIn}
 
 -- A book without low and middle parts.

@@ -8,22 +8,22 @@ use native.Mathlib.Decide.{decLt}
 use native.Mathlib.Omega.{arith}
 use lib.ListN.{length, getD, take, drop, take-append-drop}
 use lib.Seq.{length-take-le}
-use Rattle.trees.specs.Trees.{Tree, node, words, subtrees, below}
-use Rattle.trees.specs.Reading.{found, missing}
-use Rattle.trees.specs.Answers.{treeAt, treeOfLine}
-use Rattle.trees.specs.Paper.{StrictlyBelow}
-use Rattle.trees.proofs.Reading.{not-found}
-use Rattle.trees.proofs.Paper.{below-from, below-to}
-use Rattle.trees.proofs.Lines.{place-within}
-use Rattle.trees.proofs.Below.{below-line, line-below}
+use Rattle.order.specs.Trees.{Tree, node, words, subtrees, below}
+use Rattle.order.specs.Reading.{found, missing}
+use Rattle.order.specs.Answers.{treeAt, treeOfLine}
+use Rattle.order.specs.Paper.{StrictlyBelow}
+use Rattle.order.proofs.Reading.{not-found}
+use Rattle.order.proofs.Paper.{below-from, below-to}
+use Rattle.order.proofs.Lines.{place-within}
+use Rattle.order.proofs.Below.{below-line, line-below}
 use Rattle.form.specs.Text.{Line, digit-0, digit, levelText, codeText, lineText, spell, linesOf, linesF, textOf}
 use Rattle.form.specs.Faults.{greatest-level, no-more}
 use Rattle.form.proofs.LineBytes.{one-digit, two-digits, spell-append}
 use Rattle.form.proofs.TreeLines.{codes, topCode, lines-subtrees, lines-count, row-count}
 use Rattle.form.proofs.LinesBelow.{TreeFirst, tree-first, row-above}
-use Rattle.effects.specs.Conditions.{_exactly-when_}
-use Rattle.calls.specs.Lines.{feeds}
-use Rattle.calls.proofs.Lines.{no-feed, feeds-append, feeds-none, one-feed}
+use Rattle.book_teaching.specs.Conditions.{_exactly-when_}
+use Rattle.desk_step.specs.Lines.{feeds}
+use Rattle.desk_step.proofs.Lines.{no-feed, feeds-append, feeds-none, one-feed}
 use Rattle.promises.specs.Forms.{LevelInTens, one-figure, two-figures, LineOfText, LinesBelow}
 
 -- ---- levels

@@ -7,10 +7,10 @@ use lib.ListN.{length}
 use Rattle.figures.specs.Numbers.{done}
 use Rattle.figures.specs.Answers.{answered}
 use Rattle.section.specs.Entries.{countOf}
-use Rattle.trees.specs.Answers.{write}
+use Rattle.order.specs.Answers.{write}
 use Rattle.book.specs.Book.{Book}
 use Rattle.book.specs.Opening.{outcome}
-use Rattle.files.specs.Files.{fileOf, writeFileOf, readFileOf}
+use Rattle.book_filing.specs.Files.{fileOf, writeFileOf, readFileOf}
 use Rattle.promises.specs.Remaining.{Call, after, remaining, timesOf, SameOrders, booked}
 use Rattle.promises.specs.Starts.{reading, taughtFirst, startK}
 use Rattle.promises.specs.Agreement.{Agrees}

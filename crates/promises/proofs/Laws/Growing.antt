@@ -6,9 +6,9 @@ use native.Mathlib.Decide.{decLt}
 use native.Mathlib.Omega.{arith}
 use Rattle.figures.specs.Numbers.{done}
 use Rattle.section.specs.Entries.{Entry, countOf}
-use Rattle.trees.specs.Trees.{Tree, words}
-use Rattle.learnt.specs.Learning.{LetIn}
-use Rattle.learnt.proofs.Least.{widened}
+use Rattle.order.specs.Trees.{Tree, words}
+use Rattle.order_learning.specs.Learning.{LetIn}
+use Rattle.order_learning.proofs.Least.{widened}
 use Rattle.book.specs.Book.{Book, sectionOf}
 use Rattle.book.specs.Sound.{IsBook, SoundBook}
 use Rattle.book.specs.Opening.{Outcome, leave}
@@ -17,13 +17,13 @@ use Rattle.book.specs.declared.Section.the-variants.{Taught, Tops, Lows, Middle
 use Rattle.book.proofs.Sound.{sound-form}
 use Rattle.book.proofs.Sections.{form-sorted}
 use Rattle.book.proofs.Openings.{words-are, number-is}
-use Rattle.verdicts.specs.Judging.{judgeOf}
-use Rattle.verdicts.specs.Verdicts.{In, Passes}
-use Rattle.verdicts.proofs.Answers.{answered-passes}
-use Rattle.effects.specs.Calls.{teachOf}
-use Rattle.effects.specs.Whys.{WhyTaught, teach-no-book, teach-no-order, would-pass, needs-more, book-taught}
-use Rattle.effects.proofs.Whys.{teach-why}
-use Rattle.sums.specs.Joining.{joinOf}
+use Rattle.book_judging.specs.Judging.{judgeOf}
+use Rattle.book_judging.specs.Verdicts.{In, Passes}
+use Rattle.book_judging.proofs.Answers.{answered-passes}
+use Rattle.book_teaching.specs.Calls.{teachOf}
+use Rattle.book_teaching.specs.Whys.{WhyTaught, teach-no-book, teach-no-order, would-pass, needs-more, book-taught}
+use Rattle.book_teaching.proofs.Whys.{teach-why}
+use Rattle.book_joining.specs.Joining.{joinOf}
 use Rattle.promises.specs.Books.{OneMore, OneTeachingMore}
 use Rattle.promises.specs.Whys.{WhyJoined, join-no-first, join-no-second, k-differs, first-disagrees, second-disagrees, lives-pass, sum-no-room, joins}
 use Rattle.promises.proofs.Laws.Passing.{judged-exactly, in-counts, counted-in}

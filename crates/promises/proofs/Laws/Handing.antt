@@ -10,21 +10,21 @@ use lib.ListN.{length, drop, length-append, length-drop}
 use Rattle.words.specs.Base.{_and_, if_then_else_, sameWords}
 use Rattle.figures.specs.Limits.{least-k, greatest-k, most-input}
 use Rattle.figures.specs.Numbers.{done, no-form}
-use Rattle.trees.specs.Trees.{Tree, words}
-use Rattle.trees.specs.Fits.{IsOrder}
-use Rattle.trees.proofs.Fitting.{order-read}
+use Rattle.order.specs.Trees.{Tree, words}
+use Rattle.order.specs.Fits.{IsOrder}
+use Rattle.order.proofs.Fitting.{order-read}
 use Rattle.form.specs.Text.{Line, textOf}
 use Rattle.form.specs.Reading.{Form, fault, form, byForm, formOf, wordsOfLines}
 use Rattle.form.specs.Faults.{Why, past, misspelt, no-option, not-allowed, too-deep, ninth-child}
 use Rattle.form.proofs.FirstFault.{first-fault}
 use Rattle.form.proofs.Trips.{order-text}
 use Rattle.book.specs.Opening.{outcome}
-use Rattle.sheet.specs.Sheets.{first-line-size, letterByte, FormCall, sheetOf, Handed, handed, handedIn}
-use Rattle.sheet.proofs.Handing.{calls-within, HandsIn, at-fault, opens, hands-in}
-use Rattle.sheet.specs.declared.Letter.{Letter}
-use Rattle.sheet.specs.declared.Letter.the-variants.{Teach, Withdraw, Judge}
-use Rattle.ask.specs.Asking.{askOf, callOf}
-use Rattle.calls.specs.Desk.{lineFor, linesFor}
+use Rattle.desk_input.specs.Sheets.{first-line-size, letterByte, FormCall, sheetOf, Handed, handed, handedIn}
+use Rattle.desk_input.proofs.Handing.{calls-within, HandsIn, at-fault, opens, hands-in}
+use Rattle.desk_input.specs.declared.Letter.{Letter}
+use Rattle.desk_input.specs.declared.Letter.the-variants.{Teach, Withdraw, Judge}
+use Rattle.desk_call.specs.Asking.{askOf, callOf}
+use Rattle.desk_step.specs.Desk.{lineFor, linesFor}
 use Rattle.promises.specs.Remaining.{Call, teach, withdraw, join, outcomeOf, afterBy, after, without, remainBy, remainingBy, remaining}
 use Rattle.promises.specs.AtTheDesk.{callFor, madeOf, madeBy, bookAfter, DeskNumber, is-too-large, is-no-form}
 

@@ -18,10 +18,10 @@ use Rattle.book.specs.Opening.{Outcome, writeBook, openOf}
 use Rattle.book.specs.declared.BookForm.the-variants.{Refused}
 use Rattle.book.proofs.Meaning.{used-fits}
 use Rattle.book.proofs.Sound.{sound-form, why-only, book-only}
-use Rattle.sums.specs.Joining.{CountsAdded, joined, joinOf}
-use Rattle.sums.proofs.Joined.{grown, joined-sum, only-sum}
-use Rattle.sums.proofs.Joins.{Both, JoinCase, first-refused, second-refused, differing, first-against, second-against, passing, crowded, joins as joining}
-use Rattle.sums.proofs.Joins.{first-unjoined, second-unjoined, k-unjoined, first-unagreed, second-unagreed, join-passes, join-crowded, join-does, join-case, Done, was-joined, joined-book}
+use Rattle.book_joining.specs.Joining.{CountsAdded, joined, joinOf}
+use Rattle.book_joining.proofs.Joined.{grown, joined-sum, only-sum}
+use Rattle.book_joining.proofs.Joins.{Both, JoinCase, first-refused, second-refused, differing, first-against, second-against, passing, crowded, joins as joining}
+use Rattle.book_joining.proofs.Joins.{first-unjoined, second-unjoined, k-unjoined, first-unagreed, second-unagreed, join-passes, join-crowded, join-does, join-case, Done, was-joined, joined-book}
 use Rattle.promises.specs.Remaining.{join, afterBy, ordersIn, remainBy, remainingBy, remaining, timesOf, SameOrders, taughtAll, NoneRefused}
 use Rattle.promises.specs.Agreement.{Agrees}
 use Rattle.promises.specs.Whys.{TwoBooks, WhyJoined, join-no-first, join-no-second, k-differs, first-disagrees, second-disagrees, lives-pass, sum-no-room, joins}

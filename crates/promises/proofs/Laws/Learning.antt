@@ -6,23 +6,23 @@ use mathlib.Core.List.{List, [], _∷_, List·Memᴰ·head as here, List·Memᴰ
 use native.Mathlib.Omega.{arith}
 use Rattle.words.specs.Base.{_∈_}
 use Rattle.section.specs.Entries.{Entry, countOf, Sorted}
-use Rattle.trees.specs.Trees.{Tree, words, Good}
-use Rattle.trees.specs.Reading.{byFound, TreeFound, missing, found, treeOf}
-use Rattle.trees.specs.Fits.{IsOrder}
-use Rattle.trees.specs.Paper.{IsR, IsL, IsP}
-use Rattle.trees.proofs.Orders.{words-read, read-words}
-use Rattle.trees.proofs.Reading.{not-found}
-use Rattle.trees.proofs.Unique.{words-unique}
-use Rattle.learnt.specs.Learning.{OneOf, LetIn, Learnt}
-use Rattle.learnt.proofs.Least.{widened}
+use Rattle.order.specs.Trees.{Tree, words, Good}
+use Rattle.order.specs.Reading.{byFound, TreeFound, missing, found, treeOf}
+use Rattle.order.specs.Fits.{IsOrder}
+use Rattle.order.specs.Paper.{IsR, IsL, IsP}
+use Rattle.order.proofs.Orders.{words-read, read-words}
+use Rattle.order.proofs.Reading.{not-found}
+use Rattle.order.proofs.Unique.{words-unique}
+use Rattle.order_learning.specs.Learning.{OneOf, LetIn, Learnt}
+use Rattle.order_learning.proofs.Least.{widened}
 use Rattle.book.specs.Book.{Book, sectionOf}
 use Rattle.book.specs.Sound.{SoundSection, SoundBook}
 use Rattle.book.specs.declared.Section.{Section}
 use Rattle.book.specs.declared.Section.the-variants.{Tops, Lows, Middles}
 use Rattle.book.proofs.Sound.{sound-form}
 use Rattle.book.proofs.Sections.{form-sorted}
-use Rattle.verdicts.specs.Verdicts.{In, Passes}
-use Rattle.effects.specs.Conditions.{_exactly-when_}
+use Rattle.book_judging.specs.Verdicts.{In, Passes}
+use Rattle.book_teaching.specs.Conditions.{_exactly-when_}
 use Rattle.promises.specs.Remaining.{HasPart, SomeHas, MadeOf}
 use Rattle.promises.specs.Agreement.{CountsOf, no-entry, counts, counts-not, Agrees}
 use Rattle.promises.specs.NoMore.{FormOf, TaughtIn, treesOf, setsOf, Remains}

@@ -8,25 +8,25 @@ use native.Mathlib.Omega.{arith}
 use lib.ListN.{length}
 use Rattle.figures.specs.Numbers.{done, too-large, no-form, top-unknown, low-unknown, middle-unknown}
 use Rattle.figures.specs.declared.Answer.{Answer}
-use Rattle.trees.specs.Trees.{Tree, node, depth, subtrees}
-use Rattle.trees.specs.Reading.{found}
-use Rattle.trees.specs.Fits.{IsOrder}
-use Rattle.trees.specs.Answers.{checkOf, treeAt, treeOfLine, Writing, cutIntoOf, PartWriting, partIntoOf}
-use Rattle.trees.specs.Paper.{IsR}
-use Rattle.trees.proofs.Fitting.{order-read}
-use Rattle.trees.proofs.Paper.{r-only}
-use Rattle.trees.proofs.Lines.{place-within}
+use Rattle.order.specs.Trees.{Tree, node, depth, subtrees}
+use Rattle.order.specs.Reading.{found}
+use Rattle.order.specs.Fits.{IsOrder}
+use Rattle.order.specs.Answers.{checkOf, treeAt, treeOfLine, Writing, cutIntoOf, PartWriting, partIntoOf}
+use Rattle.order.specs.Paper.{IsR}
+use Rattle.order.proofs.Fitting.{order-read}
+use Rattle.order.proofs.Paper.{r-only}
+use Rattle.order.proofs.Lines.{place-within}
 use Rattle.form.specs.Text.{Line, textOf}
 use Rattle.form.specs.Reading.{readOf}
 use Rattle.form.specs.Faults.{Why, past, misspelt, no-option, not-allowed, too-deep, ninth-child}
 use Rattle.book.specs.Book.{Book}
 use Rattle.book.specs.Sound.{IsBook}
-use Rattle.verdicts.specs.Judging.{judgeOf}
-use Rattle.verdicts.specs.Verdicts.{In, Known, ToFix, Doubted, Lent, Verdict, passing, no-top, no-low, no-middle, Judged, no-book, no-order, judged}
-use Rattle.verdicts.proofs.Answers.{judged-is, top-answered, low-answered, middle-answered}
-use Rattle.effects.specs.Conditions.{_exactly-when_}
-use Rattle.verdicts.proofs.Judgements.{by-verdict}
-use Rattle.verdicts.proofs.Verdicts.{lines-known, verdict-is}
+use Rattle.book_judging.specs.Judging.{judgeOf}
+use Rattle.book_judging.specs.Verdicts.{In, Known, ToFix, Doubted, Lent, Verdict, passing, no-top, no-low, no-middle, Judged, no-book, no-order, judged}
+use Rattle.book_judging.proofs.Answers.{judged-is, top-answered, low-answered, middle-answered}
+use Rattle.book_teaching.specs.Conditions.{_exactly-when_}
+use Rattle.book_judging.proofs.Judgements.{by-verdict}
+use Rattle.book_judging.proofs.Verdicts.{lines-known, verdict-is}
 use Rattle.promises.specs.Forms.{LineOfText, ComesBack, PartKnown, NoLineUnknown, CanBeFixed, LineWanted, Told}
 use Rattle.promises.specs.Whys.{WhyNumbered, numbered, WhyCut, cut-no-order, cut-lacks, cut-short, cut-written}
 use Rattle.promises.specs.Whys.{WhyPart, part-no-order, part-lacks, low-short, low-written, middle-short, middle-written}

@@ -24,23 +24,23 @@ use Rattle.section.specs.Near.{near, nowhere, entriesBelow, entriesAbove, lastP
 use Rattle.section.specs.declared.Neighbours.{Neighbours}
 use Rattle.section.proofs.Counts.{has-entry, entry-has}
 use Rattle.section.proofs.Near.{lower-is-below, equal-not-below, higher-not-below, higher-is-above, lower-not-above, equal-not-above}
-use Rattle.trees.specs.Trees.{Tree, words, subtrees}
-use Rattle.trees.specs.Reading.{found}
-use Rattle.trees.specs.Parts.{top, isLow, middle}
-use Rattle.trees.specs.Answers.{treeAt, treeOfLine}
-use Rattle.trees.specs.Paper.{IsR}
-use Rattle.trees.proofs.Fitting.{order-read}
-use Rattle.trees.proofs.Paper.{cut-is-r}
+use Rattle.order.specs.Trees.{Tree, words, subtrees}
+use Rattle.order.specs.Reading.{found}
+use Rattle.order.specs.Parts.{top, isLow, middle}
+use Rattle.order.specs.Answers.{treeAt, treeOfLine}
+use Rattle.order.specs.Paper.{IsR}
+use Rattle.order.proofs.Fitting.{order-read}
+use Rattle.order.proofs.Paper.{cut-is-r}
 use Rattle.book.specs.Book.{Book, sectionOf}
 use Rattle.book.specs.Sound.{SoundBook}
 use Rattle.book.specs.declared.Section.the-variants.{Tops, Lows, Middles}
 use Rattle.book.proofs.Sound.{sound-form}
 use Rattle.book.proofs.Sections.{form-sorted}
-use Rattle.verdicts.specs.Judging.{doubt, leastToFix, verdictOn, verdict, judgeOf}
-use Rattle.verdicts.specs.Expecting.{nearPart, nearTop, expectedOn, expected, expectedOf}
-use Rattle.verdicts.specs.Verdicts.{Lent}
-use Rattle.verdicts.proofs.Fixes.{LeastIs, none-least, is-least, least-is}
-use Rattle.verdicts.proofs.Judgements.{by-verdict, expects}
+use Rattle.book_judging.specs.Judging.{doubt, leastToFix, verdictOn, verdict, judgeOf}
+use Rattle.book_judging.specs.Expecting.{nearPart, nearTop, expectedOn, expected, expectedOf}
+use Rattle.book_judging.specs.Verdicts.{Lent}
+use Rattle.book_judging.proofs.Fixes.{LeastIs, none-least, is-least, least-is}
+use Rattle.book_judging.proofs.Judgements.{by-verdict, expects}
 use Rattle.promises.specs.Remaining.{HowMany, none-left, one-more, not-this}
 use Rattle.promises.specs.Expected.{PlaceBelow, none-below, last-below, PlaceAbove, none-above, first-above, PartStands, it-is-there, it-is-not, IsNear}
 use Rattle.promises.proofs.Uniqueness.{how-many-once}

@@ -11,14 +11,14 @@ use Rattle.words.proofs.Tests.{no-test, same-words, words-same}
 use Rattle.figures.specs.Limits.{greatest-depth, least-k, greatest-k, greatest-count}
 use Rattle.section.specs.Entries.{countsFor, countOf, total, Sorted}
 use Rattle.section.proofs.Counts.{count-add}
-use Rattle.trees.specs.Trees.{Tree, words}
-use Rattle.trees.specs.Reading.{byFound, found, treeOf}
-use Rattle.trees.specs.Parts.{top, lowParts, middleParts}
-use Rattle.trees.specs.Fits.{IsOrder, Fits}
-use Rattle.trees.specs.Paper.{IsR, IsL, IsP}
-use Rattle.trees.proofs.Orders.{words-read}
-use Rattle.trees.proofs.Unique.{words-unique}
-use Rattle.trees.proofs.Paper.{top-is-r, r-only, low-is-l, l-is-low, middle-is-p, p-is-middle}
+use Rattle.order.specs.Trees.{Tree, words}
+use Rattle.order.specs.Reading.{byFound, found, treeOf}
+use Rattle.order.specs.Parts.{top, lowParts, middleParts}
+use Rattle.order.specs.Fits.{IsOrder, Fits}
+use Rattle.order.specs.Paper.{IsR, IsL, IsP}
+use Rattle.order.proofs.Orders.{words-read}
+use Rattle.order.proofs.Unique.{words-unique}
+use Rattle.order.proofs.Paper.{top-is-r, r-only, low-is-l, l-is-low, middle-is-p, p-is-middle}
 use Rattle.book.specs.Book.{Book, sectionOf, used, live, inForm}
 use Rattle.book.specs.Taught.{taught, bookOf, anyTree, treesIn, timesIn}
 use Rattle.book.specs.declared.Section.{Section}
@@ -26,11 +26,11 @@ use Rattle.book.specs.declared.Section.the-variants.{Taught, Tops, Lows, Middle
 use Rattle.book.proofs.Openings.{opened-formed}
 use Rattle.book.proofs.Taught.{any-in, in-any, taught-sorted, none-in}
 use Rattle.book.proofs.Teachings.{live-taught, commute, times-counted, times-other, count-after-taught, taught-in-order}
-use Rattle.amend.specs.Counts.{withinCounts}
-use Rattle.effects.proofs.Formed.{taught-keeps-form}
-use Rattle.effects.specs.Conditions.{WouldPass, lives, touched}
-use Rattle.effects.proofs.Reasons.{none-passes}
-use Rattle.effects.proofs.Counted.{taught-uses}
+use Rattle.book_change.specs.Counts.{withinCounts}
+use Rattle.book_teaching.proofs.Formed.{taught-keeps-form}
+use Rattle.book_teaching.specs.Conditions.{WouldPass, lives, touched}
+use Rattle.book_teaching.proofs.Reasons.{none-passes}
+use Rattle.book_teaching.proofs.Counted.{taught-uses}
 use Rattle.promises.specs.Remaining.{without, timesOf, SameOrders, booked, HowMany, none-left, one-more, not-this, HasPart}
 
 -- ---- orders within limits

@@ -11,20 +11,20 @@ use Rattle.words.specs.Base.{if_then_else_}
 use Rattle.figures.specs.Numbers.{done}
 use Rattle.figures.specs.Answers.{answered, wrote}
 use Rattle.figures.specs.declared.Answer.{Answer}
-use Rattle.trees.specs.Trees.{Tree, words, depth, cut, subtrees}
-use Rattle.trees.specs.Reading.{missing, found, byFound, refused, byOrder, orderOf, causeOf}
-use Rattle.trees.specs.Causes.{Cause}
-use Rattle.trees.specs.Fits.{IsOrder}
-use Rattle.trees.specs.Parts.{isLow, middle, partOf}
-use Rattle.trees.specs.Answers.{checkOf, treeOfLine, Piece, piece, noPiece, subtreeOf, Writing, writing, refuse, write, cutIntoOf, PartWriting, partWriting, noPart, ofKind, partIntoOf}
-use Rattle.trees.specs.Standing.{placeOf}
-use Rattle.trees.specs.declared.Kind.the-variants.{Low, Middle}
-use Rattle.trees.specs.declared.Place.the-variants.{Lacking, At}
-use Rattle.trees.proofs.Orders.{size}
-use Rattle.trees.proofs.Causes.{cause-is, cause-only, Seen, stopped, passed, seen, refused-by}
-use Rattle.trees.proofs.Fitting.{passed-order, order-read}
-use Rattle.trees.proofs.Spots.{spot-part}
-use Rattle.trees.proofs.Lines.{LacksLine, HasLine, placed, place-none, place-past, place-at}
+use Rattle.order.specs.Trees.{Tree, words, depth, cut, subtrees}
+use Rattle.order.specs.Reading.{missing, found, byFound, refused, byOrder, orderOf, causeOf}
+use Rattle.order.specs.Causes.{Cause}
+use Rattle.order.specs.Fits.{IsOrder}
+use Rattle.order.specs.Parts.{isLow, middle, partOf}
+use Rattle.order.specs.Answers.{checkOf, treeOfLine, Piece, piece, noPiece, subtreeOf, Writing, writing, refuse, write, cutIntoOf, PartWriting, partWriting, noPart, ofKind, partIntoOf}
+use Rattle.order.specs.Standing.{placeOf}
+use Rattle.order.specs.declared.Kind.the-variants.{Low, Middle}
+use Rattle.order.specs.declared.Place.the-variants.{Lacking, At}
+use Rattle.order.proofs.Orders.{size}
+use Rattle.order.proofs.Causes.{cause-is, cause-only, Seen, stopped, passed, seen, refused-by}
+use Rattle.order.proofs.Fitting.{passed-order, order-read}
+use Rattle.order.proofs.Spots.{spot-part}
+use Rattle.order.proofs.Lines.{LacksLine, HasLine, placed, place-none, place-past, place-at}
 use Rattle.promises.specs.Whys.{WhyNumbered, numbered, LacksLine, line-0, past-last, WhySubtree, subtree-no-order, subtree-lacks, subtree}
 use Rattle.promises.specs.Whys.{WhyCut, cut-no-order, cut-lacks, cut-short, cut-written}
 use Rattle.promises.specs.Whys.{WhyPart, part-no-order, part-lacks, low-short, low-written, middle-short, middle-written}

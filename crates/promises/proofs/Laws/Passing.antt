@@ -9,19 +9,19 @@ use Rattle.figures.specs.Numbers.{done}
 use Rattle.figures.specs.declared.Answer.{Answer}
 use Rattle.section.specs.Entries.{Entry, countOf, Sorted}
 use Rattle.section.proofs.Counts.{has-entry, entry-has, has-counts, counts-has}
-use Rattle.trees.specs.Trees.{Tree, words}
-use Rattle.trees.specs.Fits.{IsOrder}
-use Rattle.trees.specs.Paper.{IsR, IsL, IsP}
+use Rattle.order.specs.Trees.{Tree, words}
+use Rattle.order.specs.Fits.{IsOrder}
+use Rattle.order.specs.Paper.{IsR, IsL, IsP}
 use Rattle.book.specs.Book.{Book, sectionOf}
 use Rattle.book.specs.Sound.{IsBook}
 use Rattle.book.specs.declared.Section.{Section}
 use Rattle.book.specs.declared.Section.the-variants.{Tops, Lows, Middles}
 use Rattle.book.proofs.Sound.{sound-form, book-only}
 use Rattle.book.proofs.Sections.{form-sorted}
-use Rattle.verdicts.specs.Judging.{judgeOf}
-use Rattle.verdicts.specs.Verdicts.{In, Passes, PassesBy}
-use Rattle.verdicts.proofs.Answers.{answered-passes, passes-answered}
-use Rattle.effects.specs.Conditions.{_exactly-when_}
+use Rattle.book_judging.specs.Judging.{judgeOf}
+use Rattle.book_judging.specs.Verdicts.{In, Passes, PassesBy}
+use Rattle.book_judging.proofs.Answers.{answered-passes, passes-answered}
+use Rattle.book_teaching.specs.Conditions.{_exactly-when_}
 use Rattle.promises.specs.Remaining.{HowMany, none-left, one-more, not-this, HasPart, ExactlyThese, SomeHas, MadeOf}
 use Rattle.promises.proofs.Laws.Orders.{one-tree}
 

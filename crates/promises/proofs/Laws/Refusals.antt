@@ -12,18 +12,18 @@ use Rattle.words.specs.Base.{if_then_else_, within, over}
 use Rattle.figures.specs.Limits.{least-k, greatest-k}
 use Rattle.figures.specs.Numbers.{done, k-outside, book-size, short-output}
 use Rattle.figures.specs.Answers.{wrote, refusedAt}
-use Rattle.trees.specs.Trees.{Tree, words, cut, subtrees}
-use Rattle.trees.specs.Reading.{TreeFound, missing, found, byFound, Order, refused, order, byOrder, orderOf}
-use Rattle.trees.specs.Parts.{partOf}
-use Rattle.trees.specs.Answers.{treeOfLine, Writing, writing, refuse, write, cutIntoOf, PartWriting, partWriting, noPart, ofKind, partIntoOf}
-use Rattle.trees.proofs.Writing.{no-output-room, has-room}
+use Rattle.order.specs.Trees.{Tree, words, cut, subtrees}
+use Rattle.order.specs.Reading.{TreeFound, missing, found, byFound, Order, refused, order, byOrder, orderOf}
+use Rattle.order.specs.Parts.{partOf}
+use Rattle.order.specs.Answers.{treeOfLine, Writing, writing, refuse, write, cutIntoOf, PartWriting, partWriting, noPart, ofKind, partIntoOf}
+use Rattle.order.proofs.Writing.{no-output-room, has-room}
 use Rattle.form.specs.Text.{textOf}
 use Rattle.form.specs.Reading.{Form, fault, form, byForm, formOf, wordsOfLines, readOf}
 use Rattle.form.specs.Writing.{writeOf}
 use Rattle.book.specs.Decoding.{sized}
 use Rattle.book.specs.Taught.{bookOf}
 use Rattle.book.specs.Opening.{Outcome, leave, writeBook, openOf}
-use Rattle.effects.specs.Conditions.{_exactly-when_}
+use Rattle.book_teaching.specs.Conditions.{_exactly-when_}
 
 -- ---- words written to the front of a lent output
 

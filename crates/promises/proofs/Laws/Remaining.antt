@@ -17,10 +17,10 @@ use Rattle.figures.specs.Answers.{answered}
 use Rattle.figures.specs.declared.Answer.{Answer}
 use Rattle.section.specs.Entries.{has}
 use Rattle.section.proofs.Counts.{has-counts}
-use Rattle.trees.specs.Trees.{Tree}
-use Rattle.trees.specs.Reading.{orderOf, order}
-use Rattle.trees.specs.Fits.{IsOrder}
-use Rattle.trees.proofs.Fitting.{order-read, read-order, order-fits}
+use Rattle.order.specs.Trees.{Tree}
+use Rattle.order.specs.Reading.{orderOf, order}
+use Rattle.order.specs.Fits.{IsOrder}
+use Rattle.order.proofs.Fitting.{order-read, read-order, order-fits}
 use Rattle.book.specs.Book.{Book, sectionOf, used, live, lay, inForm}
 use Rattle.book.specs.Decoding.{bookIn, decode}
 use Rattle.book.specs.Sound.{IsBook}
@@ -33,17 +33,17 @@ use Rattle.book.proofs.Sound.{form-sound, sound-form, book-decode, book-only}
 use Rattle.book.proofs.Heads.{is-sized}
 use Rattle.book.proofs.Teachings.{live-taught}
 use Rattle.book.proofs.Agreeing.{form-orders}
-use Rattle.effects.specs.Calls.{teachOf, withdrawn, withdrawOf}
-use Rattle.effects.specs.Conditions.{BookAndOrder}
-use Rattle.effects.proofs.Calling.{Met, met, refuses, goes, written-met, teach-does}
-use Rattle.effects.proofs.Conditions.{teach-0, teach-writes, teach-refusal-leaves, withdraw-0, withdraw-writes, withdraw-refusal-leaves}
-use Rattle.effects.proofs.Counted.{taught-uses}
-use Rattle.effects.proofs.Undoing.{undo}
-use Rattle.effects.proofs.Sequences.{teach-agrees, withdraw-agrees}
-use Rattle.amend.proofs.Sums.{added}
-use Rattle.sums.specs.Joining.{joined, joinOf}
-use Rattle.sums.proofs.Joined.{joined-adds, joined-live}
-use Rattle.sums.proofs.Joins.{Both, Done, was-joined, done-joins, join-leaves, join-agrees}
+use Rattle.book_teaching.specs.Calls.{teachOf, withdrawn, withdrawOf}
+use Rattle.book_teaching.specs.Conditions.{BookAndOrder}
+use Rattle.book_teaching.proofs.Calling.{Met, met, refuses, goes, written-met, teach-does}
+use Rattle.book_teaching.proofs.Conditions.{teach-0, teach-writes, teach-refusal-leaves, withdraw-0, withdraw-writes, withdraw-refusal-leaves}
+use Rattle.book_teaching.proofs.Counted.{taught-uses}
+use Rattle.book_teaching.proofs.Undoing.{undo}
+use Rattle.book_teaching.proofs.Sequences.{teach-agrees, withdraw-agrees}
+use Rattle.book_change.proofs.Sums.{added}
+use Rattle.book_joining.specs.Joining.{joined, joinOf}
+use Rattle.book_joining.proofs.Joined.{joined-adds, joined-live}
+use Rattle.book_joining.proofs.Joins.{Both, Done, was-joined, done-joins, join-leaves, join-agrees}
 use Rattle.promises.specs.Remaining.{Call, teach, withdraw, join, afterBy, after, ordersIn, without, remainBy, remainingBy, remaining, timesOf, SameOrders, taughtAll, NoneRefused, ExactlyThese, booked}
 use Rattle.promises.proofs.Laws.Orders.{Orders, later, one-order-more, without-in, more-within, same-fit, same-book, count-times}
 use Rattle.promises.proofs.Laws.Orders.{booked-first, booked-k, booked-sorted, booked-live, booked-uses, counts-taught, counts-tops, counts-lows, counts-middles, booked-form, booked-without}

@@ -19,7 +19,7 @@ use Rattle.book.proofs.Meaning.{read-back}
 use Rattle.book.proofs.Openings.{opened as opening-is, number-is}
 use Rattle.book.proofs.Sound.{sound-form}
 use Rattle.book.proofs.Agreeing.{form-orders, agreeing-is}
-use Rattle.files.specs.Files.{readFileOf}
+use Rattle.book_filing.specs.Files.{readFileOf}
 use Rattle.promises.specs.Remaining.{ordersIn, booked}
 use Rattle.promises.specs.Starts.{Start, opening, reading, startedBy, taughtFirst, startK}
 use Rattle.promises.specs.Agreement.{Agrees}

@@ -16,13 +16,13 @@ use Rattle.figures.specs.Numbers.{done, k-outside, book-size, not-in-form}
 use Rattle.figures.specs.Answers.{depthOf, answered, askedTold}
 use Rattle.figures.specs.declared.Answer.{Answer}
 use Rattle.figures.specs.declared.depths.Asked.the-variants.{Allowed, Outside}
-use Rattle.trees.specs.Trees.{Tree, words}
-use Rattle.trees.specs.Reading.{causeOf}
-use Rattle.trees.specs.Causes.{Cause}
-use Rattle.trees.specs.Fits.{IsOrder}
-use Rattle.trees.specs.Answers.{Writing, refuse, write}
-use Rattle.trees.proofs.Causes.{cause-is, cause-refuses, Seen, stopped, passed, seen}
-use Rattle.trees.proofs.Fitting.{passed-order, order-read, read-order}
+use Rattle.order.specs.Trees.{Tree, words}
+use Rattle.order.specs.Reading.{causeOf}
+use Rattle.order.specs.Causes.{Cause}
+use Rattle.order.specs.Fits.{IsOrder}
+use Rattle.order.specs.Answers.{Writing, refuse, write}
+use Rattle.order.proofs.Causes.{cause-is, cause-refuses, Seen, stopped, passed, seen}
+use Rattle.order.proofs.Fitting.{passed-order, order-read, read-order}
 use Rattle.form.specs.Text.{Line, linesOf, textOf}
 use Rattle.form.specs.Reading.{Form, fault, form, formOf, wordsOfLines, readOf}
 use Rattle.form.specs.Writing.{writeOf}

@@ -3,26 +3,26 @@ use Prim.Native.Nat.{ℕ}
 use Rattle.words.specs.Base.{_and_, if_then_else_, sameWords, keep}
 use Rattle.words.specs.Compare.{compareOf, before}
 use Rattle.section.specs.Entries.{sectionWords, entries, span, has, total, add, lower}
-use Rattle.changes.specs.Editing.{fitting}
-use Rattle.trees.specs.Trees.{count, words, depth, cut, subtrees, below}
+use Rattle.section_change.specs.Editing.{fitting}
+use Rattle.order.specs.Trees.{count, words, depth, cut, subtrees, below}
 use Rattle.figures.specs.Nodes.{soundNode}
-use Rattle.trees.specs.Reading.{firstTrees, laterTrees, nodeOver, readTrees, byFound, only, treeOf, byOrder, withinDepth, orderOf}
-use Rattle.trees.specs.Parts.{top, isLow, lows, middle, isMiddle, middles, sameTree, eachOnce, lowParts, middleParts}
-use Rattle.trees.specs.Answers.{write}
-use Rattle.trees.specs.Fits.{fitsOf}
+use Rattle.order.specs.Reading.{firstTrees, laterTrees, nodeOver, readTrees, byFound, only, treeOf, byOrder, withinDepth, orderOf}
+use Rattle.order.specs.Parts.{top, isLow, lows, middle, isMiddle, middles, sameTree, eachOnce, lowParts, middleParts}
+use Rattle.order.specs.Answers.{write}
+use Rattle.order.specs.Fits.{fitsOf}
 use Rattle.form.specs.Reading.{isDigit, value, isCode, codeBehind, speltOf, byLine, allowed, siblings, lineOf, byForm, readLines, formOf, children, wordsOfLines, readOf}
 use Rattle.book.specs.Book.{sectionOf, body, used, live, encode, lay, entryInForm, ascendingFrom, sectionInForm, inForm}
 use Rattle.book.specs.Decoding.{topsAt, lowsAt, middlesAt, bookIn, formed, decode, byBook, sized, onBook}
 use Rattle.book.specs.Taught.{addEach, taught, bookOf, teachingsIn, sameSection, agreeing}
 use Rattle.book.specs.Opening.{openOf}
-use Rattle.verdicts.specs.Judging.{knows, knowsEach, toFix, leastToFix, verdictOn, verdict, judgeOf}
-use Rattle.amend.specs.Counts.{withinCounts}
-use Rattle.effects.specs.Calls.{onOrder, teachTree, teachOf, lowerEach, withdrawn, hasEach, hasParts, withdrawTree, withdrawOf}
-use Rattle.sums.specs.Joining.{joined, joinBooks, joinOf}
+use Rattle.book_judging.specs.Judging.{knows, knowsEach, toFix, leastToFix, verdictOn, verdict, judgeOf}
+use Rattle.book_change.specs.Counts.{withinCounts}
+use Rattle.book_teaching.specs.Calls.{onOrder, teachTree, teachOf, lowerEach, withdrawn, hasEach, hasParts, withdrawTree, withdrawOf}
+use Rattle.book_joining.specs.Joining.{joined, joinBooks, joinOf}
 use Rattle.book.specs.Checking.{agreeOf}
 use Rattle.form.specs.Text.{linesOf, levelText, codeText, lineText, spell, textOf}
-use Rattle.reply.specs.Replies.{lastDigits, withoutZeros, decimal, field, reply}
-use Rattle.sheet.specs.Sheets.{letterOf, withByte, inputLines, kindOf, withLine, callsOf, sheetOf, firstLine, handedBy, byFirst, handedIn}
+use Rattle.desk_line.specs.Replies.{lastDigits, withoutZeros, decimal, field, reply}
+use Rattle.desk_input.specs.Sheets.{letterOf, withByte, inputLines, kindOf, withLine, callsOf, sheetOf, firstLine, handedBy, byFirst, handedIn}
 use Rattle.promises.specs.Heard.{computed, heard}
 
 -- Opens them all.

@@ -14,9 +14,9 @@ use Rattle.figures.specs.Limits.{head-words, most-book-words, desk-book-words, 
 use Rattle.figures.specs.Numbers.{done, too-large, k-outside, no-form}
 use Rattle.figures.specs.Answers.{answered}
 use Rattle.figures.specs.declared.Answer.{Answer}
-use Rattle.trees.specs.Trees.{Tree, node, bare, cons, words}
-use Rattle.trees.specs.Reading.{orderOf, order}
-use Rattle.trees.proofs.Fitting.{read-order}
+use Rattle.order.specs.Trees.{Tree, node, bare, cons, words}
+use Rattle.order.specs.Reading.{orderOf, order}
+use Rattle.order.proofs.Fitting.{read-order}
 use Rattle.form.specs.Text.{textOf}
 use Rattle.form.specs.Reading.{byForm, formOf}
 use Rattle.book.specs.Book.{Book, used, encode, lay, inForm}
@@ -27,20 +27,20 @@ use Rattle.book.proofs.Meaning.{read-back, lay-long}
 use Rattle.book.proofs.Sound.{form-sound}
 use Rattle.book.proofs.Heads.{is-sized}
 use Rattle.book.proofs.Openings.{opened as opening-is, words-are}
-use Rattle.verdicts.specs.Judging.{verdict}
-use Rattle.verdicts.proofs.Judgements.{by-verdict}
-use Rattle.amend.specs.Counts.{withinCounts}
-use Rattle.effects.specs.Calls.{withdrawn, hasParts}
+use Rattle.book_judging.specs.Judging.{verdict}
+use Rattle.book_judging.proofs.Judgements.{by-verdict}
+use Rattle.book_change.specs.Counts.{withinCounts}
+use Rattle.book_teaching.specs.Calls.{withdrawn, hasParts}
 use Rattle.section.specs.Entries.{has}
-use Rattle.effects.specs.Conditions.{BookAndOrder}
-use Rattle.effects.proofs.Calling.{teach-does, withdraw-does}
-use Rattle.reply.specs.Replies.{reply}
-use Rattle.sheet.specs.Sheets.{letter-K, letterByte, FormCall, faulty, handed, handedIn, openingOf}
-use Rattle.sheet.specs.declared.Front.the-variants.{Fault}
-use Rattle.sheet.specs.declared.Letter.{Letter}
-use Rattle.sheet.specs.declared.Letter.the-variants.{Teach, Withdraw, Judge}
-use Rattle.ask.specs.Asking.{askOf, callOf}
-use Rattle.calls.specs.Desk.{lineFor, linesFor, deskOf}
+use Rattle.book_teaching.specs.Conditions.{BookAndOrder}
+use Rattle.book_teaching.proofs.Calling.{teach-does, withdraw-does}
+use Rattle.desk_line.specs.Replies.{reply}
+use Rattle.desk_input.specs.Sheets.{letter-K, letterByte, FormCall, faulty, handed, handedIn, openingOf}
+use Rattle.desk_input.specs.declared.Front.the-variants.{Fault}
+use Rattle.desk_input.specs.declared.Letter.{Letter}
+use Rattle.desk_input.specs.declared.Letter.the-variants.{Teach, Withdraw, Judge}
+use Rattle.desk_call.specs.Asking.{askOf, callOf}
+use Rattle.desk_step.specs.Desk.{lineFor, linesFor, deskOf}
 use Rattle.promises.specs.Heard.{A}
 use Rattle.promises.proofs.Laws.Handing.{asks-order}
 use Rattle.promises.proofs.AtTheDesk.{blank, blank-long, fault-alone, first-line-printed}

@@ -4,10 +4,10 @@ use mathlib.Core.Path.{_≡_, refl}
 use mathlib.Core.List.{List, [], _∷_, _++_}
 use lib.ListN.{set, take}
 use Rattle.figures.specs.Answers.{answered, wrote}
-use Rattle.trees.specs.Answers.{writing, refuse}
+use Rattle.order.specs.Answers.{writing, refuse}
 use Rattle.book.specs.Opening.{outcome, leave}
 use Rattle.octets.specs.Octets.{bytesOf, wordsOf}
-use Rattle.files.specs.Files.{fileOf, writeFileOf, isMarked, storedIn, readBookOf, readRestOf, readFileOf}
+use Rattle.book_filing.specs.Files.{fileOf, writeFileOf, isMarked, storedIn, readBookOf, readRestOf, readFileOf}
 use Rattle.promises.specs.Heard.{slice}
 use Rattle.promises.proofs.Tables.Computed.{computes}
 

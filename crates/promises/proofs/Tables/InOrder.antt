@@ -7,21 +7,21 @@ use lib.ListN.{replicate, set}
 use Rattle.figures.specs.Answers.{answered}
 use Rattle.figures.specs.declared.Answer.{Answer}
 use Rattle.section.specs.Entries.{counted}
-use Rattle.trees.specs.Trees.{Tree, node, bare, cons, words}
-use Rattle.trees.specs.Reading.{causeOf}
-use Rattle.trees.specs.Answers.{checkOf, Writing}
+use Rattle.order.specs.Trees.{Tree, node, bare, cons, words}
+use Rattle.order.specs.Reading.{causeOf}
+use Rattle.order.specs.Answers.{checkOf, Writing}
 use Rattle.form.specs.Reading.{readOf}
 use Rattle.form.specs.Writing.{writeOf}
 use Rattle.book.specs.Book.{lay}
 use Rattle.book.specs.Taught.{bookOf}
 use Rattle.book.specs.Opening.{Outcome, openOf}
 use Rattle.book.specs.Checking.{agreeOf}
-use Rattle.verdicts.specs.Judging.{judgeOf}
-use Rattle.effects.specs.Calls.{teachOf, withdrawOf}
-use Rattle.sums.specs.Joining.{joinOf}
+use Rattle.book_judging.specs.Judging.{judgeOf}
+use Rattle.book_teaching.specs.Calls.{teachOf, withdrawOf}
+use Rattle.book_joining.specs.Joining.{joinOf}
 use Rattle.octets.specs.Octets.{bytesOf}
-use Rattle.files.specs.Files.{fileOf, writeFileOf}
-use Rattle.sheet.specs.Sheets.{faulty, handedIn}
+use Rattle.book_filing.specs.Files.{fileOf, writeFileOf}
+use Rattle.desk_input.specs.Sheets.{faulty, handedIn}
 use Rattle.promises.specs.Heard.{A, single, pair, slice}
 use Rattle.promises.proofs.Tables.Computed.{computes, desk-computes}
 use Rattle.promises.proofs.Tables.Rows.{times, taughtA, withL, lacksMiddle}

@@ -11,9 +11,9 @@ use Rattle.figures.specs.Limits.{most-input, desk-book-words}
 use Rattle.figures.specs.Numbers.{done, no-order, too-large, k-outside, book-size, not-in-form, no-room, too-many, not-taught, not-agreeing, no-form}
 use Rattle.figures.specs.Numbers.{short-output, no-mark, other-version, no-stored-book, other-k, top-unknown, low-unknown, middle-unknown}
 use Rattle.figures.specs.Answers.{answered, refusedAt}
-use Rattle.trees.specs.Trees.{Tree, node, bare, cons, words}
-use Rattle.trees.specs.Reading.{causeOf}
-use Rattle.trees.specs.Answers.{checkOf, writing, refuse}
+use Rattle.order.specs.Trees.{Tree, node, bare, cons, words}
+use Rattle.order.specs.Reading.{causeOf}
+use Rattle.order.specs.Answers.{checkOf, writing, refuse}
 use Rattle.form.specs.Text.{digit-0, digit-9, space, line-feed, spell}
 use Rattle.form.specs.Reading.{readOf}
 use Rattle.form.specs.Faults.{greatest-level}
@@ -23,17 +23,17 @@ use Rattle.book.specs.Sound.{IsBook, WhyForm, longer}
 use Rattle.book.specs.Opening.{openOf, leave}
 use Rattle.book.specs.declared.BookForm.the-variants.{Refused}
 use Rattle.book.specs.Checking.{agreeOf}
-use Rattle.verdicts.specs.Judging.{judgeOf}
-use Rattle.verdicts.specs.Verdicts.{no-book}
-use Rattle.verdicts.proofs.Answers.{judged-only}
-use Rattle.effects.specs.Calls.{teachOf, withdrawOf}
-use Rattle.effects.specs.Whys.{teach-no-book, withdraw-no-book}
-use Rattle.effects.proofs.Whys.{teach-only, withdraw-only}
-use Rattle.sums.specs.Joining.{joinOf}
+use Rattle.book_judging.specs.Judging.{judgeOf}
+use Rattle.book_judging.specs.Verdicts.{no-book}
+use Rattle.book_judging.proofs.Answers.{judged-only}
+use Rattle.book_teaching.specs.Calls.{teachOf, withdrawOf}
+use Rattle.book_teaching.specs.Whys.{teach-no-book, withdraw-no-book}
+use Rattle.book_teaching.proofs.Whys.{teach-only, withdraw-only}
+use Rattle.book_joining.specs.Joining.{joinOf}
 use Rattle.octets.specs.Octets.{bytesOf, wordsOf}
-use Rattle.files.specs.Files.{mark, version, front-bytes, isMarked, storedIn, readBookOf, readRestOf, writeFileOf, readFileOf}
-use Rattle.sheet.specs.Sheets.{letter-K, letterByte}
-use Rattle.sheet.specs.declared.Letter.the-variants.{Teach, Withdraw, Judge}
+use Rattle.book_filing.specs.Files.{mark, version, front-bytes, isMarked, storedIn, readBookOf, readRestOf, writeFileOf, readFileOf}
+use Rattle.desk_input.specs.Sheets.{letter-K, letterByte}
+use Rattle.desk_input.specs.declared.Letter.the-variants.{Teach, Withdraw, Judge}
 use Rattle.promises.specs.Heard.{A, single, pair, slice}
 use Rattle.promises.specs.Whys.{slice-long, check-no-book, join-no-first, join-no-second, file-no-book, restore-longer}
 use Rattle.promises.proofs.Tables.Computed.{computes, desk-computes}

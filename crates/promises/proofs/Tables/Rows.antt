@@ -9,22 +9,22 @@ use lib.ListN.{set}
 use Rattle.words.specs.Compare.{signedFrom, signedOf}
 use Rattle.section.specs.Entries.{Entry, counted, add}
 use Rattle.section.specs.Near.{near, nowhere, entriesBelow, entriesAbove, lastPlace, firstPlace, nearOf}
-use Rattle.trees.specs.Trees.{Tree, node, bare, cons, words}
-use Rattle.trees.specs.Reading.{order, orderOf}
-use Rattle.trees.proofs.Fitting.{read-order}
+use Rattle.order.specs.Trees.{Tree, node, bare, cons, words}
+use Rattle.order.specs.Reading.{order, orderOf}
+use Rattle.order.proofs.Fitting.{read-order}
 use Rattle.book.specs.Book.{Book, used, lay, inForm}
 use Rattle.book.specs.Decoding.{formed}
 use Rattle.book.specs.Sound.{IsBook}
 use Rattle.book.specs.Taught.{Teaching, bookOf, agreeing}
-use Rattle.verdicts.specs.Judging.{judgeOf}
-use Rattle.verdicts.specs.Expecting.{nearPart, nearTop, expectedOn, expected, expectedOf}
-use Rattle.effects.specs.Calls.{hasParts}
+use Rattle.book_judging.specs.Judging.{judgeOf}
+use Rattle.book_judging.specs.Expecting.{nearPart, nearTop, expectedOn, expected, expectedOf}
+use Rattle.book_teaching.specs.Calls.{hasParts}
 use Rattle.figures.specs.Limits.{most-book-words}
 use Rattle.figures.specs.Answers.{answered}
 use Rattle.book.specs.Checking.{agreeOf}
 use Rattle.book.specs.Opening.{outcome, leave}
 use Rattle.book.proofs.Sound.{laid-book}
-use Rattle.sums.specs.Joining.{joinOf}
+use Rattle.book_joining.specs.Joining.{joinOf}
 use Rattle.promises.specs.NoMore.{FormOf, TaughtIn, IncludeTaught, setsOf}
 use Rattle.promises.specs.Heard.{A, B, C, single, opens, teaches, withdraws, slice, heard}
 use Rattle.promises.proofs.Tables.Computed.{computes}

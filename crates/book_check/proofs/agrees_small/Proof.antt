@@ -1,0 +1,35 @@
+-- `book_check::agrees_small` meets its contract: no section of a small book has more entries than its scratch has words. Assumes nothing.
+use native.Mathlib.Omega.{arith}
+use borrow.Author.Needs.{needs}
+use Rattle.book_check.specs.Agreeing.{small-entries}
+use Rattle.book_check.proofs.Counting.{few-entries}
+use Rattle.book_check.proofs.agrees_small.Statement.{statement}
+use Rattle.book_check.proofs.agrees_small.Tie as tie
+
+slice-aggregate-sections-agree : tie.Need-slice-aggregate-sections-agree
+slice-aggregate-sections-agree c = search needs
+
+slice-aggregate-sections-agree-2 : tie.Need-slice-aggregate-sections-agree-2
+slice-aggregate-sections-agree-2 c = search needs
+
+slice-aggregate-sections-agree-3 : tie.Need-slice-aggregate-sections-agree-3
+slice-aggregate-sections-agree-3 c = search needs
+
+sections-agree-requires : tie.Need-sections-agree-requires
+sections-agree-requires c κs =
+    let s = c .before .before .before .before .pre in
+    let roomy = few-entries _ _ (s .0) small-entries (omega (arith, s .1)) in
+    (s .0, (roomy, (roomy, roomy)))
+
+returns : tie.Need-returns
+returns c = search needs
+
+pub agrees-small-spec : {M : Type 1} → statement M
+agrees-small-spec =
+    tie.close
+    (tie.spec
+    slice-aggregate-sections-agree
+    slice-aggregate-sections-agree-2
+    slice-aggregate-sections-agree-3
+    sections-agree-requires
+    returns)

@@ -1,0 +1,40 @@
+-- `book_check::check` meets its contract, by the form of the book. Assumes nothing.
+use mathlib.Core.Path.{sym, _∙_}
+use borrow.Author.Needs.{needs}
+use Rattle.book.proofs.Holding.{holds}
+use Rattle.book.proofs.Checking.{check-unheld}
+use Rattle.book_check.proofs.check.Statement.{statement}
+use Rattle.book_check.proofs.check.Tie as tie
+
+in-form-requires : tie.Need-in-form-requires
+in-form-requires c κs = search needs
+
+enum-known-number : tie.Need-enum-known-number
+enum-known-number c = search needs
+
+answered-requires : tie.Need-answered-requires
+answered-requires c κs = search needs
+
+enum-known-places : tie.Need-enum-known-places
+enum-known-places c = search needs
+
+check-sections-requires : tie.Need-check-sections-requires
+check-sections-requires c κs = holds _ _ (sym (c .before .before .before .in-form .ensures) ∙ c .before .places .given .1)
+
+returns : tie.Need-returns
+returns c = c .answered .ensures ∙ sym (check-unheld _ _ (sym (c .before .before .before .before .in-form .ensures) ∙ c .before .before .number .given .1))
+
+returns-2 : tie.Need-returns-2
+returns-2 c = search needs
+
+pub check-spec : {M : Type 1} → statement M
+check-spec =
+    tie.close
+    (tie.spec
+    in-form-requires
+    enum-known-number
+    answered-requires
+    enum-known-places
+    check-sections-requires
+    returns
+    returns-2)

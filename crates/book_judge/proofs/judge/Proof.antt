@@ -1,0 +1,40 @@
+-- `book_judge::judge` meets its contract, by the form of the book. Assumes nothing.
+use mathlib.Core.Path.{sym, _∙_}
+use borrow.Author.Needs.{needs}
+use Rattle.book.proofs.Holding.{holds}
+use Rattle.book_judging.proofs.Judgements.{judgement-unheld}
+use Rattle.book_judge.proofs.judge.Statement.{statement}
+use Rattle.book_judge.proofs.judge.Tie as tie
+
+in-form-requires : tie.Need-in-form-requires
+in-form-requires c κs = search needs
+
+enum-known-number : tie.Need-enum-known-number
+enum-known-number c = search needs
+
+plainly-requires : tie.Need-plainly-requires
+plainly-requires c κs = search needs
+
+enum-known-places : tie.Need-enum-known-places
+enum-known-places c = search needs
+
+judge-order-requires : tie.Need-judge-order-requires
+judge-order-requires c κs = holds _ _ (sym (c .before .before .before .in-form .ensures) ∙ c .before .places .given .1)
+
+returns : tie.Need-returns
+returns c = c .plainly .ensures ∙ sym (judgement-unheld _ _ _ (sym (c .before .before .before .before .in-form .ensures) ∙ c .before .before .number .given .1))
+
+returns-2 : tie.Need-returns-2
+returns-2 c = search needs
+
+pub judge-spec : {M : Type 1} → statement M
+judge-spec =
+    tie.close
+    (tie.spec
+    in-form-requires
+    enum-known-number
+    plainly-requires
+    enum-known-places
+    judge-order-requires
+    returns
+    returns-2)
