@@ -74,7 +74,7 @@ module _ {A : Type 0} (r : ℕ → A) (ws : List ℕ) (f : Book → A) where
   on-unformed e g = rw (e, g)
 
   -- Where they are one it goes by the book.
-  pub on-formed : sized ws ≡ true → formed ws ≡ true → onBook r ws f ≡ f (bookIn ws)
+  on-formed : sized ws ≡ true → formed ws ≡ true → onBook r ws f ≡ f (bookIn ws)
   unfolding onBook decode byBook if_then_else_
   on-formed e g = rw (e, g)
 

@@ -9,7 +9,7 @@ use borrow.Author.Tests.{leb-true}
 use lib.ListN.{length, getD, drop}
 use Rattle.words.specs.Base.{if_then_else_, _∈_}
 use Rattle.words.proofs.Ordered.{before-lower, lower-before}
-use Rattle.words.proofs.Tests.{and-left, and-right, and-both}
+use Rattle.words.proofs.Tests.{and-left, and-right, and-both, never}
 use Rattle.figures.specs.Limits.{head-words, least-k, greatest-k}
 use Rattle.section.specs.Entries.{Entry, span, Below, Sorted}
 use Rattle.book.specs.Book.{Book, sectionOf, used, shallowest, deepest, entryInForm, ascendingFrom, sectionInForm}
@@ -98,7 +98,7 @@ told-places e = cc
 
 -- No refusal is a form.
 not-refused : {A : Type 0} {n : ℕ} {p : Places} → Refused n ≡ InForm p → A
-not-refused e = absurd (let z : _≡_ {A = ℕ} 0 1 = cc in omega arith)
+not-refused e = never cc
 
 module _ (ws : List ℕ) where
   -- Words that are told to be in form have the size and are.

@@ -10,7 +10,7 @@ use borrow.Author.Tests.{le-leb, leb-true, eq-eqb, eqb-true}
 use lib.ListN.{length, getD, drop, replicate, length-append, length-drop, length-replicate}
 use lib.Seq.{drop-drop, drop-append-seam}
 use Rattle.words.specs.Base.{_and_, if_then_else_, within, sameWords}
-use Rattle.words.proofs.Tests.{and-left, and-right, and-both, same-words, words-same, either}
+use Rattle.words.proofs.Tests.{and-left, and-right, and-both, same-words, words-same, either, never}
 use Rattle.figures.specs.Limits.{head-words, least-k, greatest-k, greatest-count}
 use Rattle.order.proofs.Fitting.{fits-even}
 use Rattle.section.specs.Entries.{Entry, firstEntry, entries, width, span, sectionWords, total, Even}
@@ -44,7 +44,7 @@ zeros-of (suc n) = and-both refl (zeros-of n)
 
 module _ (least greatest : ℕ) where
   -- A run is entries in form that ascend, all of whose words are there.
-  pub run-entries : (last : List ℕ) (n : ℕ) (ws : List ℕ) → run least greatest last n ws ≡ true
+  run-entries : (last : List ℕ) (n : ℕ) (ws : List ℕ) → run least greatest last n ws ≡ true
       → (span n ws ≤ length ws) × (ascendingFrom last least greatest (entries n ws) ≡ true)
   unfolding run span entries ascendingFrom
   run-entries last zero ws e = (zero-le, refl)
@@ -67,7 +67,7 @@ module _ (least greatest : ℕ) where
       (entries-run (firstEntry ws .key) n (drop (width ws) ws) (rw length-drop (omega arith)) (and-right _ _ x))))
 
   -- Entries in form have keys of two words a node.
-  pub ascending-even : (last : List ℕ) (es : List Entry) → ascendingFrom last least greatest es ≡ true → Even es
+  ascending-even : (last : List ℕ) (es : List Entry) → ascendingFrom last least greatest es ≡ true → Even es
   unfolding ascendingFrom Even entryInForm
   ascending-even last [] e = tt
   ascending-even last (x ∷ es) e =
@@ -378,7 +378,7 @@ decoded ws b e = go (formed ws) refl e
   where
     go : (t : Bool) → formed ws ≡ t → (if t then some (bookIn ws) else none) ≡ some b → (lay (length ws) b ≡ ws) × (inForm b ≡ true)
     go true f g = let q : bookIn ws ≡ b = cc in let p = formed-passed ws f in rw (← q) (is-laid ws p, is-formed ws p)
-    go false f g = absurd (let z : _≡_ {A = ℕ} 0 1 = cc in omega arith)
+    go false f g = never cc
 
 -- A book in form is what its words are decoded to.
 pub read-back : (n : ℕ) (b : Book) → inForm b ≡ true → decode (lay n b) ≡ some b

@@ -28,7 +28,7 @@ use Rattle.book.proofs.Sound.{form-sound}
 -- ---- the opened book
 
 -- Its words are k, the words of the head, and zeros.
-pub empty-laid : (n k : ℕ) → head-words ≤ n → lay n (bookOf k []) ≡ set (set (replicate n 0) 0 k) 1 head-words
+empty-laid : (n k : ℕ) → head-words ≤ n → lay n (bookOf k []) ≡ set (set (replicate n 0) 0 k) 1 head-words
 unfolding lay encode bookOf body used live total sectionWords
 empty-laid n k h = go (n - head-words) n (omega arith)
   where

@@ -12,7 +12,7 @@ use lib.ListN.{length, getD, replicate, getD-replicate}
 use lib.Seq.{getD-append-add}
 use Rattle.words.specs.Base.{if_then_else_, within, _∈_}
 use Rattle.words.specs.Compare.{_≺_}
-use Rattle.words.proofs.Tests.{and-left, and-right, and-both}
+use Rattle.words.proofs.Tests.{and-left, and-right, and-both, never}
 use Rattle.figures.specs.Limits.{head-words, most-book-words, least-k, greatest-k, least-count, greatest-count}
 use Rattle.figures.specs.Numbers.{book-size, not-in-form}
 use Rattle.order.specs.Trees.{Tree, words, subtrees}
@@ -192,7 +192,7 @@ module _ (ws : List ℕ) where
   refused-4-5 n (shorter r l) = let z : n ≡ book-size = cc in (omega arith, omega arith)
   refused-4-5 n (longer r l) = let z : n ≡ book-size = cc in (omega arith, omega arith)
   refused-4-5 n (formless r l m x) = let z : n ≡ not-in-form = cc in (omega arith, omega arith)
-  refused-4-5 n (book b r i) = absurd (let z : _≡_ {A = ℕ} 0 1 = cc in omega arith)
+  refused-4-5 n (book b r i) = never cc
 
   -- What it gives has its reason.
   pub why-is : WhyForm ws (bookFormOf ws)

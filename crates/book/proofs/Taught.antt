@@ -6,7 +6,7 @@ use mathlib.Core.List.{List, [], _∷_, List·Memᴰ·head as here, List·Memᴰ
 use native.Mathlib.Omega.{arith}
 use borrow.Author.Tests.{eq-eqb, eqb-true}
 use Rattle.words.specs.Base.{if_then_else_, _∈_}
-use Rattle.words.proofs.Tests.{no-test, and-left, and-right, and-both, same-words, words-same}
+use Rattle.words.proofs.Tests.{no-test, and-left, and-right, and-both, same-words, words-same, by-test}
 use Rattle.figures.specs.Limits.{greatest-depth, least-k, greatest-k, greatest-count}
 use Rattle.order.specs.Trees.{Tree, words}
 use Rattle.order.specs.Parts.{top, sameTree, lowParts, middleParts}
@@ -49,11 +49,7 @@ in-any u (there {x} {xs} m) = go (sameTree x u) (in-any u m)
 
 -- A tree that does not stand in a list is not found.
 pub lacks-any : (u : Tree) (ts : List Tree) → (u ∈ ts → ⊥) → anyTree u ts ≡ false
-lacks-any u ts lacks = go (anyTree u ts) refl
-  where
-    go : (b : Bool) → anyTree u ts ≡ b → anyTree u ts ≡ false
-    go true e = absurd (lacks (any-in u ts e))
-    go false e = e
+lacks-any u ts lacks = by-test (anyTree u ts) (λ e. absurd (lacks (any-in u ts e))) (λ e. e)
 
 -- ---- counts
 
@@ -81,27 +77,27 @@ taught-k k (o ∷ os) = taught-k k os
 
 module _ (k : ℕ) where
   -- Section T counts, of an order, the live teachings of it.
-  pub count-taught : (os : List Teaching) (u : Tree) → countOf (words u) (bookOf k os .T) ≡ teachings (λ t. sameTree t u) os
+  count-taught : (os : List Teaching) (u : Tree) → countOf (words u) (bookOf k os .T) ≡ teachings (λ t. sameTree t u) os
   unfolding bookOf taught teachings countOf
   count-taught [] u = refl
   count-taught (o ∷ os) u = rw (count-add (o .times) (words (o .order)) (words u) (bookOf k os .T), counts-tree (o .times) (o .order) u, count-taught os u)
 
   -- Section R counts, of a tree, the live teachings whose order has it as top.
-  pub count-tops : (os : List Teaching) (u : Tree) → countOf (words u) (bookOf k os .R) ≡ teachings (λ t. sameTree (top k t) u) os
+  count-tops : (os : List Teaching) (u : Tree) → countOf (words u) (bookOf k os .R) ≡ teachings (λ t. sameTree (top k t) u) os
   unfolding bookOf taught teachings countOf
   count-tops [] u = refl
   count-tops (o ∷ os) u =
       rw (taught-k k os, count-add (o .times) (words (top k (o .order))) (words u) (bookOf k os .R), counts-tree (o .times) (top k (o .order)) u, count-tops os u)
 
   -- Section L counts, of a tree, the live teachings whose order has it as a low part, once however often it occurs.
-  pub count-lows : (os : List Teaching) (u : Tree) → countOf (words u) (bookOf k os .L) ≡ teachings (λ t. anyTree u (lowParts k t)) os
+  count-lows : (os : List Teaching) (u : Tree) → countOf (words u) (bookOf k os .L) ≡ teachings (λ t. anyTree u (lowParts k t)) os
   unfolding bookOf taught teachings countOf
   count-lows [] u = refl
   count-lows (o ∷ os) u =
       rw (taught-k k os) (omega (arith, count-each (o .times) u (lowParts k (o .order)) (bookOf k os .L) (lows-once k (o .order)), count-lows os u))
 
   -- Section P counts, of a tree, the live teachings whose order has it as a middle part, once however often it occurs.
-  pub count-middles : (os : List Teaching) (u : Tree) → countOf (words u) (bookOf k os .P) ≡ teachings (λ t. anyTree u (middleParts k t)) os
+  count-middles : (os : List Teaching) (u : Tree) → countOf (words u) (bookOf k os .P) ≡ teachings (λ t. anyTree u (middleParts k t)) os
   unfolding bookOf taught teachings countOf
   count-middles [] u = refl
   count-middles (o ∷ os) u =
@@ -157,7 +153,7 @@ taught-fits k (o ∷ os) f Middles e m =
     each-keys (Fits (k - 1) (k - 1)) _ _ _ p (taught-fits k os (λ p i. f p (there i)) Middles) e m
 
 -- No test passes for more teachings than are live.
-pub teachings-most : (test : Tree → Bool) (k : ℕ) (os : List Teaching) → teachings test os ≤ live (bookOf k os)
+teachings-most : (test : Tree → Bool) (k : ℕ) (os : List Teaching) → teachings test os ≤ live (bookOf k os)
 unfolding teachings bookOf taught live total if_then_else_
 teachings-most test k [] = omega arith
 teachings-most test k (o ∷ os) = go (test (o .order)) (teachings-most test k os)

@@ -105,7 +105,7 @@ module _ (s : Section) (other b : Book) where
   used-shrinks = omega (arith, used-with s (lowerAll (sectionOf s other) (sectionOf s b)) b, used-split s b, size-lower-all (sectionOf s other) (sectionOf s b))
 
 -- A book to which another is added has the live teachings of both.
-pub live-added : (other b : Book) → live (changedIn Teach Taught other b) ≡ live b + live other
+live-added : (other b : Book) → live (changedIn Teach Taught other b) ≡ live b + live other
 unfolding live changedIn withSection sectionOf
 live-added other b = total-add-all (other .T) (b .T)
 

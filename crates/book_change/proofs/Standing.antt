@@ -36,7 +36,7 @@ module _ (ws : List ℕ) (s : Section) (at uses : ℕ) (h : SectionStands ws s a
   stand-start = start-used ws s (bookIn ws) (h .laid) stand-even stand-fits at (h .start)
 
   -- The head's live teachings are the book's.
-  pub stand-live : getD ws 2 0 ≡ live (bookIn ws)
+  stand-live : getD ws 2 0 ≡ live (bookIn ws)
   stand-live = live-laid ws (bookIn ws) (h .laid)
 
   -- The number of entries that the head has.
@@ -46,11 +46,11 @@ module _ (ws : List ℕ) (s : Section) (at uses : ℕ) (h : SectionStands ws s a
     stand-many = ap (getD ws word) refl ∙ ap (λ (i : ℕ). getD ws i 0) slot ∙ ap (λ (l : List ℕ). getD l (slotOf s) 0) (sym (h .laid)) ∙ slot-read s (length ws) (bookIn ws)
 
     -- So many entries are those of the section.
-    pub stand-entries : entries (getD ws word 0) (drop at ws) ≡ sectionOf s (bookIn ws)
+    stand-entries : entries (getD ws word 0) (drop at ws) ≡ sectionOf s (bookIn ws)
     stand-entries = part-entries ws s (bookIn ws) (h .laid) stand-even stand-fits at (h .start) (getD ws word 0) stand-many
 
     -- They take its words.
-    pub stand-span : span (getD ws word 0) (drop at ws) ≡ length (sectionWords (sectionOf s (bookIn ws)))
+    stand-span : span (getD ws word 0) (drop at ws) ≡ length (sectionWords (sectionOf s (bookIn ws)))
     stand-span = part-span ws s (bookIn ws) (h .laid) stand-even stand-fits at (h .start) (getD ws word 0) stand-many
 
     -- They stand so that they can be changed.

@@ -12,7 +12,8 @@ ghost use Rattle.book.specs.Book.{sectionOf, used, lay};
 ghost use Rattle.book.specs.Decoding.{bookIn};
 ghost use Rattle.book.specs.Holding.{Holds};
 ghost use Rattle.book_change.specs.Counts.{withinCounts};
-ghost use Rattle.book_change.specs.Changing.{changed, changedIn, changedBook, livesThen, LivesReady, Lacks, LacksEach, SectionStands, Ready, ReadyAll, weighedIn, weighedBook, lackingParts};
+ghost use Rattle.book_change.specs.Changing.{changed, changedIn, changedBook, livesThen, LivesReady, Lacks, LacksEach, SectionStands, Ready};
+ghost use Rattle.book_change.specs.Changing.{ReadyAll, weighedIn, weighedBook, lackingParts};
 ghost use Rattle.book_change.specs.declared.Change.the-variants.{Teach};
 use book::Places;
 use book::Section;
@@ -123,9 +124,12 @@ fn change_entries(
 ) -> Size
     requires { ⌜ Laid (now part) many used × Sorted (entries many (now part)) ⌝ }
     requires { ⌜ (span more (now other) ≤ length (now other)) × Sorted (entries more (now other)) ⌝ }
-    requires { ⌜ (length (sectionWords (changed change (entries more (now other)) (entries many (now part)))) + (used - span many (now part)) ≤ length (now part)) × (fitting (changed change (entries more (now other)) (entries many (now part))) ≡ true) ⌝ }
+    requires { ⌜ (length (sectionWords (changed change (entries more (now other)) (entries many (now part))))
+        + (used - span many (now part)) ≤ length (now part))
+        × (fitting (changed change (entries more (now other)) (entries many (now part))) ≡ true) ⌝ }
     requires { ⌜ Lacks change lacking (entries more (now other)) (entries many (now part)) ⌝ }
-    ensures { λ r. ⌜ Edited (now (part .entry)) many used (changed change (entries more (now (other .entry))) (entries many (now (part .entry)))) (now (part .exit)) r ⌝ }
+    ensures { λ r. ⌜ Edited (now (part .entry)) many used (changed change (entries more (now (other .entry))) (entries many (now (part .entry))))
+        (now (part .exit)) r ⌝ }
 {
     match change {
         Change::Teach => section_change::add_all(part, many, used, other, more, lacking),
@@ -166,7 +170,8 @@ fn change_section(
     requires { ⌜ Ready (length (now book)) change section (bookIn (now other)) (bookIn (now book)) ⌝ }
     requires { ⌜ Lacks change lacking (sectionOf section (bookIn (now other))) (sectionOf section (bookIn (now book))) ⌝ }
     ensures came { λ r. ⌜ r ≡ used (changedIn change section (bookIn (now (other .entry))) (bookIn (now (book .entry)))) ⌝ }
-    ensures wrote { λ _. ⌜ now (book .exit) ≡ lay (length (now (book .entry))) (changedIn change section (bookIn (now (other .entry))) (bookIn (now (book .entry)))) ⌝ }
+    ensures wrote { λ _. ⌜ now (book .exit) ≡ lay (length (now (book .entry)))
+        (changedIn change section (bookIn (now (other .entry))) (bookIn (now (book .entry)))) ⌝ }
 {
     let word = book::slot(section);
     let many = book[word] as usize;
@@ -207,7 +212,8 @@ pub fn change_book(
     requires { ⌜ Holds (now other) others ⌝ }
     requires { ⌜ ReadyAll (length (now book)) change (bookIn (now other)) (bookIn (now book)) ⌝ }
     requires { ⌜ LacksEach change lacks (bookIn (now other)) (bookIn (now book)) ⌝ }
-    ensures { λ _. ⌜ now (book .exit) ≡ lay (length (now (book .entry))) (changedBook change (bookIn (now (other .entry))) (bookIn (now (book .entry)))) ⌝ }
+    ensures { λ _. ⌜ now (book .exit) ≡ lay (length (now (book .entry)))
+        (changedBook change (bookIn (now (other .entry))) (bookIn (now (book .entry)))) ⌝ }
 {
     let p = change_section(
         book,
@@ -256,10 +262,13 @@ pub fn change_book(
 pub fn add_book(book: &mut [u16], places: Places, other: &[u16], others: Places) -> bool
     requires { ⌜ Holds (now book) places ⌝ }
     requires { ⌜ Holds (now other) others ⌝ }
-    requires { ⌜ (bookIn (now other) .k ≡ bookIn (now book) .k) × (withinCounts (changedBook Teach (bookIn (now other)) (bookIn (now book))) ≡ true) ⌝ }
-    ensures came { λ r. ⌜ r ≡ leb (used (changedBook Teach (bookIn (now (other .entry))) (bookIn (now (book .entry))))) (length (now (book .entry))) ⌝ }
+    requires { ⌜ (bookIn (now other) .k ≡ bookIn (now book) .k)
+        × (withinCounts (changedBook Teach (bookIn (now other)) (bookIn (now book))) ≡ true) ⌝ }
+    ensures came { λ r. ⌜ r ≡ leb (used (changedBook Teach (bookIn (now (other .entry))) (bookIn (now (book .entry)))))
+        (length (now (book .entry))) ⌝ }
     ensures wrote { λ r. ⌜ now (book .exit) ≡
-        (if r then lay (length (now (book .entry))) (changedBook Teach (bookIn (now (other .entry))) (bookIn (now (book .entry)))) else now (book .entry)) ⌝ }
+        (if r then lay (length (now (book .entry))) (changedBook Teach (bookIn (now (other .entry))) (bookIn (now (book .entry))))
+        else now (book .entry)) ⌝ }
 {
     let weighed = weigh_book(book, places, other, others);
     if book.len() - places.used < weighed.lacking {

@@ -85,7 +85,7 @@ module _ (b : Book) (form : inForm b ≡ true) (s : Section) where
       section-same _ counts (same-counts _ counts (form-sorted b form s) (teachings-sorted (b .k) (b .T) (form-orders b form) s) (known-agreed h))))
 
   -- With the head, a section's entries use four words each at least.
-  pub entries-use : head-words + 4 * length (sectionOf s b) ≤ used b
+  entries-use : head-words + 4 * length (sectionOf s b) ≤ used b
   entries-use =
       omega (
         arith,

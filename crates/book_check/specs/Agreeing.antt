@@ -13,7 +13,8 @@ use Rattle.book.specs.declared.Section.{Section}
 abbrev pub most-entries : ℕ
 most-entries = (most-book-words - head-words) / 4
 
--- The entries that the scratch for a small book has room for: places, counts and marks of so many are three kilobytes to clear, of the most twenty-four.
+-- The entries that the scratch for a small book has room for: places, counts and marks of so many are three kilobytes to clear, of the most
+-- twenty-four.
 abbrev pub small-entries : ℕ
 small-entries = 512
 

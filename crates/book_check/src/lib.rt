@@ -21,7 +21,8 @@ use figures::numbers;
 // No section has more entries: the shortest entry, that of a single node, takes four words.
 const MOST_ENTRIES: usize = (limits::MOST_BOOK_WORDS - limits::HEAD_WORDS) / 4;
 
-// The entries that the scratch for a small book has room for: places, counts and marks of so many are three kilobytes to clear, of the most twenty-four.
+// The entries that the scratch for a small book has room for: places, counts and marks of so many are three kilobytes to clear, of the most
+// twenty-four.
 const SMALL_ENTRIES: usize = 512;
 
 // No section of a book that uses at most so many words has more entries: the shortest takes four words.

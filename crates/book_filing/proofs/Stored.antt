@@ -23,7 +23,7 @@ use Rattle.octets.proofs.Bytes.{words-of-bytes, bytes-one}
 -- ---- the used words of a book
 
 -- A book in a slice of the words that it uses is its words alone.
-pub laid-used : (b : Book) → lay (used b) b ≡ encode b
+laid-used : (b : Book) → lay (used b) b ≡ encode b
 unfolding lay
 laid-used b = let z : used b - used b ≡ 0 = omega arith in ap (λ (n : ℕ). encode b ++ replicate n 0) z ∙ append-nil (encode b)
 

@@ -53,8 +53,8 @@ writeFileOf ws out =
 unfoldable pub isMarked : List ℕ → Bool
 isMarked file = leb front-bytes (length file) and sameWords (take mark-bytes file) mark
 
--- The book whose used words the bytes are, high byte first, if they are "the used words of a book in form", which stands in "a lent slice of 7 to 16,384
--- words" and so uses no more.
+-- The book whose used words the bytes are, high byte first, if they are "the used words of a book in form", which stands in "a lent slice of 7 to
+-- 16,384 words" and so uses no more.
 unfoldable pub storedIn : List ℕ → Option Book
 storedIn rest =
     let b : Book = bookIn (wordsOf rest) in

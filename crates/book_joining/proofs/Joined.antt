@@ -60,7 +60,7 @@ module _ (b c : Book) (g : Grown b) (h : Grown c) (same : b .k ≡ c .k) where
   joined-live = ap live joined-adds ∙ live-changed c b
 
   -- Either way round it is the same.
-  pub joined-turned : joined b c ≡ added b c
+  joined-turned : joined b c ≡ added b c
   joined-turned = joined-adds ∙ added-turns c b (in-order c h) (in-order b g) (sym same)
 
   -- It takes no fewer words than the second.

@@ -1,5 +1,6 @@
-// Judging: whether an order's top and parts are all in the book, and otherwise the line to fix: the first one whose part is not, while all that stands strictly
-// below it is; and where that part would stand in the book. Nothing lent is changed. Assumes nothing beyond each inner function's `requires`.
+// Judging: whether an order's top and parts are all in the book, and otherwise the line to fix: the first one whose part is not, while all that
+// stands strictly below it is; and where that part would stand in the book. Nothing lent is changed. Assumes nothing beyond each inner function's
+// `requires`.
 ghost use mathlib.Core.Path.{_≡_};
 ghost use Rattle.order.specs.Levels.{LinesLevelled};
 ghost use Rattle.order.specs.Spans.{GoneOver};
@@ -32,8 +33,8 @@ fn top_near(book: &[u16], places: Places, order: &[u16], spans: &[u16], levels: 
     around(find(book, places.tops, many, &cut[0..count]))
 }
 
-// The judgement at the line to fix; 0 alone where every part is known. It is the first unknown line if all strictly below it are known, and otherwise the one
-// to fix among those: each line is looked up at most once.
+// The judgement at the line to fix; 0 alone where every part is known. It is the first unknown line if all strictly below it are known, and
+// otherwise the one to fix among those: each line is looked up at most once.
 fn line_to_fix(
     book: &[u16],
     places: Places,
@@ -88,8 +89,8 @@ fn judge_order(book: &[u16], places: Places, order: &[u16]) -> Judgement
     Judgement { answer, near }
 }
 
-// Judges an order: 4, 5, 1, 2, or 0 if its top, its low parts and its middle parts are all in the book, and otherwise 20, 21 or 22 with a line and the
-// neighbours in the book of what is unknown there.
+// Judges an order: 4, 5, 1, 2, or 0 if its top, its low parts and its middle parts are all in the book, and otherwise 20, 21 or 22 with a line
+// and the neighbours in the book of what is unknown there.
 pub fn judge(book: &[u16], order: &[u16]) -> Judgement
     ensures { λ r. ⌜ r ≡ judgementOf (now (book .entry)) (now (order .entry)) ⌝ }
 {

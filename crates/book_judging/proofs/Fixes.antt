@@ -7,7 +7,7 @@ use mathlib.Core.List.{List, [], _∷_, _++_}
 use native.Mathlib.Omega.{arith}
 use lib.ListN.{length}
 use Rattle.words.specs.Base.{if_then_else_, _and_}
-use Rattle.words.proofs.Tests.{no-test}
+use Rattle.words.proofs.Tests.{no-test, never}
 use Rattle.order.specs.Trees.{Tree, node, Forest, bare, cons, subtrees, subtreesF, below}
 use Rattle.order.specs.Reading.{found}
 use Rattle.order.specs.Answers.{treeAt}
@@ -28,7 +28,7 @@ pub data Some (d : Doubt) : Type 0 where
 
 -- Where there is one, it is not none.
 pub no-some : {d : Doubt} → Some d → d ≡ no-doubt → ⊥
-no-some (some line s p) e = let z : _≡_ {A = ℕ} 0 1 = cc in omega arith
+no-some (some line s p) e = never cc
 
 -- A doubt that there is stands for both.
 or-some : {d : Doubt} (e : Doubt) → Some d → orDoubt d e ≡ d

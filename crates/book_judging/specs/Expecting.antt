@@ -1,4 +1,5 @@
--- What `judge` hands on of a doubted part's neighbours in the book, for all inputs (02, "Say what the book expected"). Assumes nothing: these are definitions.
+-- What `judge` hands on of a doubted part's neighbours in the book, for all inputs (02, "Say what the book expected"). Assumes nothing: these are
+-- definitions.
 use Prim.Native.Nat.{ℕ}
 use mathlib.Core.List.{List}
 use Rattle.words.specs.Base.{if_then_else_}

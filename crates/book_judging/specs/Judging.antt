@@ -1,4 +1,5 @@
--- What `judge` answers, for all inputs (01, "Parts" and "Numbers the desk hears"; 02, "Point at the line I can fix"). Assumes nothing: these are definitions.
+-- What `judge` answers, for all inputs (01, "Parts" and "Numbers the desk hears"; 02, "Point at the line I can fix"). Assumes nothing: these are
+-- definitions.
 use Prim.Native.Nat.{ℕ, suc}
 use mathlib.Core.Bool.{Bool, true, false}
 use mathlib.Core.List.{List, [], _∷_}

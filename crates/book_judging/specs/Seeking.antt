@@ -29,8 +29,8 @@ unfoldable pub unknownLine : Book → ℕ → List Tree → ℕ
 unknownLine b line [] = 0
 unknownLine b line (s ∷ ss) = if knows b s then unknownLine b (suc line) ss else line
 
--- The first line of the order whose part is unknown, of the lines from one up to another, both counted from 0; the line is counted from 1, and is 0 where
--- there is none.
+-- The first line of the order whose part is unknown, of the lines from one up to another, both counted from 0; the line is counted from 1, and is
+-- 0 where there is none.
 unfoldable pub unknownWithin : Book → List ℕ → ℕ → ℕ → ℕ
 unknownWithin b os from to = byOrder (orderOf os) (λ n. 0) (λ t. unknownLine b (suc from) (take (to - from) (drop from (subtrees t))))
 

@@ -1,5 +1,6 @@
--- The rows of 01's table that judging can answer, with the line that 02 wants ("Point at the line I can fix"), by document 000's positions, r, l and p and by
--- sound books, apart from the tests of `judgeOf`. That judging answers exactly by these rows is shown in proofs/Verdicts.antt. Assumes nothing: these are definitions.
+-- The rows of 01's table that judging can answer, with the line that 02 wants ("Point at the line I can fix"), by document 000's positions, r, l
+-- and p and by sound books, apart from the tests of `judgeOf`. That judging answers exactly by these rows is shown in proofs/Verdicts.antt.
+-- Assumes nothing: these are definitions.
 use Prim.Native.Nat.{ℕ, _-_, _≤_, _<_}
 use mathlib.Core.Path.{_≡_}
 use mathlib.Core.List.{List}
@@ -57,9 +58,11 @@ pub data Verdict (b : Book) (t : Tree) (a : Answer) : Type 0 where
   -- 20: "top not in R", with line 1, "only when no line is unknown"
   no-top : a ≡ record { number = top-unknown; line = 1 } → AllKnown b t → ((u : Tree) → IsR (b .k - 1) t u → In (b .R) u → ⊥) → Verdict b t a
   -- 21: "low part unknown", at "the least one whose part is unknown while nothing strictly below it is unknown"
-  no-low : (line : ℕ) (s : Tree) → a ≡ record { number = low-unknown; line = line } → Doubted b t line s → depth s ≤ b .k - 2 → (In (b .L) s → ⊥) → Verdict b t a
+  no-low : (line : ℕ) (s : Tree) → a ≡ record { number = low-unknown; line = line } → Doubted b t line s → depth s ≤ b .k - 2 → (In (b .L) s → ⊥)
+      → Verdict b t a
   -- 22: "middle part unknown", at that line
-  no-middle : (line : ℕ) (s : Tree) → a ≡ record { number = middle-unknown; line = line } → Doubted b t line s → b .k - 1 ≤ depth s → ((u : Tree) → IsR (b .k) s u → In (b .P) u → ⊥) → Verdict b t a
+  no-middle : (line : ℕ) (s : Tree) → a ≡ record { number = middle-unknown; line = line } → Doubted b t line s → b .k - 1 ≤ depth s
+      → ((u : Tree) → IsR (b .k) s u → In (b .P) u → ⊥) → Verdict b t a
 
 -- Why judging answers a: "Judge: 4, 5, 1, 2, verdict."
 pub data Judged (ws os : List ℕ) (a : Answer) : Type 0 where

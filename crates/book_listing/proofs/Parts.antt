@@ -8,7 +8,7 @@ use borrow.Author.Tests.{leb-true, leb-false, le-leb, lt-leb}
 use lib.Dec.{leb}
 use lib.ListN.{length, getD, drop, drop-of-length-le}
 use Rattle.words.specs.Base.{if_then_else_, keep, sameWords}
-use Rattle.words.proofs.Tests.{no-test}
+use Rattle.words.proofs.Tests.{no-test, by-test}
 use Rattle.figures.specs.Limits.{least-k, most-words}
 use Rattle.section.specs.Entries.{Entry, counted, has, Sorted, add, addOnce}
 use Rattle.section.proofs.Counts.{has-add}
@@ -69,11 +69,7 @@ lacks es s = not (has (words s) es)
 -- Once a tree has an entry, the other trees that lack one are all that lack one.
 lacks-known : (t u : Tree) (es : List Entry) → has (words t) es ≡ true → lacks es u ≡ (if not (sameTree t u) then lacks es u else false)
 unfolding if_then_else_
-lacks-known t u es h = go (sameTree t u) refl
-  where
-    go : (b : Bool) → sameTree t u ≡ b → lacks es u ≡ (if not (sameTree t u) then lacks es u else false)
-    go true e = rw (e, ← tree-same t u e, h)
-    go false e = rw e
+lacks-known t u es h = by-test (sameTree t u) (λ e. rw (e, ← tree-same t u e, h)) (λ e. rw e)
 
 -- With n more of a tree the other trees that lacked an entry lack one.
 lacks-added : (n : ℕ) (t u : Tree) (es : List Entry) → lacks (add n (words t) es) u ≡ (if not (sameTree t u) then lacks es u else false)
@@ -136,11 +132,10 @@ parts-once false k t = refl
 -- A subtree is of one kind or of the other.
 either-kind : (k : ℕ) (s : Tree) → least-k ≤ k → isMiddle k s ≡ not (isLow k s)
 unfolding isMiddle isLow
-either-kind k s h = go (leb (depth s) (k - 2)) refl
-  where
-    go : (b : Bool) → leb (depth s) (k - 2) ≡ b → leb (k - 1) (depth s) ≡ not (leb (depth s) (k - 2))
-    go true e = rw e (lt-leb (k - 1) (depth s) (omega (arith, leb-true (depth s) (k - 2) e)))
-    go false e = rw e (le-leb (k - 1) (depth s) (omega (arith, leb-false (depth s) (k - 2) e)))
+either-kind k s h =
+    by-test (leb (depth s) (k - 2))
+    (λ e. rw e (lt-leb (k - 1) (depth s) (omega (arith, leb-true (depth s) (k - 2) e))))
+    (λ e. rw e (le-leb (k - 1) (depth s) (omega (arith, leb-false (depth s) (k - 2) e))))
 
 module _ (k : ℕ) (s : Tree) (ss : List Tree) (least : least-k ≤ k) where
   -- A subtree of the kind stands for its cut at k-1.

@@ -49,10 +49,14 @@ fn tally_cut(
     requires { ⌜ most-words ≤ length (now part) ⌝ }
     requires { ⌜ Indexed (now starts) (now book) ⌝ }
     requires { ⌜ (length (now counts) ≡ length (now starts)) × (length (now marks) ≡ length (now starts)) ⌝ }
-    requires { ⌜ Few (talliedOnce (turn .by) (turn .number) (soughtIn (cutOf (now order) (line * 2) d) (listed (now starts) (now book))) (now marks) (now counts)) ⌝ }
+    requires { ⌜ Few (talliedOnce (turn .by) (turn .number) (soughtIn (cutOf (now order) (line * 2) d) (listed (now starts) (now book))) (now marks)
+        (now counts)) ⌝ }
     ensures known { λ r. ⌜ r ≡ has (cutOf (now (order .entry)) (line * 2) d) (listed (now (starts .entry)) (now (book .entry))) ⌝ }
-    ensures counted { λ _. ⌜ now (counts .exit) ≡ talliedOnce (turn .by) (turn .number) (soughtIn (cutOf (now (order .entry)) (line * 2) d) (listed (now (starts .entry)) (now (book .entry)))) (now (marks .entry)) (now (counts .entry)) ⌝ }
-    ensures noted { λ _. ⌜ now (marks .exit) ≡ markedOnce (turn .number) (soughtIn (cutOf (now (order .entry)) (line * 2) d) (listed (now (starts .entry)) (now (book .entry)))) (now (marks .entry)) ⌝ }
+    ensures counted { λ _. ⌜ now (counts .exit) ≡ talliedOnce (turn .by) (turn .number)
+        (soughtIn (cutOf (now (order .entry)) (line * 2) d) (listed (now (starts .entry)) (now (book .entry)))) (now (marks .entry))
+        (now (counts .entry)) ⌝ }
+    ensures noted { λ _. ⌜ now (marks .exit) ≡ markedOnce (turn .number)
+        (soughtIn (cutOf (now (order .entry)) (line * 2) d) (listed (now (starts .entry)) (now (book .entry)))) (now (marks .entry)) ⌝ }
 {
     let end = order_cuts::put_cut(order, spans, levels, line, d, part);
     section_tally::tally_once(
@@ -87,7 +91,8 @@ fn tally_parts(
     requires { ⌜ most-words ≤ length (now part) ⌝ }
     requires { ⌜ Indexed (now starts) (now book) ⌝ }
     requires { ⌜ TurnReady (turn .number) (turn .by) (listOf low (k .k) 1 (now order)) (listed (now starts) (now book)) (now counts) (now marks) ⌝ }
-    ensures { λ r. ⌜ Taken (turn .number) (turn .by) (listOf low (k .k) 1 (now (order .entry))) (listed (now (starts .entry)) (now (book .entry))) (now (counts .entry)) (now (marks .entry)) (now (counts .exit)) (now (marks .exit)) r ⌝ }
+    ensures { λ r. ⌜ Taken (turn .number) (turn .by) (listOf low (k .k) 1 (now (order .entry))) (listed (now (starts .entry)) (now (book .entry)))
+        (now (counts .entry)) (now (marks .entry)) (now (counts .exit)) (now (marks .exit)) r ⌝ }
 {
     let lines = order.len() / 2;
     let mut line: usize = 0;
@@ -135,8 +140,10 @@ fn tally_section(
     requires { ⌜ LinesLevelled (now order) (now levels) ⌝ }
     requires { ⌜ most-words ≤ length (now part) ⌝ }
     requires { ⌜ Indexed (now starts) (now book) ⌝ }
-    requires { ⌜ TurnReady (turn .number) (turn .by) (partsIn section (k .k) (now order)) (listed (now starts) (now book)) (now counts) (now marks) ⌝ }
-    ensures { λ r. ⌜ Taken (turn .number) (turn .by) (partsIn section (k .k) (now (order .entry))) (listed (now (starts .entry)) (now (book .entry))) (now (counts .entry)) (now (marks .entry)) (now (counts .exit)) (now (marks .exit)) r ⌝ }
+    requires { ⌜ TurnReady (turn .number) (turn .by) (partsIn section (k .k) (now order)) (listed (now starts) (now book)) (now counts)
+        (now marks) ⌝ }
+    ensures { λ r. ⌜ Taken (turn .number) (turn .by) (partsIn section (k .k) (now (order .entry))) (listed (now (starts .entry)) (now (book .entry)))
+        (now (counts .entry)) (now (marks .entry)) (now (counts .exit)) (now (marks .exit)) r ⌝ }
 {
     match section {
         Section::Taught => {
@@ -200,8 +207,8 @@ fn tally_section(
     }
 }
 
-// Tallies all that one teaching of an order counts in a section, as `tally_section` does, once the order is gone over. Lent as scratch: spans and levels for its
-// lines, and words for a part.
+// Tallies all that one teaching of an order counts in a section, as `tally_section` does, once the order is gone over. Lent as scratch: spans and
+// levels for its lines, and words for a part.
 fn take_turn(
     order: &[u16],
     k: Depth,
@@ -219,8 +226,10 @@ fn take_turn(
     requires { ⌜ least-k ≤ k .k ⌝ }
     requires { ⌜ (most-words ≤ length (now spans)) × (most-nodes ≤ length (now levels)) × (most-words ≤ length (now part)) ⌝ }
     requires { ⌜ Indexed (now starts) (now book) ⌝ }
-    requires { ⌜ TurnReady (turn .number) (turn .by) (partsIn section (k .k) (now order)) (listed (now starts) (now book)) (now counts) (now marks) ⌝ }
-    ensures { λ r. ⌜ Taken (turn .number) (turn .by) (partsIn section (k .k) (now (order .entry))) (listed (now (starts .entry)) (now (book .entry))) (now (counts .entry)) (now (marks .entry)) (now (counts .exit)) (now (marks .exit)) r ⌝ }
+    requires { ⌜ TurnReady (turn .number) (turn .by) (partsIn section (k .k) (now order)) (listed (now starts) (now book)) (now counts)
+        (now marks) ⌝ }
+    ensures { λ r. ⌜ Taken (turn .number) (turn .by) (partsIn section (k .k) (now (order .entry))) (listed (now (starts .entry)) (now (book .entry)))
+        (now (counts .entry)) (now (marks .entry)) (now (counts .exit)) (now (marks .exit)) r ⌝ }
 {
     order_check::cause_into(order, spans);
     order_check::level_lines(order, spans, levels);
@@ -258,8 +267,10 @@ fn tally_order(
     requires { ⌜ least-k ≤ k .k ⌝ }
     requires { ⌜ (most-words ≤ length (now spans)) × (most-nodes ≤ length (now levels)) × (most-words ≤ length (now part)) ⌝ }
     requires { ⌜ Indexed (now starts) (now book) ⌝ }
-    requires { ⌜ TurnReady turn (firstEntry (drop at (now book)) .count) (partsIn section (k .k) (firstEntry (drop at (now book)) .key)) (listed (now starts) (now book)) (now counts) (now marks) ⌝ }
-    ensures { λ r. ⌜ Taken turn (firstEntry (drop at (now (book .entry))) .count) (partsIn section (k .k) (firstEntry (drop at (now (book .entry))) .key))
+    requires { ⌜ TurnReady turn (firstEntry (drop at (now book)) .count) (partsIn section (k .k) (firstEntry (drop at (now book)) .key))
+        (listed (now starts) (now book)) (now counts) (now marks) ⌝ }
+    ensures { λ r. ⌜ Taken turn (firstEntry (drop at (now (book .entry))) .count)
+        (partsIn section (k .k) (firstEntry (drop at (now (book .entry))) .key))
         (listed (now (starts .entry)) (now (book .entry))) (now (counts .entry)) (now (marks .entry)) (now (counts .exit)) (now (marks .exit)) r ⌝ }
 {
     let start = at + 2;
@@ -293,13 +304,17 @@ pub fn tally_taught(
 ) -> bool
     requires { ⌜ Holds (now book) places ⌝ }
     requires { ⌜ Indexed (now starts) (now book) ⌝ }
-    requires { ⌜ (length (now counts) ≡ length (now starts)) × Few (talliedAll section (bookIn (now book) .k) (bookIn (now book) .T) (listed (now starts) (now book)) (now counts)) ⌝ }
+    requires { ⌜ (length (now counts) ≡ length (now starts))
+        × Few (talliedAll section (bookIn (now book) .k) (bookIn (now book) .T) (listed (now starts) (now book)) (now counts)) ⌝ }
     requires { ⌜ now marks ≡ replicate (length (now starts)) 0 ⌝ }
-    ensures known { λ r. ⌜ r ≡ allKnown section (bookIn (now (book .entry)) .k) (bookIn (now (book .entry)) .T) (listed (now (starts .entry)) (now (book .entry))) ⌝ }
+    ensures known { λ r. ⌜ r ≡ allKnown section (bookIn (now (book .entry)) .k) (bookIn (now (book .entry)) .T)
+        (listed (now (starts .entry)) (now (book .entry))) ⌝ }
     ensures counted { λ r. ⌜ (r ≡ true → now (counts .exit) ≡
-        talliedAll section (bookIn (now (book .entry)) .k) (bookIn (now (book .entry)) .T) (listed (now (starts .entry)) (now (book .entry))) (now (counts .entry))) ⌝ }
+        talliedAll section (bookIn (now (book .entry)) .k) (bookIn (now (book .entry)) .T) (listed (now (starts .entry)) (now (book .entry)))
+        (now (counts .entry))) ⌝ }
     ensures noted { λ r. ⌜ (r ≡ true → now (marks .exit) ≡
-        markedAll section (bookIn (now (book .entry)) .k) (bookIn (now (book .entry)) .T) (listed (now (starts .entry)) (now (book .entry))) (now (marks .entry))) ⌝ }
+        markedAll section (bookIn (now (book .entry)) .k) (bookIn (now (book .entry)) .T) (listed (now (starts .entry)) (now (book .entry)))
+        (now (marks .entry))) ⌝ }
 {
     let mut spans = [0u16; limits::MOST_WORDS];
     let mut levels = [0u8; limits::MOST_NODES];

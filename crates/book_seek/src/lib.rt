@@ -1,5 +1,5 @@
-// Looking up the parts of an order's lines in a book: the first line whose part is not in its section, and where it would stand there. Nothing lent is changed
-// but a scratch. Assumes nothing beyond each function's `requires`.
+// Looking up the parts of an order's lines in a book: the first line whose part is not in its section, and where it would stand there. Nothing
+// lent is changed but a scratch. Assumes nothing beyond each function's `requires`.
 ghost use mathlib.Core.Path.{_≡_};
 ghost use Prim.Native.Nat.{_+_, _*_, _/_, _≤_, _<_};
 ghost use lib.ListN.{length, getD};
@@ -74,7 +74,8 @@ fn against(tree: &[u16], part: Sought, order: &[u16], cut: &[u16]) -> Compared
     words::standing(tree, &cut[from..to])
 }
 
-// The place of the first word, counted from 1, in which the entry at word `at`, the first of some, differs from the part that is sought; 0 where there is none.
+// The place of the first word, counted from 1, in which the entry at word `at`, the first of some, differs from the part that is sought; 0 where
+// there is none.
 fn part_place(
     book: &[u16],
     at: usize,
@@ -95,8 +96,8 @@ fn part_place(
     place_at(book, at, some, &cut[from..to])
 }
 
-// The judgement at a line whose part is not in its section, where a search has stopped: `last` is the last entry that it has passed, and `left` entries are
-// left from word `at` on.
+// The judgement at a line whose part is not in its section, where a search has stopped: `last` is the last entry that it has passed, and `left`
+// entries are left from word `at` on.
 fn unknown(
     book: &[u16],
     part: Sought,
@@ -143,7 +144,8 @@ pub fn plainly(number: u16) -> Judgement
     Judgement { answer, near }
 }
 
-// The judgement at the first line whose part is unknown, of the lines from `from` up to `to`, both counted from 0. Where every part is known it is 0 alone.
+// The judgement at the first line whose part is unknown, of the lines from `from` up to `to`, both counted from 0. Where every part is known it
+// is 0 alone.
 pub fn first_unknown(
     book: &[u16],
     places: Places,
@@ -157,7 +159,8 @@ pub fn first_unknown(
     requires { ⌜ GoneOver (now order) (now spans) ⌝ }
     requires { ⌜ (from ≤ to) × (to ≤ length (now order) / 2) ⌝ }
     requires { ⌜ LinesLevelled (now order) (now levels) ⌝ }
-    ensures { λ r. ⌜ JudgedAt (bookIn (now (book .entry))) (now (order .entry)) (unknownWithin (bookIn (now (book .entry))) (now (order .entry)) from to) r ⌝ }
+    ensures { λ r. ⌜ JudgedAt (bookIn (now (book .entry))) (now (order .entry))
+        (unknownWithin (bookIn (now (book .entry))) (now (order .entry)) from to) r ⌝ }
 {
     let mut cut = [0u16; limits::MOST_WORDS];
     let mut line = from;

@@ -62,7 +62,7 @@ count-lower-each z (t ∷ ts) es s =
     omega (arith, count-lower (words t) z (lowerEach ts es) (sorted-lower-each ts es s), count-add 1 (words t) z (addEach 1 ts []), count-lower-each z ts es s)
 
 -- One less of each tree of a list without repeats is one less of each key of their section.
-pub lower-each-all : (ts : List Tree) (es : List Entry) → NoRepeats ts → Sorted es → lowerEach ts es ≡ lowerAll (addEach 1 ts []) es
+lower-each-all : (ts : List Tree) (es : List Entry) → NoRepeats ts → Sorted es → lowerEach ts es ≡ lowerAll (addEach 1 ts []) es
 lower-each-all ts es r s =
     let own : Sorted (addEach 1 ts []) = each-sorted 1 ts (omega arith) in
     same-counts _ _ (sorted-lower-each ts es s) (sorted-lower-all _ es s) (λ z.
@@ -168,7 +168,7 @@ each-in (t ∷ ts) u (there m) = rw (has-add 1 (words t) (words u) (addEach 1 ts
     go false = refl
 
 -- A section that lacks no words of one of each tree has an entry for each.
-pub lacking-no-tree : (ts : List Tree) (es : List Entry) → lackingWords (addEach 1 ts []) es ≡ 0 → hasEach ts es ≡ true
+lacking-no-tree : (ts : List Tree) (es : List Entry) → lackingWords (addEach 1 ts []) es ≡ 0 → hasEach ts es ≡ true
 lacking-no-tree ts es h = each-has ts es (λ t m.
     let i = has-entry (words t) (addEach 1 ts []) (each-in ts t m) in
     ap (λ (z : List ℕ). has z es) (sym (i .2)) ∙ lacking-none _ es h (i .0) (i .1))

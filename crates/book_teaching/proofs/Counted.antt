@@ -20,7 +20,7 @@ use Rattle.book_teaching.proofs.Adds.{each-has, used-taught}
 
 module _ (t : Tree) (b : Book) (sorted : (s : Section) → Sorted (sectionOf s b)) where
   -- Each tree that the teaching counts in a section has an entry there.
-  pub taught-entry : (s : Section) (u : Tree) → u ∈ treesIn s (b .k) t → has (words u) (sectionOf s (taught 1 t b)) ≡ true
+  taught-entry : (s : Section) (u : Tree) → u ∈ treesIn s (b .k) t → has (words u) (sectionOf s (taught 1 t b)) ≡ true
   taught-entry s u m =
       let some : 1 ≤ countOf (words u) (sectionOf s (taught 1 t b)) = omega (arith, count-after-taught 1 t u b s, times-counted s (b .k) 1 t u m) in
       counts-has (words u) (sectionOf s (taught 1 t b)) (taught-in-order 1 t b (omega arith) sorted s) some

@@ -33,7 +33,7 @@ use Rattle.book_teaching.proofs.Adds.{taught-changed, withdrawn-changed
 
 module _ (k : ℕ) (t : Tree) where
   -- It is in form.
-  pub own-form : least-k ≤ k → k ≤ greatest-k → Fits 0 greatest-depth (words t) → inForm (ownBook k 1 t) ≡ true
+  own-form : least-k ≤ k → k ≤ greatest-k → Fits 0 greatest-depth (words t) → inForm (ownBook k 1 t) ≡ true
   own-form l g fits = taught-formed k (record { order = t; times = 1 } ∷ []) times limits (omega (arith, own-live k 1 t)) l g
     where
       times : (o : Teaching) → o ∈ (record { order = t; times = 1 } ∷ []) → 1 ≤ o .times

@@ -27,9 +27,11 @@ pub data WhyTaught (ws os : List ℕ) (o : Outcome) : Type 0 where
   -- 7: "live teachings or a touched count would pass 65,535"
   would-pass : (b : Book) (t : Tree) → o ≡ leave ws too-many → IsBook ws b → IsOrder os t → WouldPass t b → WhyTaught ws os o
   -- 6: "the result needs more words than the book slice has"
-  needs-more : (b : Book) (t : Tree) → o ≡ leave ws no-room → IsBook ws b → IsOrder os t → (WouldPass t b → ⊥) → length ws < used (taught 1 t b) → WhyTaught ws os o
+  needs-more : (b : Book) (t : Tree) → o ≡ leave ws no-room → IsBook ws b → IsOrder os t → (WouldPass t b → ⊥) → length ws < used (taught 1 t b)
+      → WhyTaught ws os o
   -- 0: "done", and "Success writes the book" with one teaching more
-  book-taught : (b : Book) (t : Tree) → o ≡ writeBook ws (taught 1 t b) → IsBook ws b → IsOrder os t → (WouldPass t b → ⊥) → used (taught 1 t b) ≤ length ws → WhyTaught ws os o
+  book-taught : (b : Book) (t : Tree) → o ≡ writeBook ws (taught 1 t b) → IsBook ws b → IsOrder os t → (WouldPass t b → ⊥)
+      → used (taught 1 t b) ≤ length ws → WhyTaught ws os o
 
 -- Why withdrawing answers and leaves the words as o has them: "Withdraw: 4, 5, 1, 2, 8, 9."
 pub data WhyWithdrawn (ws os : List ℕ) (o : Outcome) : Type 0 where
@@ -40,6 +42,8 @@ pub data WhyWithdrawn (ws os : List ℕ) (o : Outcome) : Type 0 where
   -- 8: "order has no entry in T"
   no-entry : (b : Book) (t : Tree) → o ≡ leave ws not-taught → IsBook ws b → IsOrder os t → has (words t) (b .T) ≡ false → WhyWithdrawn ws os o
   -- 9: "withdraw: a part of the order is missing from R, L or P"
-  part-missing : (b : Book) (t : Tree) → o ≡ leave ws not-agreeing → IsBook ws b → IsOrder os t → has (words t) (b .T) ≡ true → PartMissing t b → WhyWithdrawn ws os o
+  part-missing : (b : Book) (t : Tree) → o ≡ leave ws not-agreeing → IsBook ws b → IsOrder os t → has (words t) (b .T) ≡ true → PartMissing t b
+      → WhyWithdrawn ws os o
   -- 0: "done", and "Success writes the book" with one teaching less
-  book-withdrawn : (b : Book) (t : Tree) → o ≡ writeBook ws (withdrawn t b) → IsBook ws b → IsOrder os t → has (words t) (b .T) ≡ true → (PartMissing t b → ⊥) → WhyWithdrawn ws os o
+  book-withdrawn : (b : Book) (t : Tree) → o ≡ writeBook ws (withdrawn t b) → IsBook ws b → IsOrder os t → has (words t) (b .T) ≡ true
+      → (PartMissing t b → ⊥) → WhyWithdrawn ws os o

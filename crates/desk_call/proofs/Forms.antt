@@ -28,7 +28,7 @@ use Rattle.desk_call.specs.Asking.{askOf, callOf}
 -- ---- a form that is read
 
 -- A form has at most 128 words.
-pub form-short : (text : List ℕ) (xs : List Line) → formOf text ≡ form xs → length (wordsOfLines xs) ≤ most-words
+form-short : (text : List ℕ) (xs : List Line) → formOf text ≡ form xs → length (wordsOfLines xs) ≤ most-words
 form-short text xs e =
     let o = form-order text xs e in
     short-order (wordsOfLines xs) (o .0) (order-passed (wordsOfLines xs) (o .0) (o .1))

@@ -11,7 +11,7 @@ use lib.ListN.{length, getD, drop, length-drop, drop-of-length-le}
 use lib.Seq.{drop-cons}
 use borrow.Author.Tests.{eq-eqb, ne-eqb, lt-ltb, le-ltb, le-leb, lt-leb}
 use Rattle.words.specs.Base.{_and_, if_then_else_, within}
-use Rattle.words.proofs.Tests.{fails-left, fails-right}
+use Rattle.words.proofs.Tests.{fails-left, fails-right, never}
 use Rattle.figures.specs.Limits.{least-k, greatest-k, most-input}
 use Rattle.figures.specs.Numbers.{too-large, k-outside, no-form}
 use Rattle.figures.specs.Answers.{answered, depthOf}
@@ -182,17 +182,17 @@ begins input d e = go (decLe 4 (length input))
     tested : 4 ≤ length input → (t : Bool)
         → firstLine input ≡ (if t then asks (figure (getD input 2 0)) (drop 4 input) else otherwise) → Begins input (d .k)
     tested h true q = record { enough = h; first = q ∙ ap (λ (k : ℕ). asks k (drop 4 input)) (allowed-k _ d (ap depthBy (sym q) ∙ e)) }
-    tested h false q = absurd (let o : depthBy otherwise ≡ Allowed d = ap depthBy (sym q) ∙ e in let z : _≡_ {A = ℕ} 0 1 = cc in omega arith)
+    tested h false q = absurd (let o : depthBy otherwise ≡ Allowed d = ap depthBy (sym q) ∙ e in never cc)
 
     -- By whether there are four.
     go : Dec (4 ≤ length input) → Begins input (d .k)
     go (yes h) = tested h (isFirst (getD input 0 0) (getD input 1 0) (getD input 2 0) (getD input 3 0)) (first-tests input h)
-    go (no n) = let o = short-first input (omega arith) in absurd (let z : _≡_ {A = ℕ} 0 1 = cc in omega arith)
+    go (no n) = let o = short-first input (omega arith) in never cc
 
 -- A first line with no k is otherwise.
 no-k : (f : FirstLine) → depthBy f ≡ Outside → f ≡ otherwise
 no-k otherwise e = refl
-no-k (asks k rest) e = absurd (let z : _≡_ {A = ℕ} 0 1 = cc in omega arith)
+no-k (asks k rest) e = never cc
 
 -- Bytes before the first letter are a fault.
 some-before : (k : ℕ) (bs : List ℕ) (calls : List FormCall) → 0 < length bs → openingBy (handedBy k bs calls) ≡ Fault (record { number = no-form; line = 2 })

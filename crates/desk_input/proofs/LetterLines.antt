@@ -4,11 +4,10 @@ use Prim.Native.Nat.{ℕ}
 use mathlib.Core.Path.{_≡_, refl, ap, sym, subst, _∙_}
 use mathlib.Core.Bool.{Bool, true, false}
 use mathlib.Core.List.{List, [], _∷_, _++_}
-use native.Mathlib.Omega.{arith}
 use lib.Dec.{eqb}
 use borrow.Author.Tests.{eqb-true}
 use Rattle.words.specs.Base.{if_then_else_}
-use Rattle.words.proofs.Tests.{no-test}
+use Rattle.words.proofs.Tests.{no-test, never}
 use Rattle.form.specs.Text.{line-feed}
 use Rattle.desk_input.specs.Sheets.{letterByte, letterOf}
 use Rattle.desk_input.specs.Places.{letterAt}
@@ -32,7 +31,7 @@ asks-letter b x e = go (eqb b (letterByte Teach)) refl (eqb b (letterByte Withdr
     go true p w q j r f = let z : Teach ≡ x = cc in eqb-true b _ p ∙ ap letterByte z
     go false p true q j r f = let z : Withdraw ≡ x = cc in eqb-true b _ q ∙ ap letterByte z
     go false p false q true r f = let z : Judge ≡ x = cc in eqb-true b _ r ∙ ap letterByte z
-    go false p false q false r f = absurd (let z : _≡_ {A = ℕ} 0 1 = cc in omega arith)
+    go false p false q false r f = never cc
 
 -- Bytes that begin with a letter line begin with that letter and LF.
 pub letter-front : (b e : ℕ) (rest : List ℕ) (x : Letter) → letterAt (b ∷ e ∷ rest) ≡ Asks x → b ∷ e ∷ rest ≡ letterByte x ∷ line-feed ∷ rest
@@ -42,7 +41,7 @@ letter-front b e rest x a = go (eqb e line-feed) refl a
     -- By whether the second byte is LF.
     go : (t : Bool) → eqb e line-feed ≡ t → (if t then letterOf b else Other) ≡ Asks x → b ∷ e ∷ rest ≡ letterByte x ∷ line-feed ∷ rest
     go true p f = rw (asks-letter b x f, eqb-true e line-feed p)
-    go false p f = absurd (let z : _≡_ {A = ℕ} 0 1 = cc in omega arith)
+    go false p f = never cc
 
 -- A letter and LF are a letter line, whatever follows.
 pub letter-there : (x : Letter) (rest : List ℕ) → letterAt (letterByte x ∷ line-feed ∷ rest) ≡ Asks x
@@ -55,8 +54,8 @@ letter-there Judge rest = refl
 
 -- Bytes that begin with a letter line are spelt so.
 pub letter-is : (bs : List ℕ) (x : Letter) → letterAt bs ≡ Asks x → LetterFirst bs
-letter-is [] x e = unfold letterAt in absurd (let z : _≡_ {A = ℕ} 0 1 = cc in omega arith)
-letter-is (b ∷ []) x e = unfold letterAt in absurd (let z : _≡_ {A = ℕ} 0 1 = cc in omega arith)
+letter-is [] x e = unfold letterAt in never cc
+letter-is (b ∷ []) x e = unfold letterAt in never cc
 letter-is (b ∷ f ∷ rest) x e = record { letter = x; behind = rest; spelt = letter-front b f rest x e }
 
 -- Bytes that are spelt as a letter line at their front begin with one.
@@ -65,7 +64,7 @@ letter-only bs f = ap letterAt (f .spelt) ∙ letter-there (f .letter) (f .behin
 
 -- Bytes that begin with another line are not spelt so.
 pub not-letter : (bs : List ℕ) → letterAt bs ≡ Other → LetterFirst bs → ⊥
-not-letter bs e f = let y = letter-only bs f in let z : _≡_ {A = ℕ} 0 1 = cc in omega arith
+not-letter bs e f = let y = letter-only bs f in never cc
 
 -- Bytes that begin with none ask for nothing there.
 pub letter-none : (bs : List ℕ) → (LetterFirst bs → ⊥) → letterAt bs ≡ Other
@@ -103,7 +102,7 @@ told-feed b (c ∷ bs) e = go (told-feed c bs e)
   where
     -- By how the later bytes end.
     go : StartsLine (c ∷ bs) → StartsLine (b ∷ c ∷ bs)
-    go (nothing-before z) = absurd (let y : _≡_ {A = ℕ} 0 1 = cc in omega arith)
+    go (nothing-before z) = never cc
     go (behind-feed front z) = behind-feed (b ∷ front) (ap (λ (r : List ℕ). b ∷ r) z)
 
 -- The test tells nothing else.
@@ -154,8 +153,8 @@ plain-none starts l = go (l .front) (l .is)
   where
     -- By the bytes before the letter line.
     go : (front : List ℕ) → [] ≡ front ++ (letterByte (l .letter) ∷ line-feed ∷ l .rest) → ⊥
-    go [] e = let z : _≡_ {A = ℕ} 0 1 = cc in omega arith
-    go (b ∷ front) e = let z : _≡_ {A = ℕ} 0 1 = cc in omega arith
+    go [] e = never cc
+    go (b ∷ front) e = never cc
 
 -- A letter line behind a byte is one from that byte on.
 letter-later : (starts : Bool) (b : ℕ) (bs : List ℕ) → LetterFrom (eqb b line-feed) bs → LetterFrom starts (b ∷ bs)

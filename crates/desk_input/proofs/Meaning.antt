@@ -55,7 +55,7 @@ joined-from true (b ∷ e ∷ rest) = go (letterAt (b ∷ e ∷ rest)) refl (joi
     go Other p q r = ap sheetBytes (byte-other b (e ∷ rest) p) ∙ joined-front b _ ∙ ap (λ (s : List ℕ). b ∷ s) q
 
 -- What bytes are split into gives them again.
-pub sheet-joined : (bs : List ℕ) → sheetBytes (sheetOf bs) ≡ bs
+sheet-joined : (bs : List ℕ) → sheetBytes (sheetOf bs) ≡ bs
 sheet-joined bs = joined-from true bs
 
 -- ---- the parts of a sheet

@@ -9,7 +9,7 @@ use lib.Dec.{eqb}
 use lib.ListN.{length, drop}
 use borrow.Author.Tests.{eqb-true, leb-true, le-leb}
 use Rattle.words.specs.Base.{_and_, if_then_else_, within}
-use Rattle.words.proofs.Tests.{and-left, and-right, and-both}
+use Rattle.words.proofs.Tests.{and-left, and-right, and-both, never}
 use Rattle.figures.specs.Limits.{least-k, greatest-k, most-input}
 use Rattle.figures.specs.Numbers.{k-outside, no-form}
 use Rattle.figures.specs.Answers.{answered}
@@ -46,10 +46,10 @@ first-spelt a b c d rest e =
 -- A first line with a k is spelt as line 1 is.
 pub first-is : (input : List ℕ) (k : ℕ) (rest : List ℕ) → firstLine input ≡ asks k rest → OpensWith input k rest
 unfolding firstLine if_then_else_
-first-is [] k rest e = absurd (let z : _≡_ {A = ℕ} 0 1 = cc in omega arith)
-first-is (a ∷ []) k rest e = absurd (let z : _≡_ {A = ℕ} 0 1 = cc in omega arith)
-first-is (a ∷ b ∷ []) k rest e = absurd (let z : _≡_ {A = ℕ} 0 1 = cc in omega arith)
-first-is (a ∷ b ∷ c ∷ []) k rest e = absurd (let z : _≡_ {A = ℕ} 0 1 = cc in omega arith)
+first-is [] k rest e = never cc
+first-is (a ∷ []) k rest e = never cc
+first-is (a ∷ b ∷ []) k rest e = never cc
+first-is (a ∷ b ∷ c ∷ []) k rest e = never cc
 first-is (a ∷ b ∷ c ∷ d ∷ r) k rest e = go (isFirst a b c d) refl e
   where
     -- By the tests of line 1.
@@ -58,7 +58,7 @@ first-is (a ∷ b ∷ c ∷ d ∷ r) k rest e = go (isFirst a b c d) refl e
         let y : figure c ≡ k = cc in
         let z : r ≡ rest = cc in
         rw (← y, ← z) (first-spelt a b c d r p)
-    go false p q = absurd (let z : _≡_ {A = ℕ} 0 1 = cc in omega arith)
+    go false p q = never cc
 
 -- A digit from 2 to 6 passes the tests of line 1.
 first-tested : (k : ℕ) → least-k ≤ k → k ≤ greatest-k → isFirst letter-K space (digit-0 + k) line-feed ≡ true
@@ -77,7 +77,7 @@ first-only input k rest o =
 
 -- Bytes whose first line is otherwise are not spelt so.
 not-first : (input : List ℕ) → firstLine input ≡ otherwise → (k : ℕ) (rest : List ℕ) → OpensWith input k rest → ⊥
-not-first input e k rest o = let y = first-only input k rest o in let z : _≡_ {A = ℕ} 0 1 = cc in omega arith
+not-first input e k rest o = let y = first-only input k rest o in never cc
 
 -- ---- the rows
 

@@ -8,6 +8,7 @@ use lib.Dec.{eqb}
 use lib.ListN.{length, take, drop}
 use lib.Seq.{length-take-le}
 use borrow.Author.Tests.{eqb-true}
+use Rattle.words.proofs.Tests.{never}
 use Rattle.words.specs.Base.{_and_, if_then_else_}
 use Rattle.form.specs.Text.{line-feed}
 use Rattle.desk_input.specs.Sheets.{letterOf, withByte, inputLines, kindOf, Sheet, withLine, callsOf, sheetOf}
@@ -19,7 +20,7 @@ use Rattle.desk_input.specs.declared.LineKind.the-variants.{Asks, Other}
 -- ---- the first line
 
 -- What the first of lines asks for.
-abbrev pub firstKind : List (List ℕ) → LineKind
+abbrev firstKind : List (List ℕ) → LineKind
 firstKind [] = Other
 firstKind (l ∷ ls) = kindOf l
 
@@ -29,7 +30,7 @@ unfolding letterOf if_then_else_
 feed-asks-nothing b p = rw (eqb-true b line-feed p)
 
 -- The first line of bytes asks for what the bytes at their front do.
-pub first-kind : (bs : List ℕ) → firstKind (inputLines bs) ≡ letterAt bs
+first-kind : (bs : List ℕ) → firstKind (inputLines bs) ≡ letterAt bs
 unfolding inputLines withByte kindOf letterAt if_then_else_
 first-kind [] = refl
 first-kind (b ∷ []) = one (eqb b line-feed)
@@ -53,7 +54,7 @@ first-kind (b ∷ e ∷ rest) = go (eqb b line-feed) refl (eqb e line-feed) refl
 -- ---- bytes behind others
 
 -- What lines ask for, the first of which goes on from before and is no letter line.
-abbrev pub goingOn : List (List ℕ) → Sheet
+abbrev goingOn : List (List ℕ) → Sheet
 goingOn [] = record { before = []; calls = [] }
 goingOn (l ∷ ls) = withLine Other l (callsOf ls)
 
@@ -101,18 +102,18 @@ byte-other b bs e = calls-on (inputLines (b ∷ bs)) (first-kind (b ∷ bs) ∙ 
 pub letter-sheet : (bs : List ℕ) (x : Letter) → letterAt bs ≡ Asks x
     → sheetOf bs ≡ record { before = []; calls = record { letter = x; text = sheetOf (drop 2 bs) .before } ∷ sheetOf (drop 2 bs) .calls }
 unfolding letterAt sheetOf inputLines callsOf withByte withLine kindOf if_then_else_
-letter-sheet [] x e = absurd (let z : _≡_ {A = ℕ} 0 1 = cc in omega arith)
-letter-sheet (b ∷ []) x e = absurd (let z : _≡_ {A = ℕ} 0 1 = cc in omega arith)
+letter-sheet [] x e = never cc
+letter-sheet (b ∷ []) x e = never cc
 letter-sheet (b ∷ f ∷ rest) x e = go (eqb b line-feed) refl (eqb f line-feed) refl e
   where
     -- By whether the first byte is LF, and whether the second is.
     go : (t : Bool) → eqb b line-feed ≡ t → (u : Bool) → eqb f line-feed ≡ u → (if u then letterOf b else Other) ≡ Asks x
         → callsOf (withByte t b (withByte u f (inputLines rest)))
         ≡ record { before = []; calls = record { letter = x; text = callsOf (inputLines rest) .before } ∷ callsOf (inputLines rest) .calls }
-    go true p true q g = absurd (let n = feed-asks-nothing b p in let z : _≡_ {A = ℕ} 0 1 = cc in omega arith)
-    go true p false q g = absurd (let z : _≡_ {A = ℕ} 0 1 = cc in omega arith)
+    go true p true q g = absurd (let n = feed-asks-nothing b p in never cc)
+    go true p false q g = never cc
     go false p true q g = rw (q, g)
-    go false p false q g = absurd (let z : _≡_ {A = ℕ} 0 1 = cc in omega arith)
+    go false p false q g = never cc
 
 -- ---- the laws
 

@@ -1,5 +1,5 @@
--- What makes a sheet that of some bytes (01, "Forms on the desk"), by what a letter line is: how letter lines are looked for, and how a sheet is split
--- from its bytes, is not said here. Assumes nothing: these are definitions.
+-- What makes a sheet that of some bytes (01, "Forms on the desk"), by what a letter line is: how letter lines are looked for, and how a sheet is
+-- split from its bytes, is not said here. Assumes nothing: these are definitions.
 use Prim.Native.Nat.{ℕ}
 use mathlib.Core.Path.{_≡_}
 use mathlib.Core.List.{List, [], _∷_, _++_}
@@ -10,7 +10,7 @@ use Rattle.desk_input.specs.declared.Letter.{Letter}
 -- ---- calls as they are written
 
 -- A call as it is written: "a line of the one letter T, W or J and LF", and its form.
-abbrev pub callText : FormCall → List ℕ
+abbrev callText : FormCall → List ℕ
 callText c = letterByte (c .letter) ∷ line-feed ∷ c .text
 
 -- Calls one after the other.
@@ -43,7 +43,8 @@ Plain bs = LetterLine bs → ⊥
 
 -- ---- sheets
 
--- Bytes, and the calls behind them: no letter line stands among the bytes before the first call or among those of a form, and each call starts a line.
+-- Bytes, and the calls behind them: no letter line stands among the bytes before the first call or among those of a form, and each call starts a
+-- line.
 pub data Parts : List ℕ → List FormCall → Type 0 where
   last-part : {bs : List ℕ} → Plain bs → Parts bs []
   part : {bs : List ℕ} {c : FormCall} {cs : List FormCall} → Plain bs → StartsLine bs → Parts (c .text) cs → Parts bs (c ∷ cs)

@@ -104,7 +104,8 @@ pub data FirstLine : Type 0 where
 -- "Line 1 is K, space, one digit, LF", and k is 2 to 6.
 unfoldable pub firstLine : List ℕ → FirstLine
 firstLine (a ∷ b ∷ c ∷ d ∷ rest) =
-    if eqb a letter-K and eqb b space and isDigit c and eqb d line-feed and within least-k greatest-k (figure c) then asks (figure c) rest else otherwise
+    if eqb a letter-K and eqb b space and isDigit c and eqb d line-feed and within least-k greatest-k (figure c) then asks (figure c) rest
+    else otherwise
 firstLine [] = otherwise
 firstLine (a ∷ []) = otherwise
 firstLine (a ∷ b ∷ []) = otherwise

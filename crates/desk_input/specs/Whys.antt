@@ -1,5 +1,5 @@
--- The front of the input in words (01, "Forms on the desk"): its first line, its first letter line, and why it is answered. Assumes nothing: these are
--- definitions.
+-- The front of the input in words (01, "Forms on the desk"): its first line, its first letter line, and why it is answered. Assumes nothing:
+-- these are definitions.
 use Prim.Native.Nat.{ℕ, _+_, _≤_, _<_}
 use mathlib.Core.Path.{_≡_}
 use mathlib.Core.List.{List, [], _∷_}

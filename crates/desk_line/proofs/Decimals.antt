@@ -136,12 +136,12 @@ size-stays d (e ∷ l) = go (eqb d digit-0) (size-stays e l)
 -- ---- decimal
 
 -- A number below ten is its last digit.
-pub decimal-one : (n : ℕ) → n < 10 → decimal n ≡ digit n ∷ []
+decimal-one : (n : ℕ) → n < 10 → decimal n ≡ digit n ∷ []
 unfolding decimal
 decimal-one n h = one-stays 19 n h
 
 -- A number from ten on has the digits of its tenth, and then its last one.
-pub decimal-more : (n : ℕ) → 10 ≤ n → n < 10 ^ most-digits → decimal n ≡ decimal (n / 10) ++ (digit n ∷ [])
+decimal-more : (n : ℕ) → 10 ≤ n → n < 10 ^ most-digits → decimal n ≡ decimal (n / 10) ++ (digit n ∷ [])
 unfolding decimal
 decimal-more n h b = tenth-stays 18 n h b ∙ ap (λ (l : List ℕ). l ++ (digit n ∷ [])) (sym (no-more 18 (n / 10) (tenth-below 19 n b)))
 

@@ -1,5 +1,5 @@
-// The desk's run on what a file descriptor holds: the input is read, each call is one step, and the line of each is printed before the next. Assumes what
-// the kit assumes of C's functions, and nothing else.
+// The desk's run on what a file descriptor holds: the input is read, each call is one step, and the line of each is printed before the next.
+// Assumes what the kit assumes of C's functions, and nothing else.
 use desk_line::REPLY_ROOM;
 use figures::limits;
 use libc::STDOUT_FILENO;

@@ -6,6 +6,7 @@ use mathlib.Core.List.{List, [], _∷_}
 use native.Mathlib.Omega.{arith}
 use borrow.Author.Tests.{lt-ltb, le-ltb}
 use lib.ListN.{length, getD, take, drop, length-drop}
+use Rattle.words.proofs.Tests.{never}
 use Rattle.words.specs.Base.{if_then_else_, over}
 use Rattle.figures.specs.Limits.{used-word}
 use Rattle.figures.specs.declared.Answer.{Answer}
@@ -54,7 +55,7 @@ module _ (input book out : List ℕ) (room : reply-room ≤ length out) where
       -- By what is handed in.
       go : (h : Handed) → Fault a ≡ openingBy h → stepping (record { taken = length input; count = count }) book written ≡ begunBy (length input) h book out
       go (faulty b) e = let same : a ≡ b = cc in rw (w, n, same)
-      go (handed k cs) e = absurd (let z : _≡_ {A = ℕ} 0 1 = cc in omega arith)
+      go (handed k cs) e = never cc
 
   -- Otherwise the book is opened, and line 1 is taken.
   pub begin-opens : (k : ℕ) (a : Answer) (ws written : List ℕ) (u count : ℕ) → Opens k ≡ openingOf input → outcome a ws ≡ openOf book k
@@ -65,7 +66,7 @@ module _ (input book out : List ℕ) (room : reply-room ≤ length out) where
     where
       -- By what is handed in.
       go : (h : Handed) → Opens k ≡ openingBy h → stepping (record { taken = first-line-size; count = count }) ws written ≡ begunBy (length input) h book out
-      go (faulty b) q = absurd (let z : _≡_ {A = ℕ} 0 1 = cc in omega arith)
+      go (faulty b) q = never cc
       go (handed j cs) q =
           let same : k ≡ j = cc in
           line-given first-line-size letter-K (outcome a ws) out written u count e n w

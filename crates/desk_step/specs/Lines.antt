@@ -1,5 +1,5 @@
--- How many lines a text has, and how many the desk prints for what is handed in (01, "Forms on the desk": "one line for the opening … and one for each
--- form"). Assumes nothing: these are definitions.
+-- How many lines a text has, and how many the desk prints for what is handed in (01, "Forms on the desk": "one line for the opening … and one for
+-- each form"). Assumes nothing: these are definitions.
 use Prim.Native.Nat.{ℕ, suc}
 use mathlib.Core.Path.{_≡_}
 use mathlib.Core.List.{List, [], _∷_, _++_}

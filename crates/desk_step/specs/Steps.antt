@@ -67,4 +67,5 @@ pub data Run (input : List ℕ) : ℕ → List ℕ → List ℕ → List ℕ →
   begun : (book out : List ℕ) → length book ≡ desk-book-words → reply-room ≤ length out
       → Run input (beginOf input book out .step .taken) (beginOf input book out .book) (beginOf input book out .out) (lineIn (beginOf input book out))
   stepped : (n : ℕ) (book out printed : List ℕ) → Run input n book out printed → n < length input
-      → Run input (n + stepOf (drop n input) book out .step .taken) (stepOf (drop n input) book out .book) (stepOf (drop n input) book out .out) (printed ++ lineIn (stepOf (drop n input) book out))
+      → Run input (n + stepOf (drop n input) book out .step .taken) (stepOf (drop n input) book out .book) (stepOf (drop n input) book out .out)
+      (printed ++ lineIn (stepOf (drop n input) book out))

@@ -1,5 +1,5 @@
--- The figures of 01 for orders, parts, books and the desk ("Orders", "Parts", "The book", "Forms on the desk"). They unfold everywhere, so that a test against one computes.
--- Assumes nothing: these are definitions.
+-- The figures of 01 for orders, parts, books and the desk ("Orders", "Parts", "The book", "Forms on the desk"). They unfold everywhere, so that a
+-- test against one computes. Assumes nothing: these are definitions.
 use Prim.Native.Nat.{ℕ, _*_}
 
 -- "an option code 1 to 9999"

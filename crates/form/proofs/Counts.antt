@@ -8,12 +8,13 @@ use lib.Dec.{leb, eqb}
 use lib.ListN.{length, getD, set, length-append, length-reverse}
 use lib.Seq.{getD-set-same, getD-set-other}
 use borrow.Author.Tests.{lt-leb, le-leb, lt-ltb, le-ltb, eq-eqb, ne-eqb, eqb-true, eqb-false, leb-true, leb-false}
+use Rattle.words.proofs.Tests.{by-test}
 use Rattle.words.specs.Base.{if_then_else_}
 use Rattle.form.specs.Text.{Line}
 use Rattle.form.specs.Reading.{siblings, children, wordsOfLines}
 
 -- Every line is deeper than l.
-abbrev pub Above : ℕ → List Line → Type 0
+abbrev Above : ℕ → List Line → Type 0
 Above l [] = Unit {0}
 Above l (x ∷ xs) = (l < x .level) × Above l xs
 
@@ -77,11 +78,10 @@ two-on n = omega arith
 
 -- A line before the parent p of x has as many children as before.
 stays : (l : ℕ) (f : List Line) (p : Line) (back : List Line) (x : Line) → x .level ≡ suc (p .level) → children l (f ++ (p ∷ back) ++ (x ∷ [])) ≡ children l (f ++ (p ∷ back))
-stays l f p back x e = go (leb (p .level) l) refl
-  where
-    go : (b : Bool) → leb (p .level) l ≡ b → children l (f ++ (p ∷ back) ++ (x ∷ [])) ≡ children l (f ++ (p ∷ back))
-    go true q = shut l f p back x (leb-true _ _ q)
-    go false q = other l (f ++ (p ∷ back)) x (let h : l < p .level = leb-false _ _ q in λ z. omega arith)
+stays l f p back x e =
+    by-test (leb (p .level) l)
+    (λ q. shut l f p back x (leb-true _ _ q))
+    (λ q. other l (f ++ (p ∷ back)) x (let h : l < p .level = leb-false _ _ q in λ z. omega arith))
 
 -- The words with x behind, over a split of the lines at its parent p.
 append : (p : Line) (back : List Line) (x : Line) (front : List Line) → Above (p .level) back → x .level ≡ suc (p .level) →

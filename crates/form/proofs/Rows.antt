@@ -9,7 +9,7 @@ use lib.Dec.{ltb, eqb}
 use lib.ListN.{length}
 use borrow.Author.Tests.{le-leb, lt-ltb, le-ltb, eq-eqb, ne-eqb, eqb-true, eqb-false}
 use Rattle.words.specs.Base.{_and_, if_then_else_, _∈_}
-use Rattle.words.proofs.Tests.{no-test}
+use Rattle.words.proofs.Tests.{no-test, by-test}
 use Rattle.figures.specs.Limits.{most-nodes, most-children, greatest-depth}
 use Rattle.form.specs.Text.{Line, spell}
 use Rattle.form.specs.Reading.{allowed, siblings, form, formOf}
@@ -38,12 +38,7 @@ test-follow l (x ∷ xs) e =
 
 -- A level that may not follow fails the test.
 pub no-follow : (l : ℕ) (before : List Line) → (MayFollow l before → ⊥) → allowed l before ≡ false
-no-follow l before h = go (allowed l before) refl
-  where
-    -- By what the test says.
-    go : (b : Bool) → allowed l before ≡ b → allowed l before ≡ false
-    go true q = absurd (h (test-follow l before q))
-    go false q = q
+no-follow l before h = by-test (allowed l before) (λ q. absurd (h (test-follow l before q))) (λ q. q)
 
 -- A level that fails the test may not follow.
 pub follow-none : (l : ℕ) (before : List Line) → allowed l before ≡ false → MayFollow l before → ⊥
@@ -117,7 +112,7 @@ siblings-some (x ∷ y ∷ ys) w l (later p q) =
         sibling-on x y ys l (omega arith) (ih (later p k))
 
 -- So there are as many siblings as the test counts.
-pub test-siblings : (before : List Line) → Passed before → (l : ℕ) → MayFollow l before → Siblings l before (siblings l before)
+test-siblings : (before : List Line) → Passed before → (l : ℕ) → MayFollow l before → Siblings l before (siblings l before)
 test-siblings before w l m =
     let r = siblings-some before w l m in
     subst (Siblings l before) (sym (siblings-test l before (r .1))) (r .1)
@@ -146,7 +141,7 @@ siblings-full before w l m h =
 -- ---- lines without fault
 
 -- A line that may stand there passes.
-pub fine-pass : (before : List Line) {l c : ℕ} → Fine before l c → Passes before l c
+fine-pass : (before : List Line) {l c : ℕ} → Fine before l c → Passes before l c
 fine-pass before {l} f =
     let e = siblings-test l before (f .siblings) in
     record { option = f .option; follows = follow-test l before (f .follows); shallow = f .shallow; child = omega (arith, f .few) }

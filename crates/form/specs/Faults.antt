@@ -39,7 +39,8 @@ pub record ChildrenBehind (l : ℕ) (behind : List Line) (n : ℕ) : Type 0 wher
 -- whose level is one less, and all lines between the two lie below the parent; line 1 has none.
 pub data Siblings (level : ℕ) (before : List Line) (n : ℕ) : Type 0 where
   no-parent : before ≡ [] → n ≡ 0 → Siblings level before n
-  under : (parent : Line) (between front : List Line) → before ≡ between ++ (parent ∷ front) → level ≡ parent .level + 1 → ChildrenOf (parent .level) between n → Siblings level before n
+  under : (parent : Line) (between front : List Line) → before ≡ between ++ (parent ∷ front) → level ≡ parent .level + 1
+      → ChildrenOf (parent .level) between n → Siblings level before n
 
 -- ---- lines without fault
 
@@ -80,11 +81,14 @@ pub data Why (before : List Line) (rest : List ℕ) (n : ℕ) : Type 0 where
   -- 10: "code 0000"
   no-option : n ≡ no-form → length before < most-nodes → (x : Line) → Spelt rest x → x .code ≡ 0 → Why before rest n
   -- 10: "a level not allowed"
-  not-allowed : n ≡ no-form → length before < most-nodes → (x : Line) → Spelt rest x → least-code ≤ x .code → (MayFollow (x .level) before → ⊥) → Why before rest n
+  not-allowed : n ≡ no-form → length before < most-nodes → (x : Line) → Spelt rest x → least-code ≤ x .code → (MayFollow (x .level) before → ⊥)
+      → Why before rest n
   -- 2: "its level over 12"
-  too-deep : n ≡ too-large → length before < most-nodes → (x : Line) → Spelt rest x → least-code ≤ x .code → MayFollow (x .level) before → greatest-depth < x .level → Why before rest n
+  too-deep : n ≡ too-large → length before < most-nodes → (x : Line) → Spelt rest x → least-code ≤ x .code → MayFollow (x .level) before
+      → greatest-depth < x .level → Why before rest n
   -- 10: "a ninth child": its parent has eight already
-  ninth-child : n ≡ no-form → length before < most-nodes → (x : Line) → Spelt rest x → least-code ≤ x .code → MayFollow (x .level) before → x .level ≤ greatest-depth → Siblings (x .level) before most-children → Why before rest n
+  ninth-child : n ≡ no-form → length before < most-nodes → (x : Line) → Spelt rest x → least-code ≤ x .code → MayFollow (x .level) before
+      → x .level ≤ greatest-depth → Siblings (x .level) before most-children → Why before rest n
 
 -- "the first line at fault": the text is that of lines without fault, and of a rest whose first line is refused by n.
 pub record FirstFault (s : List ℕ) (n line : ℕ) : Type 0 where

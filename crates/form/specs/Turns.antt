@@ -40,7 +40,8 @@ countPlace latest level = 2 * getD latest (level - 1) 0 + 1
 -- What counting a child asks for: words for a whole order, a place for each level, a level within the depth, and, but for line 1, a
 -- parent that has a place among the words.
 abbrev pub Parent : List ℕ → List ℕ → ℕ → Type 0
-Parent words latest level = (length words ≡ most-words) × (length latest ≡ suc greatest-depth) × (level ≤ greatest-depth) × (0 < level → getD latest (level - 1) 0 < most-nodes)
+Parent words latest level = (length words ≡ most-words) × (length latest ≡ suc greatest-depth) × (level ≤ greatest-depth)
+    × (0 < level → getD latest (level - 1) 0 < most-nodes)
 
 -- The parent, if there is one, may have a child more.
 unfoldable pub mayAdopt : List ℕ → List ℕ → ℕ → Bool

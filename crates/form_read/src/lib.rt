@@ -93,7 +93,8 @@ fn line_at(
 ) -> LineRead
     requires { ⌜ (at ≤ length (now text)) × Parents (nextOf n greatest (drop at (now text))) (now words) (now latest) ⌝ }
     ensures answered { λ r. ⌜ r ≡ underParent (now (words .entry)) (now (latest .entry)) (nextOf n greatest (drop at (now (text .entry)))) ⌝ }
-    ensures counted { λ _. ⌜ now (words .exit) ≡ countedIn (now (words .entry)) (now (latest .entry)) (nextOf n greatest (drop at (now (text .entry)))) ⌝ }
+    ensures counted { λ _. ⌜ now (words .exit) ≡ countedIn (now (words .entry)) (now (latest .entry))
+        (nextOf n greatest (drop at (now (text .entry)))) ⌝ }
 {
     let read = next_line(text, at, n, greatest);
     let LineRead::Node {

@@ -32,7 +32,7 @@ use Rattle.form.proofs.LineBytes.{over-part, line-size, spell-append, spell-mor
 -- ---- the lines of an order that passes
 
 -- The lines of an order that passes are those of its tree.
-pub lines-in : (s : List ℕ) (t : Tree) → Passed s t → linesIn s ≡ linesOf t 0
+lines-in : (s : List ℕ) (t : Tree) → Passed s t → linesIn s ≡ linesOf t 0
 unfolding linesIn byOrder
 lines-in s t p = rw (p .is)
 

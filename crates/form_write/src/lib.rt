@@ -1,5 +1,5 @@
-// Order form text, written: how many bytes it takes, by the order's depth or the levels of its lines, and then each line's bytes once. Assumes nothing beyond
-// each function's `requires`.
+// Order form text, written: how many bytes it takes, by the order's depth or the levels of its lines, and then each line's bytes once. Assumes
+// nothing beyond each function's `requires`.
 ghost use mathlib.Core.Path.{_≡_};
 ghost use mathlib.Core.Bool.{true};
 ghost use Prim.Native.Nat.{_≤_};
@@ -76,7 +76,8 @@ fn put_lines(order: &[u16], levels: &[u8], out: &mut [u8])
 
 // Writes the lines of an order, whose levels are known and have one digit each, to the front of `out`, which has room for them.
 fn put_short_lines(order: &[u16], levels: &[u8], out: &mut [u8])
-    requires { ⌜ (causeOf (now order) ≡ done) × LinesLevelled (now order) (now levels) × ShortLines (linesIn (now order)) × (length (spell (linesIn (now order))) ≤ length (now out)) ⌝ }
+    requires { ⌜ (causeOf (now order) ≡ done) × LinesLevelled (now order) (now levels) × ShortLines (linesIn (now order))
+        × (length (spell (linesIn (now order))) ≤ length (now out)) ⌝ }
     ensures { λ _. ⌜ now (out .exit) ≡ over (spell (linesIn (now (order .entry)))) (now (out .entry)) ⌝ }
 {
     let n = order.len() / 2;
@@ -93,7 +94,8 @@ fn put_short_lines(order: &[u16], levels: &[u8], out: &mut [u8])
 
 // Writes the lines of an order, which was gone over and whose levels are known, to the front of `out`, which has room for them.
 fn put_text(order: &[u16], spans: &[u16], levels: &[u8], out: &mut [u8])
-    requires { ⌜ GoneOver (now order) (now spans) × LinesLevelled (now order) (now levels) × (length (spell (linesIn (now order))) ≤ length (now out)) ⌝ }
+    requires { ⌜ GoneOver (now order) (now spans) × LinesLevelled (now order) (now levels)
+        × (length (spell (linesIn (now order))) ≤ length (now out)) ⌝ }
     ensures { λ _. ⌜ now (out .exit) ≡ over (spell (linesIn (now (order .entry)))) (now (out .entry)) ⌝ }
 {
     if is_shallow(order, spans) {

@@ -1,5 +1,5 @@
-// The C interface of the library: the eleven functions of include/ofb.h, each of which calls the function below it and hands its answer on in C's numbers. A
-// slice is a pointer and a length to C. Assumes nothing beyond each inner function's `requires`.
+// The C interface of the library: the eleven functions of include/ofb.h, each of which calls the function below it and hands its answer on in C's
+// numbers. A slice is a pointer and a length to C. Assumes nothing beyond each inner function's `requires`.
 ghost use mathlib.Core.Path.{_≡_};
 ghost use Prim.Native.Nat.{_^_, _<_};
 ghost use Rattle.order.specs.Answers.{subtreeOf};
@@ -25,8 +25,8 @@ pub struct OfbAnswer {
     pub written: u32,
 }
 
-// A judgement, as C has it: the number and the line, and of what is unknown there how many entries of its section stand below it, whether it is there (0 or
-// 1), and the places at which it first differs from the last entry below and from the first above.
+// A judgement, as C has it: the number and the line, and of what is unknown there how many entries of its section stand below it, whether it is
+// there (0 or 1), and the places at which it first differs from the last entry below and from the first above.
 #[repr(C)]
 pub struct OfbJudged {
     pub number: u16,

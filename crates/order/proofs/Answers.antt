@@ -1,11 +1,11 @@
 -- What the public functions of `order_check`, `order_cuts` and `order_parts` answer, by where the line stands. Assumes nothing.
 use mathlib.Core.Path.{_≡_, refl, sym, ap, _∙_}
-use mathlib.Core.Bool.{Bool, true, false}
 use mathlib.Core.List.{List, []}
 use Prim.Native.Nat.{ℕ, _+_, _-_, _*_, _≤_}
 use native.Mathlib.Omega.{arith}
 use borrow.Author.Tests.{leb-true}
 use lib.ListN.{length, take, drop}
+use Rattle.words.proofs.Tests.{by-test}
 use Rattle.words.specs.Base.{if_then_else_}
 use Rattle.figures.specs.Numbers.{done}
 use Rattle.figures.specs.Answers.{wrote}
@@ -61,20 +61,12 @@ module _ (s : List ℕ) (line : ℕ) (lack : LacksLine s line) where
 -- The part's words are the cut at k-1 for either kind.
 part-words : (k : ℕ) (t : Tree) → partOf k t .tree ≡ cut t (k - 1)
 unfolding partOf isLow middle if_then_else_
-part-words k t = go (isLow k t) refl
-  where
-    go : (b : Bool) → isLow k t ≡ b → partOf k t .tree ≡ cut t (k - 1)
-    go true e = rw e (sym (cut-shallow t (k - 1) (omega (arith, leb-true (depth t) (k - 2) e))))
-    go false e = rw e refl
+part-words k t = by-test (isLow k t) (λ e. rw e (sym (cut-shallow t (k - 1) (omega (arith, leb-true (depth t) (k - 2) e))))) (λ e. rw e refl)
 
 -- The kind of the part is told by whether the subtree is low.
 part-kind : (k : ℕ) (t : Tree) → partOf k t .kind ≡ (if isLow k t then Low else Middle)
 unfolding partOf if_then_else_
-part-kind k t = go (isLow k t) refl
-  where
-    go : (b : Bool) → isLow k t ≡ b → partOf k t .kind ≡ (if isLow k t then Low else Middle)
-    go true h = rw h refl
-    go false h = rw h refl
+part-kind k t = by-test (isLow k t) (λ h. rw h refl) (λ h. rw h refl)
 
 module _ (s : List ℕ) (line at : ℕ) (has : HasLine s line at) where
   -- The tree there ends within the order.

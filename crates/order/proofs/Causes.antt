@@ -9,6 +9,7 @@ use native.Mathlib.Omega.{arith}
 use borrow.Author.Tests.{eqb-true, eqb-false, ltb-true, ltb-false, leb-true, leb-false}
 use lib.Dec.{leb, ltb, eqb}
 use lib.ListN.{length}
+use Rattle.words.proofs.Tests.{by-test}
 use Rattle.figures.specs.Limits.{most-nodes, most-words, greatest-depth}
 use Rattle.figures.specs.Numbers.{done, no-order, too-large}
 use Rattle.order.specs.Trees.{Tree, words, depth, Good, subtrees}
@@ -31,11 +32,10 @@ tree-missing s h = go (treeOf s) refl
 
 -- Words that are no tree: none at all, or some.
 no-tree-cause : (s : List ℕ) → length s % 2 ≡ 0 → length s ≤ most-words → treeOf s ≡ missing → causeOf s ≡ no-order
-no-tree-cause s v l m = go (eqb (length s) 0) refl
-  where
-    go : (b : Bool) → eqb (length s) 0 ≡ b → causeOf s ≡ no-order
-    go true e = cause-empty s (eqb-true _ _ e)
-    go false e = cause-missing s (record { some = eqb-false _ _ e; even = λ h. omega arith; short = l }) m
+no-tree-cause s v l m =
+    by-test (eqb (length s) 0)
+    (λ e. cause-empty s (eqb-true _ _ e))
+    (λ e. cause-missing s (record { some = eqb-false _ _ e; even = λ h. omega arith; short = l }) m)
 
 -- Words with a cause have its number.
 pub cause-only : (s : List ℕ) (n : ℕ) → Cause s n → causeOf s ≡ n
@@ -57,11 +57,10 @@ cause-small s n (none e l t g w h) = omega arith
 
 -- A good tree's words have one of the last two causes.
 by-depth : (s : List ℕ) (t : Tree) → length s ≤ most-words → Good t → s ≡ words t → Cause s (causeOf s)
-by-depth s t l g w = go (leb (depth t) greatest-depth) refl
-  where
-    go : (b : Bool) → leb (depth t) greatest-depth ≡ b → Cause s (causeOf s)
-    go true e = let h = leb-true _ _ e in none (cause-only s done (none refl l t g w h)) l t g w h
-    go false e = let h = leb-false _ _ e in deep (cause-only s too-large (deep refl l t g w h)) l t g w h
+by-depth s t l g w =
+    by-test (leb (depth t) greatest-depth)
+    (λ e. let h = leb-true _ _ e in none (cause-only s done (none refl l t g w h)) l t g w h)
+    (λ e. let h = leb-false _ _ e in deep (cause-only s too-large (deep refl l t g w h)) l t g w h)
 
 -- An even number of words that are not too many are those of a good tree, or of none.
 by-tree : (s : List ℕ) (x : TreeFound) → treeOf s ≡ x → length s % 2 ≡ 0 → length s ≤ most-words → Cause s (causeOf s)

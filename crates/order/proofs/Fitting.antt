@@ -11,7 +11,7 @@ use lib.ListN.{length}
 use Rattle.words.specs.Base.{within, keep, _∈_}
 use Rattle.words.specs.Compare.{compareOf}
 use Rattle.words.specs.declared.Compared.the-variants.{Lower}
-use Rattle.words.proofs.Tests.{no-test, and-left, and-right, and-both, fails-right}
+use Rattle.words.proofs.Tests.{no-test, and-left, and-right, and-both, fails-right, never}
 use Rattle.figures.specs.Limits.{most-nodes, most-words, greatest-depth}
 use Rattle.order.specs.Trees.{Tree, node, words, depth, cut, subtrees}
 use Rattle.order.specs.Reading.{TreeFound, missing, found, treeOf, order, byOrder, orderOf}
@@ -29,7 +29,7 @@ use Rattle.order.proofs.Causes.{Passed, Seen, stopped, passed, seen, or
 -- ---- what the tree says
 
 -- The tree of an order that passes is the one that is read.
-pub passed-found : {s : List ℕ} {t : Tree} → Passed s t → treeOf s ≡ found t
+passed-found : {s : List ℕ} {t : Tree} → Passed s t → treeOf s ≡ found t
 passed-found {s} {t} p = ap treeOf (p .spelt) ∙ words-read t (p .good)
 
 -- A tree that is read of few enough words, and is not too deep, is an order.
@@ -47,7 +47,7 @@ depth-told x t d e f = let same : Deep (depth t) ≡ Deep d = rw f at e in cc
 -- Nothing is measured of what is no tree.
 no-depth : {A : Type 0} (d : ℕ) → measuredOf missing ≡ Deep d → A
 unfolding measuredOf
-no-depth d e = absurd (let z : _≡_ {A = ℕ} 0 1 = cc in omega arith)
+no-depth d e = never cc
 
 module _ (least greatest : ℕ) (s : List ℕ) where
   -- Of an order the depth decides.

@@ -1,12 +1,12 @@
 -- The parts that the lines of an order stand for are its low and middle parts, which are l and p of document 000: each line's part is
 -- one of them, and each of them is the part of a line. Assumes nothing.
 use Prim.Native.Nat.{ℕ, zero, suc, _-_, _≤_}
-use mathlib.Core.Path.{_≡_, refl, ap, sym}
-use mathlib.Core.Bool.{Bool, true, false}
+use mathlib.Core.Path.{_≡_, ap, sym}
 use mathlib.Core.List.{List, [], _∷_, List·Memᴰ·head as here, List·Memᴰ·tail as there}
 use native.Mathlib.Omega.{arith}
 use borrow.Author.Tests.{leb-true, leb-false, le-leb, lt-leb}
 use lib.Dec.{leb}
+use Rattle.words.proofs.Tests.{by-test, never}
 use Rattle.words.specs.Base.{if_then_else_, _∈_}
 use Rattle.order.specs.Trees.{Tree, depth, cut, subtrees}
 use Rattle.order.specs.Reading.{found}
@@ -62,20 +62,15 @@ middle-part k s l h = rw (lt-leb (depth s) (k - 2) (omega arith))
 -- A low line is at most k-2 deep.
 is-low : (k : ℕ) (s : Tree) → partOf k s .kind ≡ Low → depth s ≤ k - 2
 unfolding partOf isLow if_then_else_
-is-low k s e = go (leb (depth s) (k - 2)) refl
-  where
-    go : (b : Bool) → leb (depth s) (k - 2) ≡ b → depth s ≤ k - 2
-    go true h = leb-true (depth s) (k - 2) h
-    go false h = absurd (let f : Middle ≡ Low = rw h at e in let z : _≡_ {A = ℕ} 0 1 = cc in omega arith)
+is-low k s e = by-test (leb (depth s) (k - 2)) (λ h. leb-true (depth s) (k - 2) h) (λ h. absurd (let f : Middle ≡ Low = rw h at e in never cc))
 
 -- A middle line is at least k-1 deep.
 is-middle : (k : ℕ) (s : Tree) → partOf k s .kind ≡ Middle → k - 1 ≤ depth s
 unfolding partOf isLow if_then_else_
-is-middle k s e = go (leb (depth s) (k - 2)) refl
-  where
-    go : (b : Bool) → leb (depth s) (k - 2) ≡ b → k - 1 ≤ depth s
-    go true h = absurd (let f : Low ≡ Middle = rw h at e in let z : _≡_ {A = ℕ} 0 1 = cc in omega arith)
-    go false h = omega (arith, leb-false (depth s) (k - 2) h)
+is-middle k s e =
+    by-test (leb (depth s) (k - 2))
+    (λ h. absurd (let f : Low ≡ Middle = rw h at e in never cc))
+    (λ h. omega (arith, leb-false (depth s) (k - 2) h))
 
 module _ (k : ℕ) (t : Tree) (two : 2 ≤ k) where
   -- A low line's part is in l.

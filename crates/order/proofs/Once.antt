@@ -65,7 +65,7 @@ kept-no-repeats p (t ∷ ts) h = go (p t) (kept-no-repeats p ts (h .1))
     go false n = n
 
 -- Each part stands there once.
-pub once-no-repeats : (ts : List Tree) → NoRepeats (eachOnce ts)
+once-no-repeats : (ts : List Tree) → NoRepeats (eachOnce ts)
 unfolding eachOnce NoRepeats
 once-no-repeats [] = tt
 once-no-repeats (t ∷ ts) = (λ m. no-test (sym (ap not (same-tree t)) ∙ kept-in _ _ m .1), kept-no-repeats _ _ (once-no-repeats ts))

@@ -16,7 +16,7 @@ use Rattle.order.proofs.Reading.{Sound, sound, complete, reads-none}
 -- ---- words and trees
 
 -- What words are read as, if anything, is a good tree whose words they are.
-abbrev pub IsTree : List ℕ → TreeFound → Type 0
+abbrev IsTree : List ℕ → TreeFound → Type 0
 IsTree s missing = Unit {0}
 IsTree s (found t) = (s ≡ words t) × Good t
 
@@ -31,7 +31,7 @@ is-tree-of s (read (cons t (cons u f)) []) g = absurd (omega (arith, g .1))
 is-tree-of s (read (cons t (cons u f)) (x ∷ r)) g = absurd (omega (arith, g .1))
 
 -- `IsTree` holds of any words.
-pub is-tree : (s : List ℕ) → IsTree s (treeOf s)
+is-tree : (s : List ℕ) → IsTree s (treeOf s)
 unfolding treeOf
 is-tree s = is-tree-of s (readTrees s 1) (sound s 1)
 
@@ -80,7 +80,7 @@ module _ (s : List ℕ) where
   cause-long a b l = rw (ne-eqb _ _ a, ne-eqb _ _ b, lt-ltb _ _ l)
 
   -- Past the length the tree decides.
-  pub sized-order : Sized s → orderOf s ≡ withinDepth (treeOf s)
+  sized-order : Sized s → orderOf s ≡ withinDepth (treeOf s)
   unfolding orderOf if_then_else_
   sized-order z = rw (ne-eqb _ _ (z .some), ne-eqb _ _ (z .even), le-ltb _ _ (z .short))
 

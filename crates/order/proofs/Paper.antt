@@ -10,6 +10,7 @@ use native.Mathlib.Decide.{decLt}
 use native.Mathlib.Omega.{arith}
 use borrow.Author.Tests.{leb-true, le-leb, lt-leb}
 use lib.ListN.{length}
+use Rattle.words.proofs.Tests.{never}
 use Rattle.words.specs.Base.{keep, _∈_}
 use Rattle.order.specs.Trees.{Tree, Forest, node, bare, cons, depth, depthF, cut, cutF, subtrees, subtreesF, below}
 use Rattle.order.specs.Reading.{byFound, TreeFound, missing, found}
@@ -31,7 +32,7 @@ labelIn i x f = byFound (rootedIn i x f) none (λ s. some (code s))
 
 -- What has no label has none.
 no-label : {A : Type 0} {c : ℕ} → none ≡ some c → A
-no-label e = absurd (let z : _≡_ {A = ℕ} 0 1 = cc in omega arith)
+no-label e = never cc
 
 -- Children are counted from 1: there is no child 0.
 no-child : (f : Forest) → childOf zero f ≡ missing
@@ -147,7 +148,7 @@ pub below-from : (t : Tree) {s : Tree} → s ∈ below t → StrictlyBelow t s
 unfolding below rootedAt
 below-from (node c f) m =
     let r = subtreeF-from f m in
-    record { position = r .0 ∷ r .1; not-top = λ e. let z : _≡_ {A = ℕ} 0 1 = cc in omega arith; is = r .2 }
+    record { position = r .0 ∷ r .1; not-top = λ e. never cc; is = r .2 }
 
 -- and each such t/x stands there.
 pub below-to : {t s : Tree} → StrictlyBelow t s → s ∈ below t
@@ -172,7 +173,7 @@ next-labels t u f g h (suc i) x = h (suc (suc i)) x
 mutual
   unfolding labelAt rootedAt childOf byFound
 
-  pub same-mapping : (t u : Tree) → ((x : Position) → labelAt x t ≡ labelAt x u) → t ≡ u
+  same-mapping : (t u : Tree) → ((x : Position) → labelAt x t ≡ labelAt x u) → t ≡ u
   same-mapping (node c f) (node d g) h =
       let top : some c ≡ some d = h [] in
       ap₂ node (cc) (same-labels f g (λ i x. h (i ∷ x)))
@@ -188,7 +189,7 @@ mutual
 mutual
   unfolding labelAt rootedAt childOf byFound
 
-  pub rooted-label : (t : Tree) (x y : Position) {s : Tree} → rootedAt x t ≡ found s → labelAt y s ≡ labelAt (x ++ y) t
+  rooted-label : (t : Tree) (x y : Position) {s : Tree} → rootedAt x t ≡ found s → labelAt y s ≡ labelAt (x ++ y) t
   rooted-label (node c f) [] y {s} e = let is : node c f ≡ s = cc in rw (← is) refl
   rooted-label (node c f) (i ∷ x) y e = rooted-labelF f i x y e
 

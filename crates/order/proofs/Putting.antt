@@ -26,7 +26,7 @@ use Rattle.order.proofs.LineSpans.{spans-behind, spans-room, span-read,
 -- ---- the cuts that wait
 
 -- What is written of the trees that wait, in a cut at d of a tree whose top has the level `own`.
-unfoldable pub cutsW : ℕ → ℕ → Waiting → List ℕ
+unfoldable cutsW : ℕ → ℕ → Waiting → List ℕ
 cutsW own d all-done = []
 cutsW own d (waits t l w) = words (cut t (d - (l - own))) ++ cutsW own d w
 
@@ -120,7 +120,7 @@ put-start os line d end out p e room =
 
 module _ (os : List ℕ) (line own d end : ℕ) (out₀ out : List ℕ) (at many : ℕ) (p : Putting os line own d end out₀ out at many) where
   -- What is written is no more than the cut.
-  pub put-fits : many ≤ length out₀
+  put-fits : many ≤ length out₀
   put-fits = omega (arith, p .size, p .room, ap length (p .left), length-append (p .got) (cutsW own d (p .todo)))
 
   -- out has as many words as it had.
@@ -273,7 +273,7 @@ module _ (os : List ℕ) (line own d end : ℕ) (out₀ out : List ℕ) (at many
         go false e = keeping (leb-false d (t .level - own) e)
 
     -- There is room for its two words.
-    pub put-room : many + 2 ≤ length out₀
+    put-room : many + 2 ≤ length out₀
     put-room =
         let two : List ℕ = t .code ∷ (if leb d (t .level - own) then 0 else count (t .row)) ∷ [] in
         omega (arith, p .room, p .size, ap length (written .left), length-append (p .got ++ two) (cutsW own d (written .todo)), length-append (p .got) two)

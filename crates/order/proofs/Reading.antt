@@ -9,7 +9,7 @@ use native.Mathlib.Omega.{arith}
 use borrow.Author.Tests.{leb-true, le-leb}
 use lib.Dec.{leb}
 use Rattle.words.specs.Base.{_and_}
-use Rattle.words.proofs.Tests.{and-left, and-right, and-both}
+use Rattle.words.proofs.Tests.{and-left, and-right, and-both, never}
 use Rattle.figures.specs.Limits.{least-code, greatest-code, most-children}
 use Rattle.figures.specs.Nodes.{soundNode}
 use Rattle.order.specs.Trees.{Tree, node, Forest, bare, cons, count, words, wordsF, Good, GoodF}
@@ -17,7 +17,7 @@ use Rattle.order.specs.Reading.{missing, found, Reading, broken, read, f
 
 -- A tree that is missing is not found.
 pub not-found : {A : Type 0} {t : Tree} → missing ≡ found t → A
-not-found e = absurd (let z : _≡_ {A = ℕ} 0 1 = cc in omega arith)
+not-found e = never cc
 
 -- Two rows of trees one after the other.
 abbrev pub join : Forest → Forest → Forest
@@ -25,7 +25,7 @@ join bare g = g
 join (cons t f) g = cons t (join f g)
 
 -- A tree put before what was read.
-abbrev pub addT : Tree → Reading → Reading
+abbrev addT : Tree → Reading → Reading
 addT t broken = broken
 addT t (read f r) = read (cons t f) r
 
@@ -143,7 +143,7 @@ mutual
   pub complete : (t : Tree) → Good t → (n : ℕ) (s : List ℕ) → readTrees (words t ++ s) (suc n) ≡ addT t (readTrees s n)
   complete (node c f) g n s = rw (node-ok c (count f) (g .0), completeF f (g .1) n s) (node-joined c f (readTrees s n))
 
-  pub completeF : (f : Forest) → GoodF f → (n : ℕ) (s : List ℕ) → readTrees (wordsF f ++ s) (count f + n) ≡ addF f (readTrees s n)
+  completeF : (f : Forest) → GoodF f → (n : ℕ) (s : List ℕ) → readTrees (wordsF f ++ s) (count f + n) ≡ addF f (readTrees s n)
   completeF bare g n s = ap (readTrees s) (zero-add n) ∙ sym (addF-bare _)
   completeF (cons t f) g n s = rw (append-assoc (words t) (wordsF f) s, suc-add (count f) n)
       (complete t (g .0) (count f + n) (wordsF f ++ s) ∙ ap (addT t) (completeF f (g .1) n s) ∙ sym (addF-cons t f (readTrees s n)))
@@ -156,7 +156,7 @@ reads-none (c ∷ []) = refl
 reads-none (c ∷ k ∷ s) = refl
 
 -- What was read of one tree, and then n trees from the words past it.
-abbrev pub thenF : ℕ → Reading → Reading
+abbrev thenF : ℕ → Reading → Reading
 thenF n broken = broken
 thenF n (read bare r) = broken
 thenF n (read (cons t f) r) = addT t (readTrees r n)

@@ -9,6 +9,7 @@ use borrow.Author.Tests.{le-leb, lt-leb, leb-true}
 use lib.Dec.{leb}
 use lib.ListN.{length, take, drop, getD, set, length-set, length-append, length-drop, length-take, drop-of-length-le}
 use lib.Seq.{drop-drop, drop-append-seam, getD-drop, getD-take, getD-set-same, getD-set-other, take-set-lt, drop-set-add}
+use Rattle.words.proofs.Tests.{never}
 use Rattle.words.specs.Base.{if_then_else_}
 use Rattle.figures.specs.Limits.{most-words}
 use Rattle.figures.specs.Nodes.{soundNode}
@@ -60,7 +61,7 @@ some-line (node c f) = omega arith
 mutual
   unfolding depth lines
 
-  pub depth-lines : (t : Tree) → depth t < lines t
+  depth-lines : (t : Tree) → depth t < lines t
   depth-lines (node c f) = omega (arith, depthF-lines f)
 
   depthF-lines : (f : Forest) → depthF f ≤ linesF f
@@ -109,7 +110,7 @@ pub record Over (os ss : List ℕ) (from children at depth left : ℕ) : Type 0 
 
 module _ (os ss : List ℕ) (from children : ℕ) (even : 2 * (length os / 2) ≡ length os) (room : length os ≤ length ss) where
   -- Before the first child.
-  pub over-start : 2 * from ≤ length os → SpansAre from (drop (2 * from) (take (length os) ss)) (rowOf (drop (2 * from) os)) → Over os ss from children from 0 children
+  over-start : 2 * from ≤ length os → SpansAre from (drop (2 * from) (take (length os) ss)) (rowOf (drop (2 * from) os)) → Over os ss from children from 0 children
   over-start low are = go (rowOf (drop (2 * from) os)) refl are
     where
       go : (r : Rowed) → rowOf (drop (2 * from) os) ≡ r → SpansAre from (drop (2 * from) (take (length os) ss)) r → Over os ss from children from 0 children
@@ -477,12 +478,12 @@ no-tree os ss e = (rw e refl, λ t f. let z : _≡_ {A = ℕ} 0 1 = cc (e, f) in
 pub broken-missing : (x : TreeFound) → measuredOf x ≡ Broken → x ≡ missing
 unfolding measuredOf
 broken-missing missing e = refl
-broken-missing (found t) e = absurd (let z : _≡_ {A = ℕ} 0 1 = cc in omega arith)
+broken-missing (found t) e = never cc
 
 -- Where they come to a depth, there is a tree of that depth.
 pub measured-found : (x : TreeFound) (d : ℕ) → measuredOf x ≡ Deep d → FoundDeep x d
 unfolding measuredOf
-measured-found missing d e = absurd (let z : _≡_ {A = ℕ} 0 1 = cc in omega arith)
+measured-found missing d e = never cc
 measured-found (found t) d e = record { tree = t; is = refl; deep = cc }
 
 -- The spans of an order's lines are those of its tree.

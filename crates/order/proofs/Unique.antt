@@ -13,7 +13,7 @@ use Rattle.order.specs.Parts.{sameTree}
 mutual
   unfolding words count
 
-  pub words-prefix : (t u : Tree) (r s : List ℕ) → words t ++ r ≡ words u ++ s → (t ≡ u) × (r ≡ s)
+  words-prefix : (t u : Tree) (r s : List ℕ) → words t ++ r ≡ words u ++ s → (t ≡ u) × (r ≡ s)
   words-prefix (node c f) (node d g) r s e =
       let top : c ≡ d = cc in
       let h = rows-prefix f g r s (cc) (cc) in

@@ -1,5 +1,5 @@
--- Orders gone over from the last node to the first: where the subtree of each line ends and how deep it is, and the row of trees that words spell. Assumes
--- nothing: these are definitions.
+-- Orders gone over from the last node to the first: where the subtree of each line ends and how deep it is, and the row of trees that words
+-- spell. Assumes nothing: these are definitions.
 use mathlib.Core.List.{List, [], _∷_, _++_}
 use mathlib.Core.Bool.{Bool, true, false}
 use mathlib.Core.Path.{_≡_}

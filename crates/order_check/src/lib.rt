@@ -1,5 +1,5 @@
-// Orders: trees as 16-bit words in a lent slice. Whether words are an order, and the levels of its lines. Assumes nothing beyond each inner function's
-// `requires`.
+// Orders: trees as 16-bit words in a lent slice. Whether words are an order, and the levels of its lines. Assumes nothing beyond each inner
+// function's `requires`.
 ghost use mathlib.Core.Path.{_≡_};
 ghost use Prim.Native.Nat.{_/_, _≤_};
 ghost use lib.ListN.{length};

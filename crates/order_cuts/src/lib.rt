@@ -83,8 +83,8 @@ fn next_line(spans: &[u16], line: usize, below: usize, d: usize) -> usize
     line + 1
 }
 
-// Writes the cut at d of the subtree of a line, the lines counted from 0, to the front of `out`, which has room for it, by the spans and the levels of the
-// order's lines. Answers its number of words.
+// Writes the cut at d of the subtree of a line, the lines counted from 0, to the front of `out`, which has room for it, by the spans and the
+// levels of the order's lines. Answers its number of words.
 pub fn put_cut(
     order: &[u16],
     spans: &[u16],
@@ -115,8 +115,8 @@ pub fn put_cut(
     count
 }
 
-// Writes the cut at d of the subtree of a line, the lines counted from 0, to the front of `out`, or answers 11 where it has no room. How long it is shows
-// where it is written to a scratch first.
+// Writes the cut at d of the subtree of a line, the lines counted from 0, to the front of `out`, or answers 11 where it has no room. How long it
+// is shows where it is written to a scratch first.
 pub fn cut_line(order: &[u16], spans: &[u16], line: usize, d: usize, out: &mut [u16]) -> Written
     requires { ⌜ GoneOver (now order) (now spans) ⌝ }
     requires { ⌜ line < length (now order) / 2 ⌝ }

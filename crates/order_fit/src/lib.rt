@@ -1,5 +1,5 @@
-// How deep the tree is that words are, where nothing else is asked of its lines: by a stack of depths in a lent scratch, from the last node to the first.
-// Assumes nothing beyond each function's `requires`.
+// How deep the tree is that words are, where nothing else is asked of its lines: by a stack of depths in a lent scratch, from the last node to
+// the first. Assumes nothing beyond each function's `requires`.
 ghost use mathlib.Core.Path.{_≡_};
 ghost use Prim.Native.Nat.{_*_, _/_, _≤_, _<_};
 ghost use lib.ListN.{length};
@@ -15,8 +15,9 @@ use order::Popped;
 use order_spans::deeper;
 use order_spans::wide;
 
-// Takes a node's children from a row of `many` trees: the first is `top` deep, the first `run` are leaves, and the depths of the trees behind the first are the
-// words of the stack from word 1 to before word `many`, that of the last tree first. Where all children are among the leaves nothing is read.
+// Takes a node's children from a row of `many` trees: the first is `top` deep, the first `run` are leaves, and the depths of the trees behind the
+// first are the words of the stack from word 1 to before word `many`, that of the last tree first. Where all children are among the leaves
+// nothing is read.
 fn pop(stack: &[u16], many: usize, top: usize, run: u16, children: u16) -> Popped
     requires { ⌜ (many ≤ length (now stack)) × (run ≤ many) × (0 < children) × (top ≤ most-words) ⌝ }
     ensures { λ r. ⌜ ((f : Forest) → StackIs many top run (now (stack .entry)) f → r ≡ poppedBy children f) ⌝ }
@@ -42,10 +43,11 @@ fn pop(stack: &[u16], many: usize, top: usize, run: u16, children: u16) -> Poppe
     Popped::Left { many: rest, depth }
 }
 
-// How deep the tree is that words are, from the last node to the first, by the depths of the trees behind: `top` is that of the first, and those of the others
-// stand on the stack. `run` is how many leaves they begin with.
+// How deep the tree is that words are, from the last node to the first, by the depths of the trees behind: `top` is that of the first, and those
+// of the others stand on the stack. `run` is how many leaves they begin with.
 pub fn deep(order: &[u16], stack: &mut [u16]) -> Measured
-    requires { ⌜ (2 * (length (now order) / 2) ≡ length (now order)) × (length (now order) ≤ most-words) × (length (now order) / 2 ≤ length (now stack)) ⌝ }
+    requires { ⌜ (2 * (length (now order) / 2) ≡ length (now order)) × (length (now order) ≤ most-words)
+        × (length (now order) / 2 ≤ length (now stack)) ⌝ }
     ensures came { λ r. ⌜ r ≡ measuredOf (treeOf (now (order .entry))) ⌝ }
     ensures kept { λ _. ⌜ length (now (stack .exit)) ≡ length (now (stack .entry)) ⌝ }
 {

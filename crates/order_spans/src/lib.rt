@@ -1,5 +1,5 @@
-// The spans of an order's lines: where the subtree of each ends and how deep it is, found from the last line to the first, in a lent scratch. Assumes nothing
-// beyond each function's `requires`.
+// The spans of an order's lines: where the subtree of each ends and how deep it is, found from the last line to the first, in a lent scratch.
+// Assumes nothing beyond each function's `requires`.
 ghost use mathlib.Core.Path.{_≡_};
 ghost use Prim.Native.Nat.{suc, _+_, _*_, _-_, _^_, _≤_, _<_, max};
 ghost use lib.ListN.{length, take, drop, set};
@@ -34,8 +34,8 @@ fn put_span(spans: &mut [u16], line: usize, end: usize, depth: usize)
     spans[2 * line - 1] = depth as u16;
 }
 
-// What a node comes to that has so many children, by the lines from `from` on, which were gone over: the first of them ends before line `first` and is `top`
-// deep, and there are `run` leaves first. Children that are all leaves are not gone over again.
+// What a node comes to that has so many children, by the lines from `from` on, which were gone over: the first of them ends before line `first`
+// and is `top` deep, and there are `run` leaves first. Children that are all leaves are not gone over again.
 fn over_children(
     order: &[u16],
     spans: &[u16],
@@ -89,12 +89,13 @@ fn whole(order: &[u16], spans: &[u16]) -> Measured
     Measured::Deep(depth)
 }
 
-// The depth of the tree that words are, if they are one; and the spans of its lines at the front of `spans`, from the last line to the first. `first` and `top`
-// are the span of the line behind, and `run` is how many leaves begin there.
+// The depth of the tree that words are, if they are one; and the spans of its lines at the front of `spans`, from the last line to the first.
+// `first` and `top` are the span of the line behind, and `run` is how many leaves begin there.
 pub fn measure(order: &[u16], spans: &mut [u16]) -> Measured
     requires { ⌜ Measurable (now order) (now spans) ⌝ }
     ensures came { λ r. ⌜ r ≡ measuredOf (treeOf (now (order .entry))) ⌝ }
-    ensures listed { λ _. ⌜ ((t : Tree) → treeOf (now (order .entry)) ≡ found t → take (length (now (order .entry))) (now (spans .exit)) ≡ spansFrom 0 (subtrees t)) ⌝ }
+    ensures listed { λ _. ⌜ ((t : Tree) → treeOf (now (order .entry)) ≡ found t → take (length (now (order .entry))) (now (spans .exit))
+        ≡ spansFrom 0 (subtrees t)) ⌝ }
     ensures kept { λ _. ⌜ length (now (spans .exit)) ≡ length (now (spans .entry)) ⌝ }
 {
     let mut line = order.len() / 2;

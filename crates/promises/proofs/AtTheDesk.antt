@@ -11,6 +11,7 @@ use mathlib.Core.List.{List, [], _∷_, _++_, append-nil}
 use native.Mathlib.Decide.{decLt}
 use native.Mathlib.Omega.{arith}
 use lib.ListN.{length, length-append, length-replicate, getD, replicate}
+use Rattle.words.proofs.Tests.{never}
 use Rattle.words.specs.Base.{if_then_else_}
 use Rattle.figures.specs.Limits.{head-words, desk-book-words, least-k, greatest-k, greatest-count, used-word}
 use Rattle.figures.specs.Numbers.{done, no-room, not-taught, top-unknown, low-unknown, middle-unknown}
@@ -98,7 +99,7 @@ fault-alone input a e = go (handedIn input) refl
     -- By what is handed in.
     go : (h : Handed) → handedIn input ≡ h → deskOf input ≡ reply letter-K a 0
     go (faulty b) q = let same : b ≡ a = cc in rw (q, same)
-    go (handed k cs) q = absurd (let z : _≡_ {A = ℕ} 0 1 = cc in omega arith)
+    go (handed k cs) q = never cc
 
 -- "a refusal changes nothing lent to the call": a form that is answered by another number than 0 leaves the book as it came.
 pub desk-leaves : (c : FormCall) (book : List ℕ) → (callOf c book .answer .number ≡ done → ⊥) → callOf c book .words ≡ book

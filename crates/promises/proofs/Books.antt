@@ -12,7 +12,7 @@ use lib.Seq.{take-append-seam, drop-at, drop-drop}
 use Rattle.words.specs.Base.{_∈_}
 use Rattle.words.specs.Compare.{firstWords, compareOf, _≺_}
 use Rattle.words.specs.declared.Compared.the-variants.{Lower}
-use Rattle.words.proofs.Tests.{is-true}
+use Rattle.words.proofs.Tests.{is-true, never}
 use Rattle.figures.specs.Limits.{head-words}
 use Rattle.figures.specs.Numbers.{done}
 use Rattle.section.specs.Entries.{Entry, counted, sectionWords, has, countOf, Sorted}
@@ -48,15 +48,15 @@ use Rattle.promises.specs.Books.{LowerThan, ends-first, less, same-word,
 -- What is lower by comparing is lower word by word,
 lower-so : (x y : List ℕ) → x ≺ y → LowerThan x y
 unfolding compareOf
-lower-so [] [] e = absurd (let z : _≡_ {A = ℕ} 0 1 = cc in omega arith)
+lower-so [] [] e = never cc
 lower-so [] (y ∷ ys) e = ends-first
-lower-so (x ∷ xs) [] e = absurd (let z : _≡_ {A = ℕ} 0 1 = cc in omega arith)
+lower-so (x ∷ xs) [] e = never cc
 lower-so (x ∷ xs) (y ∷ ys) e = go (ltb x y) (ltb y x) refl refl e (lower-so xs ys)
   where
     -- By how the first words stand to each other.
     go : (a b : Bool) → ltb x y ≡ a → ltb y x ≡ b → firstWords a b (compareOf xs ys) ≡ Lower → (xs ≺ ys → LowerThan xs ys) → LowerThan (x ∷ xs) (y ∷ ys)
     go true b p q r next = less (ltb-true x y p)
-    go false true p q r next = absurd (let z : _≡_ {A = ℕ} 0 1 = cc in omega arith)
+    go false true p q r next = never cc
     go false false p q r next =
         let h : y ≤ x = ltb-false x y p in
         let k : x ≤ y = ltb-false y x q in

@@ -13,6 +13,7 @@ use mathlib.Core.List.{List}
 use native.Mathlib.Omega.{arith}
 use lib.Dec.{ltb}
 use lib.ListN.{length, drop}
+use Rattle.words.proofs.Tests.{never}
 use Rattle.words.specs.Base.{if_then_else_}
 use Rattle.figures.specs.Numbers.{done, too-large, no-form, top-unknown}
 use Rattle.figures.specs.Answers.{depthOf, askedTold}
@@ -364,7 +365,7 @@ module _ (ws text out : List ℕ) where
       go : (t : Bool) (h : Handed) → openingBy h ≡ Fault a → (if t then idle ws out else begunBy (length text) h ws out) .book ≡ ws
       go true h e = refl
       go false (faulty b) e = refl
-      go false (handed j cs) e = absurd (let z : _≡_ {A = ℕ} 0 1 = cc in omega arith)
+      go false (handed j cs) e = never cc
 
   -- Where the output has no room for a line, nothing is done: nothing is taken of the input, and the book's slice and the output stay.
   pub begin-idle : length out < reply-room → beginOf text ws out ≡ idle ws out

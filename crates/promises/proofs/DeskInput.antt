@@ -7,6 +7,7 @@ use native.Mathlib.Omega.{arith}
 use borrow.Author.Tests.{ltb-false, le-ltb}
 use lib.Dec.{ltb}
 use lib.ListN.{length}
+use Rattle.words.proofs.Tests.{never}
 use Rattle.words.specs.Base.{_∈_, if_then_else_}
 use Rattle.figures.specs.Limits.{most-input}
 use Rattle.figures.specs.Numbers.{too-large}
@@ -26,7 +27,7 @@ use Rattle.promises.specs.DeskInput.{InputIs, LetterBehind, BeginsForm}
 handed-as : (j : ℕ) (bs : List ℕ) (ds : List FormCall) (k : ℕ) (cs : List FormCall) → handedBy j bs ds ≡ handed k cs → (j ≡ k) × (bs ≡ []) × (ds ≡ cs)
 unfolding handedBy
 handed-as j [] ds k cs e = (cc, refl, cc)
-handed-as j (b ∷ bs) ds k cs e = absurd (let z : _≡_ {A = ℕ} 0 1 = cc in omega arith)
+handed-as j (b ∷ bs) ds k cs e = never cc
 
 -- Bytes with nothing before their calls are the calls, one after the other;
 rest-joined : (rest : List ℕ) (cs : List FormCall) → sheetOf rest .before ≡ [] → sheetOf rest .calls ≡ cs → rest ≡ joinedCalls cs
@@ -48,7 +49,7 @@ module _ (input : List ℕ) (k : ℕ) (cs : List FormCall) where
   -- What an allowed input hands in by its first line is what its bytes are.
   first-bytes : length input ≤ most-input → (f : FirstLine) → firstLine input ≡ f → byFirst f ≡ handed k cs → InputIs input k cs
   unfolding byFirst
-  first-bytes h otherwise p e = absurd (let z : _≡_ {A = ℕ} 0 1 = cc in omega arith)
+  first-bytes h otherwise p e = never cc
   first-bytes h (asks j rest) p e =
       let w = handed-as j (sheetOf rest .before) (sheetOf rest .calls) k cs e in
       let q : rest ≡ joinedCalls cs = rest-joined rest cs (w .1) (w .2) in
@@ -63,7 +64,7 @@ module _ (input : List ℕ) (k : ℕ) (cs : List FormCall) where
       -- By whether the input is too long.
       go : (t : Bool) → ltb most-input (length input) ≡ t → (if t then faulty (answered too-large) else byFirst (firstLine input)) ≡ handed k cs
           → InputIs input k cs
-      go true p e = absurd (let z : _≡_ {A = ℕ} 0 1 = cc in omega arith)
+      go true p e = never cc
       go false p e = first-bytes (omega (arith, ltb-false most-input (length input) p)) (firstLine input) refl e
 
   -- What the bytes are is handed in.

@@ -8,7 +8,7 @@ use native.Mathlib.Omega.{arith}
 use borrow.Author.Tests.{ltb-true, lt-ltb}
 use lib.ListN.{length}
 use Rattle.words.specs.Base.{if_then_else_, sameWords, _∈_}
-use Rattle.words.proofs.Tests.{same-words, words-same}
+use Rattle.words.proofs.Tests.{same-words, words-same, by-test}
 use Rattle.figures.specs.Limits.{greatest-depth, least-k}
 use Rattle.section.specs.Entries.{Entry, has, countsFor, countOf, total, Sorted, lower}
 use Rattle.section.proofs.Counts.{count-lower, total-lower, has-count, has-entry, entry-has, lacks-counts}
@@ -121,12 +121,10 @@ total-most (p ∷ rest) es s most = go (has p es) refl (total-most rest)
 
 -- If they are as many as the orders, each order counts in it.
 each-counts : (os : List ℕ) {orders : List (List ℕ)} (es : List Entry) → Sorted es → NoMore es orders → total es ≡ length orders → os ∈ orders → 1 ≤ countOf os es
-each-counts os es s most e (here {x = p} {xs = rest} q) = go (has p es) refl
-  where
-    -- With no entry of the first order its counts would be no more than the others.
-    go : (b : Bool) → has p es ≡ b → 1 ≤ countOf os es
-    go true h = rw q (entry-counts p es s h)
-    go false h = absurd (omega (arith, total-most rest es s (no-more-later p rest es (lacks-counts p es s h) most)))
+each-counts os es s most e (here {x = p} {xs = rest} q) =
+    by-test (has p es)
+    (λ h. rw q (entry-counts p es s h))
+    (λ h. absurd (omega (arith, total-most rest es s (no-more-later p rest es (lacks-counts p es s h) most))))
 each-counts os es s most e (there {x = p} {xs = rest} m) = go (has p es) refl (λ fs t n f. each-counts os fs t n f m)
   where
     -- With one it counts the others once the first is taken away.

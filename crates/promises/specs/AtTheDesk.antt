@@ -58,7 +58,8 @@ pub data WhyAnswered (x : Letter) (text book : List ℕ) (o : Outcome) : Type 0 
   -- W: it is withdrawn, or refused by its row
   withdraws : (t : Tree) → x ≡ Withdraw → text ≡ textOf t → IsOrder (words t) t → WhyWithdrawn book (words t) o → WhyAnswered x text book o
   -- J: it is judged by its row, and the book stays
-  judges : (t : Tree) → x ≡ Judge → text ≡ textOf t → IsOrder (words t) t → Judged book (words t) (o .answer) → o .words ≡ book → WhyAnswered x text book o
+  judges : (t : Tree) → x ≡ Judge → text ≡ textOf t → IsOrder (words t) t → Judged book (words t) (o .answer) → o .words ≡ book
+      → WhyAnswered x text book o
 
 -- ---- the line of a form
 
@@ -78,8 +79,8 @@ pub record Says (letter number line used : ℕ) (bytes : List ℕ) : Type 0 wher
   pub line-is : InDecimal line line-digits
   pub used-is : InDecimal used used-digits
 
--- Of all that is printed, the line of a form that so many lines stand before: it says the letter, the number, the line and the words used of an answer
--- that the form's rows allow on the book, and that answer's words are the book from then on.
+-- Of all that is printed, the line of a form that so many lines stand before: it says the letter, the number, the line and the words used of an
+-- answer that the form's rows allow on the book, and that answer's words are the book from then on.
 pub record PrintedFor (printed : List ℕ) (place : ℕ) (x : Letter) (text book later : List ℕ) : Type 0 where
   pub before : List ℕ
   pub line : List ℕ

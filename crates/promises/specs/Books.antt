@@ -1,5 +1,5 @@
--- What a book's words and counts are, and what one teaching more makes of them, said without the functions that find and change them (01, "The book").
--- Assumes nothing: these are definitions.
+-- What a book's words and counts are, and what one teaching more makes of them, said without the functions that find and change them (01, "The
+-- book"). Assumes nothing: these are definitions.
 use Prim.Native.Nat.{ℕ, suc, _-_, _<_}
 use mathlib.Core.Path.{_≡_}
 use mathlib.Core.List.{List, [], _∷_}
@@ -24,9 +24,9 @@ abbrev pub OneMore : (Tree → Type 0) → List Entry → List Entry → Type 0
 OneMore Kind old new =
     (u : Tree) → (Kind u → countOf (words u) new ≡ suc (countOf (words u) old)) × ((Kind u → ⊥) → countOf (words u) new ≡ countOf (words u) old)
 
--- "Teaching raises each count by one or enters the part with count 1. Withdrawing lowers each by one and takes out an entry that comes to 0. Both raise or
--- lower word 2": one book has one teaching of an order more than another, in T, and in R, L and P for its r, each of its l and each of its p, "once per
--- teaching however often it occurs in it".
+-- "Teaching raises each count by one or enters the part with count 1. Withdrawing lowers each by one and takes out an entry that comes to 0. Both
+-- raise or lower word 2": one book has one teaching of an order more than another, in T, and in R, L and P for its r, each of its l and each of
+-- its p, "once per teaching however often it occurs in it".
 pub record OneTeachingMore (t : Tree) (old new : Book) : Type 0 where
   pub depth : new .k ≡ old .k
   pub lives : live new ≡ suc (live old)

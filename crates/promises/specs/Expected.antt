@@ -1,5 +1,6 @@
--- What a book says of a part's neighbours, and what judging hands on of them (02, "Say what the book expected"), by relations apart from the tests of `nearOf` and
--- `expectedOf`. That these give exactly what is said here is shown in proofs/Expected.antt. Assumes nothing: these are definitions.
+-- What a book says of a part's neighbours, and what judging hands on of them (02, "Say what the book expected"), by relations apart from the
+-- tests of `nearOf` and `expectedOf`. That these give exactly what is said here is shown in proofs/Expected.antt. Assumes nothing: these are
+-- definitions.
 use Prim.Native.Nat.{ℕ, _-_}
 use mathlib.Core.Path.{_≡_}
 use mathlib.Core.Bool.{true, false}
@@ -22,7 +23,8 @@ pub record HasKey (key : List ℕ) (es : List Entry) : Type 0 where
   pub there : entry ∈ es
   pub same : entry .key ≡ key
 
--- "for the last entry below .. the place of the first differing word, 0 where there is no such entry": the last is the greatest of those that are lower.
+-- "for the last entry below .. the place of the first differing word, 0 where there is no such entry": the last is the greatest of those that are
+-- lower.
 pub data PlaceBelow (key : List ℕ) (es : List Entry) (place : ℕ) : Type 0 where
   none-below : place ≡ 0 → ((e : Entry) → e ∈ es → IsLower (e .key) key → ⊥) → PlaceBelow key es place
   last-below : (e : Entry) → e ∈ es → IsLower (e .key) key → ((f : Entry) → f ∈ es → IsLower (f .key) key → IsLower (e .key) (f .key) → ⊥)

@@ -1,5 +1,5 @@
--- What stands on a line of a form and which line it is, by its bytes: levels and codes in tens, and lines counted by their LF (01, "Order form text"); and
--- which line comes back of an order that does not pass (02, "Point at the line I can fix"). Assumes nothing: these are definitions.
+-- What stands on a line of a form and which line it is, by its bytes: levels and codes in tens, and lines counted by their LF (01, "Order form
+-- text"); and which line comes back of an order that does not pass (02, "Point at the line I can fix"). Assumes nothing: these are definitions.
 use Prim.Native.Nat.{ℕ, suc, _+_, _*_, _-_, _≤_, _<_}
 use mathlib.Core.Path.{_≡_}
 use mathlib.Core.List.{List, [], _∷_, _++_}
@@ -77,8 +77,8 @@ pub record LinesBelow (form : List Line) (line n : ℕ) : Type 0 where
 
 -- ---- which line comes back
 
--- A subtree's part is in the book: "every subtree of depth at most k-2" is a low part itself, and of a deeper one the middle part is its r of index k.
--- Said apart from the rows of judging (`Known`, book_judging/specs/Verdicts.antt), so that a change of these is seen here.
+-- A subtree's part is in the book: "every subtree of depth at most k-2" is a low part itself, and of a deeper one the middle part is its r of
+-- index k. Said apart from the rows of judging (`Known`, book_judging/specs/Verdicts.antt), so that a change of these is seen here.
 pub record PartKnown (b : Book) (s : Tree) : Type 0 where
   pub low : depth s ≤ b .k - 2 → In (b .L) s
   pub middle : b .k - 1 ≤ depth s → (u : Tree) → IsR (b .k) s u → In (b .P) u
@@ -87,8 +87,8 @@ pub record PartKnown (b : Book) (s : Tree) : Type 0 where
 abbrev pub NoLineUnknown : Book → Tree → Type 0
 NoLineUnknown b t = (line : ℕ) (s : Tree) → treeOfLine line (subtrees t) ≡ found s → PartKnown b s
 
--- A line "whose part is unknown while nothing strictly below it is unknown": strictly below it stands what document 000 has as s/x, where s is the line's
--- subtree and x a position other than λ.
+-- A line "whose part is unknown while nothing strictly below it is unknown": strictly below it stands what document 000 has as s/x, where s is
+-- the line's subtree and x a position other than λ.
 pub record CanBeFixed (b : Book) (t : Tree) (line : ℕ) : Type 0 where
   pub subtree : Tree
   pub on : treeOfLine line (subtrees t) ≡ found subtree

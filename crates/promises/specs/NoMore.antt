@@ -1,5 +1,6 @@
--- Any three finite sets of tops, low parts and middle parts, their forms, a book's own three, and which orders are taught and which remain, as sets of trees
--- (02, "Show that the book lets in no more than it must"; document 000, sections III and IV). Assumes nothing: these are definitions.
+-- Any three finite sets of tops, low parts and middle parts, their forms, a book's own three, and which orders are taught and which remain, as
+-- sets of trees (02, "Show that the book lets in no more than it must"; document 000, sections III and IV). Assumes nothing: these are
+-- definitions.
 use Prim.Native.Nat.{ℕ}
 use mathlib.Core.List.{List, [], _∷_}
 use Rattle.words.specs.Base.{_∈_}
@@ -13,15 +14,15 @@ use Rattle.book_judging.specs.Verdicts.{In}
 
 -- ---- three sets
 
--- "any three finite sets" "of tops, low parts and middle parts". Nothing is asked of their trees: one that is no tree's top, low part or middle part at k, being
--- too deep, say, lets nothing in.
+-- "any three finite sets" "of tops, low parts and middle parts". Nothing is asked of their trees: one that is no tree's top, low part or middle
+-- part at k, being too deep, say, lets nothing in.
 pub record ThreeSets : Type 0 where
   pub tops : List Tree
   pub lows : List Tree
   pub middles : List Tree
 
--- A tree is one of the "forms" of three sets at k: its top is among the tops, all its low parts are among the low parts, and all its middle parts among the
--- middle parts.
+-- A tree is one of the "forms" of three sets at k: its top is among the tops, all its low parts are among the low parts, and all its middle parts
+-- among the middle parts.
 abbrev pub FormOf : ℕ → ThreeSets → Tree → Type 0
 FormOf k s = LetIn k (λ u. u ∈ s .tops) (λ u. u ∈ s .lows) (λ u. u ∈ s .middles)
 

@@ -1,7 +1,7 @@
 -- The rows of 01's table that numbering an order, handing out and writing its parts, asking for a k, opening, checking, joining, and reading and
 -- writing a form or a file can answer, by trees, lines and sizes, apart from the tests of their definitions ("Numbers the desk hears"). Those of a
--- book's form are in book/specs/Sound.antt, of judging in book_judging/specs/Verdicts.antt, of teaching and withdrawing in book_teaching/specs/Whys.antt.
--- Assumes nothing: these are definitions.
+-- book's form are in book/specs/Sound.antt, of judging in book_judging/specs/Verdicts.antt, of teaching and withdrawing in
+-- book_teaching/specs/Whys.antt. Assumes nothing: these are definitions.
 use Prim.Native.Nat.{ℕ, _+_, _-_, _*_, _≤_, _<_}
 use mathlib.Core.Path.{_≡_}
 use mathlib.Core.List.{List, [], _∷_, _++_}
@@ -9,7 +9,8 @@ use mathlib.Core.Option.{Option, none, some}
 use lib.ListN.{length, take, drop}
 use Rattle.words.specs.Base.{over}
 use Rattle.figures.specs.Limits.{head-words, most-book-words, least-k, greatest-k, greatest-count}
-use Rattle.figures.specs.Numbers.{done, k-outside, book-size, no-room, too-many, not-agreeing, no-form, short-output, no-mark, other-version, no-stored-book, other-k}
+use Rattle.figures.specs.Numbers.{done, k-outside, book-size, no-room, too-many, not-agreeing, no-form, short-output, no-mark, other-version}
+use Rattle.figures.specs.Numbers.{no-stored-book, other-k}
 use Rattle.figures.specs.Answers.{answered, wrote, refusedAt}
 use Rattle.figures.specs.declared.Answer.{Answer}
 use Rattle.order.specs.Trees.{Tree, words, depth, cut, subtrees}
@@ -64,9 +65,11 @@ pub data WhyCut (os out : List ℕ) (line d : ℕ) (w : Writing) : Type 0 where
   -- 0 for "a line the order lacks": nothing is cut, so nothing is written
   cut-lacks : (t : Tree) → w ≡ writing (wrote done 0) out → IsOrder os t → LacksLine t line → WhyCut os out line d w
   -- 11: "lent output too short"
-  cut-short : (t s : Tree) → w ≡ refuse short-output out → IsOrder os t → treeOfLine line (subtrees t) ≡ found s → length out < length (words (cut s d)) → WhyCut os out line d w
+  cut-short : (t s : Tree) → w ≡ refuse short-output out → IsOrder os t → treeOfLine line (subtrees t) ≡ found s
+      → length out < length (words (cut s d)) → WhyCut os out line d w
   -- 0: the words of the cut at the front of the output
-  cut-written : (t s : Tree) → w ≡ writing (wrote done (length (words (cut s d)))) (over (words (cut s d)) out) → IsOrder os t → treeOfLine line (subtrees t) ≡ found s
+  cut-written : (t s : Tree) → w ≡ writing (wrote done (length (words (cut s d)))) (over (words (cut s d)) out) → IsOrder os t
+      → treeOfLine line (subtrees t) ≡ found s
       → length (words (cut s d)) ≤ length out → WhyCut os out line d w
 
 -- Why writing the part that a line stands for at k gives w: 1, 2, 11, with the kind of part, which is told with 11 as well. "The depth of the
@@ -80,13 +83,15 @@ pub data WhyPart (os out : List ℕ) (line k : ℕ) (w : PartWriting) : Type 0 w
   low-short : (t s : Tree) → w ≡ ofKind Low (refuse short-output out) → IsOrder os t → treeOfLine line (subtrees t) ≡ found s → depth s ≤ k - 2
       → length out < length (words s) → WhyPart os out line k w
   -- 0: the words of the low part at the front of the output
-  low-written : (t s : Tree) → w ≡ ofKind Low (writing (wrote done (length (words s))) (over (words s) out)) → IsOrder os t → treeOfLine line (subtrees t) ≡ found s → depth s ≤ k - 2
+  low-written : (t s : Tree) → w ≡ ofKind Low (writing (wrote done (length (words s))) (over (words s) out)) → IsOrder os t
+      → treeOfLine line (subtrees t) ≡ found s → depth s ≤ k - 2
       → length (words s) ≤ length out → WhyPart os out line k w
   -- 11, "lent output too short", for a middle part: "cut(s, k-1) for every subtree s of depth at least k-1", which is deeper than k-2
   middle-short : (t s : Tree) → w ≡ ofKind Middle (refuse short-output out) → IsOrder os t → treeOfLine line (subtrees t) ≡ found s → k - 2 < depth s
       → length out < length (words (cut s (k - 1))) → WhyPart os out line k w
   -- 0: the words of the middle part at the front of the output
-  middle-written : (t s : Tree) → w ≡ ofKind Middle (writing (wrote done (length (words (cut s (k - 1))))) (over (words (cut s (k - 1))) out)) → IsOrder os t
+  middle-written : (t s : Tree) → w ≡ ofKind Middle (writing (wrote done (length (words (cut s (k - 1))))) (over (words (cut s (k - 1))) out))
+      → IsOrder os t
       → treeOfLine line (subtrees t) ≡ found s → k - 2 < depth s → length (words (cut s (k - 1))) ≤ length out → WhyPart os out line k w
 
 -- ---- books
@@ -139,8 +144,8 @@ pub record TwoBooks (ws vs : List ℕ) (b c : Book) : Type 0 where
   pub firstAgrees : Agrees b
   pub secondAgrees : Agrees c
 
--- Why joining answers and leaves the first book's words as o has them: "Refusals: 4 and 5 on the first book, 4 and 5 on the second, 15 where k differs, 9 on
--- the first, 9 on the second, 7, 6."
+-- Why joining answers and leaves the first book's words as o has them: "Refusals: 4 and 5 on the first book, 4 and 5 on the second, 15 where k
+-- differs, 9 on the first, 9 on the second, 7, 6."
 pub data WhyJoined (ws vs : List ℕ) (o : Outcome) : Type 0 where
   -- "4 and 5 on the first book", by it alone
   join-no-first : (n : ℕ) → o ≡ leave ws n → WhyForm ws (Refused n) → WhyJoined ws vs o
@@ -151,13 +156,16 @@ pub data WhyJoined (ws vs : List ℕ) (o : Outcome) : Type 0 where
   -- "9 on the first": it does not agree with itself
   first-disagrees : (b c : Book) → o ≡ leave ws not-agreeing → IsBook ws b → IsBook vs c → b .k ≡ c .k → (Agrees b → ⊥) → WhyJoined ws vs o
   -- "9 on the second"
-  second-disagrees : (b c : Book) → o ≡ leave ws not-agreeing → IsBook ws b → IsBook vs c → b .k ≡ c .k → Agrees b → (Agrees c → ⊥) → WhyJoined ws vs o
+  second-disagrees : (b c : Book) → o ≡ leave ws not-agreeing → IsBook ws b → IsBook vs c → b .k ≡ c .k → Agrees b → (Agrees c → ⊥)
+      → WhyJoined ws vs o
   -- 7: the live teachings of both together would pass 65,535
   lives-pass : (b c : Book) → o ≡ leave ws too-many → TwoBooks ws vs b c → greatest-count < live b + live c → WhyJoined ws vs o
   -- 6: "the result needs more words than the book slice has", the result being the book with the "counts added"
-  sum-no-room : (b c sum : Book) → o ≡ leave ws no-room → TwoBooks ws vs b c → live b + live c ≤ greatest-count → CountsAdded b c sum → length ws < used sum → WhyJoined ws vs o
+  sum-no-room : (b c sum : Book) → o ≡ leave ws no-room → TwoBooks ws vs b c → live b + live c ≤ greatest-count → CountsAdded b c sum
+      → length ws < used sum → WhyJoined ws vs o
   -- 0: "the second stays unchanged and the first becomes the book taught the live orders of both, counts added", in the whole slice
-  joins : (b c sum : Book) → o ≡ writeBook ws sum → TwoBooks ws vs b c → live b + live c ≤ greatest-count → CountsAdded b c sum → used sum ≤ length ws → WhyJoined ws vs o
+  joins : (b c sum : Book) → o ≡ writeBook ws sum → TwoBooks ws vs b c → live b + live c ≤ greatest-count → CountsAdded b c sum → used sum ≤ length ws
+      → WhyJoined ws vs o
 
 -- ---- forms
 
@@ -168,7 +176,8 @@ pub data WhyPrinted (os out : List ℕ) (w : Writing) : Type 0 where
   -- 11: "lent output too short"
   print-short : (t : Tree) → w ≡ refuse short-output out → IsOrder os t → length out < length (textOf t) → WhyPrinted os out w
   -- 0: "the only text of an order" at the front of the output
-  printed : (t : Tree) → w ≡ writing (wrote done (length (textOf t))) (over (textOf t) out) → IsOrder os t → length (textOf t) ≤ length out → WhyPrinted os out w
+  printed : (t : Tree) → w ≡ writing (wrote done (length (textOf t))) (over (textOf t) out) → IsOrder os t → length (textOf t) ≤ length out
+      → WhyPrinted os out w
 
 -- Why reading a text gives w: the first line at fault, or 11, or the order whose text it is.
 pub data WhyRead (text out : List ℕ) (w : Writing) : Type 0 where
@@ -179,7 +188,8 @@ pub data WhyRead (text out : List ℕ) (w : Writing) : Type 0 where
   -- 11: "11 last"
   read-short : (t : Tree) → w ≡ refuse short-output out → text ≡ textOf t → IsOrder (words t) t → length out < length (words t) → WhyRead text out w
   -- 0: the order's words at the front of the output
-  read : (t : Tree) → w ≡ writing (wrote done (length (words t))) (over (words t) out) → text ≡ textOf t → IsOrder (words t) t → length (words t) ≤ length out → WhyRead text out w
+  read : (t : Tree) → w ≡ writing (wrote done (length (words t))) (over (words t) out) → text ≡ textOf t → IsOrder (words t) t
+      → length (words t) ≤ length out → WhyRead text out w
 
 -- ---- files
 
@@ -208,7 +218,8 @@ pub data WhyFiled (ws out : List ℕ) (w : Writing) : Type 0 where
   -- 11: "lent output too short"
   file-short : (b : Book) → w ≡ refuse short-output out → IsBook ws b → Agrees b → length out < length (fileOf b) → WhyFiled ws out w
   -- 0: the file at the front of the output
-  filed : (b : Book) → w ≡ writing (wrote done (length (fileOf b))) (over (fileOf b) out) → IsBook ws b → Agrees b → length (fileOf b) ≤ length out → WhyFiled ws out w
+  filed : (b : Book) → w ≡ writing (wrote done (length (fileOf b))) (over (fileOf b) out) → IsBook ws b → Agrees b → length (fileOf b) ≤ length out
+      → WhyFiled ws out w
 
 -- Why reading a file into a slice gives o: "Read file: 4, 12, 13, 14, 9, 6."
 pub data WhyRestored (file ws : List ℕ) (o : Outcome) : Type 0 where
@@ -221,9 +232,11 @@ pub data WhyRestored (file ws : List ℕ) (o : Outcome) : Type 0 where
   -- 12: "or wrong mark"
   wrong-mark : o ≡ leave ws no-mark → BookSized ws → front-bytes ≤ length file → (take mark-bytes file ≡ mark → ⊥) → WhyRestored file ws o
   -- 13: "version not 1"
-  wrong-version : (high low : ℕ) (rest : List ℕ) → o ≡ leave ws other-version → BookSized ws → file ≡ mark ++ (high ∷ low ∷ rest) → (high * 256 + low ≡ version → ⊥) → WhyRestored file ws o
+  wrong-version : (high low : ℕ) (rest : List ℕ) → o ≡ leave ws other-version → BookSized ws → file ≡ mark ++ (high ∷ low ∷ rest)
+      → (high * 256 + low ≡ version → ⊥) → WhyRestored file ws o
   -- 14: "the rest is not the used words of a book in form"
-  no-used-words : (high low : ℕ) (rest : List ℕ) → o ≡ leave ws no-stored-book → BookSized ws → file ≡ mark ++ (high ∷ low ∷ rest) → high * 256 + low ≡ version
+  no-used-words : (high low : ℕ) (rest : List ℕ) → o ≡ leave ws no-stored-book → BookSized ws → file ≡ mark ++ (high ∷ low ∷ rest) → high * 256 + low
+      ≡ version
       → ((b : Book) → UsedWords rest b → ⊥) → WhyRestored file ws o
   -- 9: "book does not agree with itself"
   restore-disagrees : (b : Book) → o ≡ leave ws not-agreeing → BookSized ws → IsFile file b → (Agrees b → ⊥) → WhyRestored file ws o

@@ -8,8 +8,8 @@
 //   agrees            it is checked to agree with itself
 //   join              the other book, with which it changes places by `swap`, is joined to it
 //   show              says every word of it
-// All calls but that of `form` are made through the functions for C (`ofb`). Each call on the kept book says its answer, word 1 of the book and a mark of all
-// the words of its slice; a joining also says whether the words of the other book are the same as before.
+// All calls but that of `form` are made through the functions for C (`ofb`). Each call on the kept book says its answer, word 1 of the book and a
+// mark of all the words of its slice; a joining also says whether the words of the other book are the same as before.
 use crate::kinds;
 use book::BookForm;
 use book::Places;

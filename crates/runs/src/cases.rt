@@ -1,5 +1,5 @@
-// What comes of the case on a line: its kind, and behind that a text or, mostly, a list of words, each behind one space; *N behind a word lets it stand N
-// times in all. A line that begins with # is no case: it says what the next cases are about.
+// What comes of the case on a line: its kind, and behind that a text or, mostly, a list of words, each behind one space; *N behind a word lets it
+// stand N times in all. A line that begins with # is no case: it says what the next cases are about.
 use crate::books;
 use crate::forms;
 use crate::kinds;

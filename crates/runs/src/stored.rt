@@ -199,7 +199,8 @@ fn refused(call: &[u8], number: u16) {
     say::word(number);
 }
 
-// Writes the file of a book to an output, and answers how many bytes it has. Where it is not written, says why and answers 0: a file has a byte at least.
+// Writes the file of a book to an output, and answers how many bytes it has. Where it is not written, says why and answers 0: a file has a byte
+// at least.
 fn written(book: &[u16], out: &mut [u8]) -> usize
     ensures { λ r. ⌜ r ≤ length (now (out .entry)) ⌝ }
 {

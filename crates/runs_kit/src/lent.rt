@@ -25,8 +25,8 @@ pub fn answer(number: u16, line: usize, count: usize) {
     say::text(b" written:");
 }
 
-// How many words or bytes of an output are said as written, by how many it has and the count that a call answered: so many, or none where that is more
-// than was lent. Where there are none, says why.
+// How many words or bytes of an output are said as written, by how many it has and the count that a call answered: so many, or none where that is
+// more than was lent. Where there are none, says why.
 fn front(lent: usize, count: usize) -> usize
     ensures { λ r. ⌜ r ≤ lent ⌝ }
 {

@@ -1,4 +1,5 @@
-// A mark of 32 bits of words: where two marks differ the words do, and where they are the same it is all but certain that the words are. Assumes nothing.
+// A mark of 32 bits of words: where two marks differ the words do, and where they are the same it is all but certain that the words are. Assumes
+// nothing.
 
 // The mark of words with one word more, which is 65,599 times their mark and the word and 1, modulo 2 to the power 32.
 fn marked(mark: u32, word: u16) -> u32 {

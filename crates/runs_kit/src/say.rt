@@ -73,9 +73,9 @@ pub fn heard(number: u16, line: usize) {
 // fewer.
 const ROWS: usize = 65;
 
-// Says what stands behind a whole tree: a `)` for each open row that ends with it, from the innermost on, and a comma if a row is still open, whose next
-// tree is then to come. `left` has for each of the `deep` open rows how many trees were to come, the one just said counted. Gives how many rows are then
-// open.
+// Says what stands behind a whole tree: a `)` for each open row that ends with it, from the innermost on, and a comma if a row is still open,
+// whose next tree is then to come. `left` has for each of the `deep` open rows how many trees were to come, the one just said counted. Gives how
+// many rows are then open.
 fn tree_done(left: &mut [u16], deep: usize) -> usize
     requires { ⌜ deep ≤ length (now left) ⌝ }
     ensures within { λ r. ⌜ r ≤ deep ⌝ }
@@ -96,7 +96,8 @@ fn tree_done(left: &mut [u16], deep: usize) -> usize
     rows
 }
 
-// Says what stands behind the number of a node: a `(` if it has children, and else what stands behind a whole tree. Gives how many rows are then open.
+// Says what stands behind the number of a node: a `(` if it has children, and else what stands behind a whole tree. Gives how many rows are then
+// open.
 fn node_said(left: &mut [u16], deep: usize, children: u16) -> usize
     requires { ⌜ deep < length (now left) ⌝ }
     ensures within { λ r. ⌜ r ≤ length (now (left .entry)) ⌝ }
@@ -110,7 +111,8 @@ fn node_said(left: &mut [u16], deep: usize, children: u16) -> usize
     deep + 1
 }
 
-// Closes the rows that are still open where the words end, from the innermost on, with a comma behind each `)` where trees are lacking in the row around.
+// Closes the rows that are still open where the words end, from the innermost on, with a comma behind each `)` where trees are lacking in the row
+// around.
 fn close_rows(left: &[u16], deep: usize)
     requires { ⌜ deep ≤ length (now left) ⌝ }
 {
@@ -124,8 +126,8 @@ fn close_rows(left: &[u16], deep: usize)
     }
 }
 
-// Says the tree that stands at the front of the words, or so much of it as they have, node by node, and gives the word past what is said. A deeper tree
-// than there are rows for is said up to the `(` of the last.
+// Says the tree that stands at the front of the words, or so much of it as they have, node by node, and gives the word past what is said. A
+// deeper tree than there are rows for is said up to the `(` of the last.
 fn front_tree(words: &[u16]) -> usize {
     let mut left = [0u16; ROWS];
     let mut deep: usize = 0;

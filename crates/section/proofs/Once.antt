@@ -6,7 +6,7 @@ use mathlib.Core.List.{List}
 use native.Mathlib.Omega.{arith}
 use lib.ListN.{length}
 use Rattle.words.specs.Base.{if_then_else_, sameWords}
-use Rattle.words.proofs.Tests.{words-same}
+use Rattle.words.proofs.Tests.{words-same, by-test}
 use Rattle.section.specs.Entries.{Entry, sectionWords, Even, has, Sorted, add, addOnce}
 use Rattle.section.proofs.Counts.{has-add}
 use Rattle.section.proofs.Sizes.{size-add, even-add}
@@ -25,28 +25,19 @@ module _ (e : Entry) (es : List Entry) where
 
   -- With an entry once more a section is still sorted.
   pub sorted-add-once : 1 ≤ e .count → Sorted es → Sorted (addOnce e es)
-  sorted-add-once p s = go (has (e .key) es) refl
-    where
-      go : (b : Bool) → has (e .key) es ≡ b → Sorted (addOnce e es)
-      go true h = rw (once-has h) s
-      go false h = rw (once-lacks h) (sorted-add (e .count) (e .key) es p s)
+  sorted-add-once p s = by-test (has (e .key) es) (λ h. rw (once-has h) s) (λ h. rw (once-lacks h) (sorted-add (e .count) (e .key) es p s))
 
   -- Two words a node are kept.
   pub even-once : 2 * (length (e .key) / 2) ≡ length (e .key) → Even es → Even (addOnce e es)
-  even-once k h = go (has (e .key) es) refl
-    where
-      go : (b : Bool) → has (e .key) es ≡ b → Even (addOnce e es)
-      go true t = rw (once-has t) h
-      go false t = rw (once-lacks t) (even-add (e .count) (e .key) es k h)
+  even-once k h = by-test (has (e .key) es) (λ t. rw (once-has t) h) (λ t. rw (once-lacks t) (even-add (e .count) (e .key) es k h))
 
   -- At most the entry's words are added.
   pub size-once : Sorted es → length (sectionWords (addOnce e es)) ≤ length (sectionWords es) + (2 + length (e .key))
   unfolding if_then_else_
-  size-once s = go (has (e .key) es) refl
-    where
-      go : (b : Bool) → has (e .key) es ≡ b → length (sectionWords (addOnce e es)) ≤ length (sectionWords es) + (2 + length (e .key))
-      go true t = rw (once-has t) (omega arith)
-      go false t = rw (once-lacks t) (omega (arith, rw t at (size-add (e .count) (e .key) es s)))
+  size-once s =
+      by-test (has (e .key) es)
+      (λ t. rw (once-has t) (omega arith))
+      (λ t. rw (once-lacks t) (omega (arith, rw t at (size-add (e .count) (e .key) es s))))
 
 -- With an entry once more a section has its key, and those it had.
 pub has-once : (e : Entry) (es : List Entry) (z : List ℕ) → has z (addOnce e es) ≡ (if sameWords (e .key) z then true else has z es)

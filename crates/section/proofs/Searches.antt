@@ -10,7 +10,7 @@ use Rattle.words.specs.Compare.{compareOf, _≺_, signedOf, sizeOf}
 use Rattle.words.specs.declared.Compared.{Compared}
 use Rattle.words.specs.declared.Compared.the-variants.{Lower, Equal, Higher}
 use Rattle.words.proofs.Ordered.{compare-equal, compare-flip}
-use Rattle.words.proofs.Tests.{same-words}
+use Rattle.words.proofs.Tests.{same-words, never}
 use Rattle.section.specs.Entries.{Entry, sectionWords, entries, span, has, byCompared, placeIn, look, Below, Sorted}
 use Rattle.section.specs.Near.{placeAt, Stopped, foundAt, SearchedTo}
 use Rattle.section.specs.declared.Found.the-variants.{At, Absent}
@@ -69,7 +69,7 @@ look-gap key at n l p m r u (e ∷ es) h = go (compareOf (e .key) key) refl h (l
           below = first (i .front) c (i .below);
           above = i .above;
         }
-    go Equal c q later = absurd (let z : _≡_ {A = ℕ} 0 1 = cc in omega arith)
+    go Equal c q later = never cc
     go Higher c q later = record {
       front = [];
       back = e ∷ es;

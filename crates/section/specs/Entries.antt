@@ -103,8 +103,9 @@ byCompared Higher a b c = c
 abbrev pub placeIn : List ℕ → Entry → ℕ
 placeIn key e = sizeOf (signedOf (e .key) key)
 
--- What a search finds that ends at the first entry not below the key: where the key's entry stands or would stand, if the first entry stands at word `at`, how
--- many stand below it, if n stand before the first, and the places of its neighbours, if p is the place of the one before the first.
+-- What a search finds that ends at the first entry not below the key: where the key's entry stands or would stand, if the first entry stands at
+-- word `at`, how many stand below it, if n stand before the first, and the places of its neighbours, if p is the place of the one before the
+-- first.
 unfoldable pub look : List ℕ → ℕ → ℕ → ℕ → List Entry → Found
 look key at n p [] = Absent at n p 0
 look key at n p (e ∷ es) =

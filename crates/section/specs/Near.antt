@@ -1,5 +1,5 @@
--- What a section says of a key's neighbours (02, "Say what the book expected"), over all of its entries, with no search; and what functions know of a search that
--- has stopped. Assumes nothing: these are definitions.
+-- What a section says of a key's neighbours (02, "Say what the book expected"), over all of its entries, with no search; and what functions know
+-- of a search that has stopped. Assumes nothing: these are definitions.
 use Prim.Native.Nat.{ℕ, zero, suc, _+_, _*_, _-_, _≤_, _<_}
 use mathlib.Core.Path.{_≡_}
 use mathlib.Core.Bool.{Bool, true, false}
@@ -39,8 +39,8 @@ unfoldable pub firstPlace : List ℕ → List Entry → ℕ
 firstPlace key [] = 0
 firstPlace key (e ∷ es) = placeIn key e
 
--- "how many entries stand below it, whether it is there, and for the last entry below and the first above the place of the first differing word, 0 where there
--- is no such entry, and 0 for both when the part is there"
+-- "how many entries stand below it, whether it is there, and for the last entry below and the first above the place of the first differing word,
+-- 0 where there is no such entry, and 0 for both when the part is there"
 unfoldable pub nearOf : List ℕ → List Entry → Neighbours
 nearOf key es =
     if has key es then near (length (entriesBelow key es)) true 0 0

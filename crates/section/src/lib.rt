@@ -7,8 +7,8 @@ ghost use Rattle.section.specs.Entries.{entries, span, look};
 ghost use Rattle.section.specs.Near.{nearIn, placeAt, SearchedTo};
 use words::Compared;
 
-// Where a key's entry stands or would stand, and how many entries stand below it; for a key that has none, the place of the first word, counted from 1, in
-// which it differs from the last entry below it and from the first above it, 0 where there is no such entry.
+// Where a key's entry stands or would stand, and how many entries stand below it; for a key that has none, the place of the first word, counted
+// from 1, in which it differs from the last entry below it and from the first above it, 0 where there is no such entry.
 pub enum Found {
     At {
         at: usize,
@@ -22,7 +22,8 @@ pub enum Found {
     },
 }
 
-// Where a search has stopped: whether at the key's entry, the last entry that it has passed, the word that it has come to, and how many entries are left there.
+// Where a search has stopped: whether at the key's entry, the last entry that it has passed, the word that it has come to, and how many entries
+// are left there.
 pub struct Stop {
     pub there: bool,
     pub last: usize,
@@ -30,8 +31,8 @@ pub struct Stop {
     pub left: usize,
 }
 
-// A key's neighbours in a section: how many entries stand below it, whether it is there, and the places of its first difference from the last entry below and
-// from the first above, 0 where there is no such entry.
+// A key's neighbours in a section: how many entries stand below it, whether it is there, and the places of its first difference from the last
+// entry below and from the first above, 0 where there is no such entry.
 pub struct Neighbours {
     pub below: usize,
     pub there: bool,

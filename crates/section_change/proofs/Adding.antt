@@ -61,7 +61,7 @@ size-add-all [] es = omega arith
 size-add-all (o ∷ os) es = omega (arith, size-grows (o .count) (o .key) (addAll os es), size-add-all os es)
 
 -- What stands below two sorted sections stands below their sum.
-pub below-add-all : (y : List ℕ) (os es : List Entry) → Sorted os → Below y os → Below y es → Below y (addAll os es)
+below-add-all : (y : List ℕ) (os es : List Entry) → Sorted os → Below y os → Below y es → Below y (addAll os es)
 unfolding Sorted addAll Below
 below-add-all y [] es s h k = k
 below-add-all y (o ∷ os) es s h k = below-add y (o .count) (o .key) (addAll os es) h (below-add-all y os es (s .2) (below-trans y (o .key) os h (s .1)) k)

@@ -7,6 +7,7 @@ use mathlib.Core.List.{List, [], _∷_, _++_, append-assoc, List·Memᴰ·head a
 use native.Mathlib.Omega.{arith}
 use lib.ListN.{length, getD, set, take, drop, length-append, length-set, length-take, length-drop}
 use borrow.Rule.Slice.PartMut.{putMid}
+use Rattle.words.proofs.Tests.{never}
 use Rattle.words.specs.declared.Compared.{Compared}
 use Rattle.words.specs.declared.Compared.the-variants.{Lower, Equal, Higher}
 use Rattle.words.proofs.Ordered.{compare-equal}
@@ -125,7 +126,7 @@ module _ (ws : List ℕ) (n used : ℕ) (other : List ℕ) (more : ℕ) where
           go : (next : List Entry) → Reached (p .passed) next (behind n used ws) book at left uses count → Sorted next
               → addAll (entries more other) (entries n ws) ≡ p .passed ++ addAll (entries rest (drop from other)) next → lacking ≡ lackingWords (entries rest (drop from other)) next
               → firstAgainst (first .key) next ≡ Lower → Pass ws n used other more book past (left - 1) from rest uses count lacking
-          go [] b s g l d = absurd (let z : _≡_ {A = ℕ} 0 1 = cc in omega arith)
+          go [] b s g l d = never cc
           go (e ∷ next) b s g l d = record {
             passed = p .passed ++ (e ∷ []);
             next = next;
@@ -163,7 +164,7 @@ module _ (ws : List ℕ) (n used : ℕ) (other : List ℕ) (more : ℕ) where
           go : (next : List Entry) → Reached (p .passed) next (behind n used ws) book at left uses count → Sorted next
               → addAll (entries more other) (entries n ws) ≡ p .passed ++ addAll (entries rest (drop from other)) next → lacking ≡ lackingWords (entries rest (drop from other)) next
               → firstAgainst (first .key) next ≡ Equal → Pass ws n used other more book′ past (left - 1) end (rest - 1) uses count lacking
-          go [] b s g l d = absurd (let z : _≡_ {A = ℕ} 0 1 = cc in omega arith)
+          go [] b s g l d = never cc
           go (e ∷ next) b s g l d =
               let both : Entry = counted (e .key) (e .count + first .count) in
               record {

@@ -13,7 +13,7 @@ use Rattle.words.specs.Compare.{compareOf}
 use Rattle.words.specs.declared.Compared.{Compared}
 use Rattle.words.specs.declared.Compared.the-variants.{Lower, Equal, Higher}
 use Rattle.words.proofs.Ordered.{compare-self, compare-flip}
-use Rattle.words.proofs.Tests.{and-left, and-right, and-both, words-same}
+use Rattle.words.proofs.Tests.{and-left, and-right, and-both, words-same, by-test}
 use Rattle.figures.specs.Limits.{greatest-count}
 use Rattle.section.specs.Entries.{Entry, counted, sectionWords, has, countsFor, countOf, Below, Sorted, lessened, lower}
 use Rattle.section_change.specs.Editing.{lowerAll, fitting, brought, lessenedWords, lessenedBy}
@@ -65,7 +65,7 @@ sorted-lower-all [] es s = s
 sorted-lower-all (o ∷ os) es s = sorted-lower (o .key) (lowerAll os es) (sorted-lower-all os es s)
 
 -- What stands below the first entry still does.
-pub below-lower-all : (y : List ℕ) (os es : List Entry) → Sorted es → Below y es → Below y (lowerAll os es)
+below-lower-all : (y : List ℕ) (os es : List Entry) → Sorted es → Below y es → Below y (lowerAll os es)
 unfolding lowerAll
 below-lower-all y [] es s h = h
 below-lower-all y (o ∷ os) es s h = below-lower y (o .key) (lowerAll os es) (sorted-lower-all os es s) (below-lower-all y os es s h)
@@ -117,11 +117,10 @@ lower-all-below o os es s h = lower-below (o .key) (lowerAll os es) (below-lower
 
 -- What one less of an entry leaves of it stands before the others.
 pub lessened-apart : (e : Entry) (es : List Entry) → lessened e es ≡ lessened e [] ++ es
-lessened-apart e es = go (leb (e .count) 1) refl
-  where
-    go : (b : Bool) → leb (e .count) 1 ≡ b → lessened e es ≡ lessened e [] ++ es
-    go true t = rw (lessened-out e es t, lessened-out e [] t)
-    go false t = rw (lessened-left e es t, lessened-left e [] t)
+lessened-apart e es =
+    by-test (leb (e .count) 1)
+    (λ t. rw (lessened-out e es t, lessened-out e [] t))
+    (λ t. rw (lessened-left e es t, lessened-left e [] t))
 
 -- ---- the words once an entry has one less
 

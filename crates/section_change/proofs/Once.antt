@@ -19,7 +19,7 @@ use Rattle.section_change.proofs.Relaying.{Reached, behind, first-words
 -- ---- entries
 
 -- n more of a key that has no entry are entered between the entries with lower keys and the others.
-pub add-gap : (n : ℕ) (key : List ℕ) (front back : List Entry) → ((e : Entry) → e ∈ front → e .key ≺ key) → Below key back
+add-gap : (n : ℕ) (key : List ℕ) (front back : List Entry) → ((e : Entry) → e ∈ front → e .key ≺ key) → Below key back
     → add n key (front ++ back) ≡ front ++ (counted key n ∷ back)
 unfolding add
 add-gap n key [] back low high = add-below n key back high

@@ -11,6 +11,7 @@ use lib.ListN.{length, getD, set, take, drop, replicate}
 use lib.Seq.{getD-drop}
 use borrow.Author.Tests.{leb-true, leb-false, le-leb, lt-leb}
 use borrow.Rule.Slice.PartMut.{putMid}
+use Rattle.words.proofs.Tests.{never}
 use Rattle.words.specs.declared.Compared.{Compared}
 use Rattle.words.specs.declared.Compared.the-variants.{Lower, Equal, Higher}
 use Rattle.words.proofs.Ordered.{compare-equal}
@@ -101,7 +102,7 @@ module _ (ws : List ℕ) (n used : ℕ) (other : List ℕ) (more : ℕ) where
           go : (next : List Entry) → Reached (t .passed) next (behind n used ws) book at left kept count → Sorted next
               → t .passed ++ lowerAll (entries rest (drop from other)) next ≡ lowerAll (entries more other) (entries n ws) → firstAgainst key next ≡ Lower
               → Turn ws n used other more book past (left - 1) from rest kept count
-          go [] b s g d = absurd (let z : _≡_ {A = ℕ} 0 1 = cc in omega arith)
+          go [] b s g d = never cc
           go (e ∷ next) b s g d = record {
             passed = t .passed ++ (e ∷ []);
             next = next;
@@ -129,7 +130,7 @@ module _ (ws : List ℕ) (n used : ℕ) (other : List ℕ) (more : ℕ) where
           go : (next : List Entry) → Reached (t .passed) next (behind n used ws) book at left kept count → Sorted next
               → t .passed ++ lowerAll (entries rest (drop from other)) next ≡ lowerAll (entries more other) (entries n ws) → firstAgainst key next ≡ Equal
               → Turn ws n used other more book′ at′ (left - 1) end (rest - 1) kept′ count′
-          go [] b s g d = absurd (let z : _≡_ {A = ℕ} 0 1 = cc in omega arith)
+          go [] b s g d = never cc
           go (e ∷ next) b s g d = record {
             passed = t .passed ++ lessened e [];
             next = next;

@@ -14,7 +14,7 @@ use Rattle.words.specs.Compare.{compareOf, _≺_}
 use Rattle.words.specs.declared.Compared.{Compared}
 use Rattle.words.specs.declared.Compared.the-variants.{Lower, Equal, Higher}
 use Rattle.words.proofs.Ordered.{compare-flip, compare-self, compare-equal}
-use Rattle.words.proofs.Tests.{and-right}
+use Rattle.words.proofs.Tests.{and-right, by-test}
 use Rattle.figures.specs.Limits.{greatest-count}
 use Rattle.section.specs.Entries.{Entry, sectionWords, has, countOf, Below, Sorted, add}
 use Rattle.section_change.specs.Editing.{addAll, fitting, lackingWords, overfull}
@@ -38,7 +38,7 @@ lacking-past [] e es h s = refl
 lacking-past (o ∷ os) e es h s = rw (has-lower e es (o .key) h, lacking-past os e es (below-trans (e .key) (o .key) os h (s .1)) (s .2))
 
 -- An entry below all of the other's makes none of their counts pass.
-pub overfull-past : (os : List Entry) (e : Entry) (es : List Entry) → Below (e .key) os → Sorted os → overfull os (e ∷ es) ≡ overfull os es
+overfull-past : (os : List Entry) (e : Entry) (es : List Entry) → Below (e .key) os → Sorted os → overfull os (e ∷ es) ≡ overfull os es
 unfolding overfull Below Sorted
 overfull-past [] e es h s = refl
 overfull-past (o ∷ os) e es h s = rw (count-lower-first e es (o .key) h, overfull-past os e es (below-trans (e .key) (o .key) os h (s .1)) (s .2))
@@ -51,7 +51,7 @@ module _ (o : Entry) (os : List Entry) (e : Entry) (es : List Entry) (same : e .
       rw (has-equal e es (o .key) (rw same (compare-self (o .key))), lacking-past os e es (rw same (s .1)) (s .2), zero-add)
 
   -- An entry of the same key passes if the two counts do, and otherwise the others decide.
-  pub overfull-same : Sorted (e ∷ es) → overfull (o ∷ os) (e ∷ es) ≡ (if leb (e .count + o .count) greatest-count then overfull os es else true)
+  overfull-same : Sorted (e ∷ es) → overfull (o ∷ os) (e ∷ es) ≡ (if leb (e .count + o .count) greatest-count then overfull os es else true)
   unfolding overfull Sorted
   overfull-same t = rw (entry-count (o .key) t (here refl) same, overfull-past os e es (rw same (s .1)) (s .2))
 
@@ -62,7 +62,7 @@ module _ (o : Entry) (os es : List Entry) (h : Below (o .key) es) (s : Sorted es
   lacking-new = rw (below-lacks (o .key) es h s)
 
   -- An entry that is entered does not pass, if its own count does not.
-  pub overfull-new : o .count ≤ greatest-count → overfull (o ∷ os) es ≡ overfull os es
+  overfull-new : o .count ≤ greatest-count → overfull (o ∷ os) es ≡ overfull os es
   unfolding overfull if_then_else_
   overfull-new fits = rw (below-absent (o .key) es h s, zero-add, le-leb (o .count) greatest-count fits)
 
@@ -84,11 +84,7 @@ lacking-size (o ∷ os) es p s =
 -- Where no words are lacking each of the other's entries has its key in the section.
 pub lacking-none : (os es : List Entry) → lackingWords os es ≡ 0 → (o : Entry) → o ∈ os → has (o .key) es ≡ true
 unfolding lackingWords if_then_else_
-lacking-none (o ∷ os) es h i (here q) = go (has (o .key) es) refl
-  where
-    go : (b : Bool) → has (o .key) es ≡ b → has (i .key) es ≡ true
-    go true t = rw q t
-    go false t = absurd (omega (arith, rw t at h))
+lacking-none (o ∷ os) es h i (here q) = by-test (has (o .key) es) (λ t. rw q t) (λ t. absurd (omega (arith, rw t at h)))
 lacking-none (o ∷ os) es h i (there m) = lacking-none os es (omega (arith, h)) i m
 
 -- Where each of the other's entries has its key in the section no words are lacking.

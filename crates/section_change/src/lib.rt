@@ -1,7 +1,7 @@
 // A section of a book changed by the entries of another, both with ascending keys: each pass reads both once.
-// What the other would enter is weighed first; then it is added, or one less of each is taken. Adding opens a gap in front for all that is lacking, and
-// moves what it has passed down over it; taking moves what it has passed down over what it took out.
-// Assumes nothing beyond each function's `requires`.
+// What the other would enter is weighed first; then it is added, or one less of each is taken. Adding opens a gap in front for all that is
+// lacking, and moves what it has passed down over it; taking moves what it has passed down over what it took out. Assumes nothing beyond each
+// function's `requires`.
 ghost use mathlib.Core.Path.{_≡_};
 ghost use mathlib.Core.Bool.{true};
 ghost use mathlib.Core.List.{_++_};
@@ -9,7 +9,8 @@ ghost use Prim.Native.Nat.{_+_, _*_, _-_, _≤_};
 ghost use lib.ListN.{length, getD, set, take, drop};
 ghost use Rattle.figures.specs.Limits.{greatest-count};
 ghost use Rattle.section.specs.Entries.{sectionWords, width, firstEntry, entries, span, Sorted, addOnce};
-ghost use Rattle.section_change.specs.Editing.{addAll, lowerAll, fitting, lackingWords, weighed, firstAgainst, Laid, Edited, brought, entered, lessenedWords, lessenedBy};
+ghost use Rattle.section_change.specs.Editing.{addAll, lowerAll, fitting, lackingWords, weighed, firstAgainst, Laid, Edited, brought, entered};
+ghost use Rattle.section_change.specs.Editing.{lessenedWords, lessenedBy};
 use figures::limits;
 use section::past;
 use section::search;
@@ -90,7 +91,8 @@ pub fn weigh(book: &[u16], many: usize, other: &[u16], more: usize) -> Weighed
 // Writes an entry's words at the front of the part, and moves the `used` words that stand there behind them.
 fn enter(part: &mut [u16], used: usize, entry: &[u16])
     requires { ⌜ used + length (now entry) ≤ length (now part) ⌝ }
-    ensures { λ _. ⌜ now (part .exit) ≡ now (entry .entry) ++ (take used (now (part .entry)) ++ drop (used + length (now (entry .entry))) (now (part .entry))) ⌝ }
+    ensures { λ _. ⌜ now (part .exit) ≡ now (entry .entry)
+        ++ (take used (now (part .entry)) ++ drop (used + length (now (entry .entry))) (now (part .entry))) ⌝ }
 {
     words::open_gap(part, used, entry.len());
     words::copy(part, entry);
@@ -109,7 +111,8 @@ fn raise(part: &mut [u16], by: u16)
 pub fn enter_once(part: &mut [u16], many: usize, used: usize, entry: &[u16]) -> Size
     requires { ⌜ Laid (now part) many used × Sorted (entries many (now part)) ⌝ }
     requires { ⌜ (width (now entry) ≡ length (now entry)) × (used + length (now entry) ≤ length (now part)) ⌝ }
-    ensures { λ r. ⌜ Edited (now (part .entry)) many used (addOnce (firstEntry (now (entry .entry))) (entries many (now (part .entry)))) (now (part .exit)) r ⌝ }
+    ensures { λ r. ⌜ Edited (now (part .entry)) many used (addOnce (firstEntry (now (entry .entry))) (entries many (now (part .entry))))
+        (now (part .exit)) r ⌝ }
 {
     let end = entry.len();
     let stop = search(part, 0, many, &entry[2..end]);
@@ -139,7 +142,8 @@ fn bring_down(book: &mut [u16], to: usize, kept: usize, at: usize) -> usize
 // Moves the words from `kept` up to `at` down to word `to`, and writes an entry's words behind them. Answers where these end.
 fn enter_behind(book: &mut [u16], to: usize, kept: usize, at: usize, entry: &[u16]) -> usize
     requires { ⌜ (to + length (now entry) ≤ kept) × (kept ≤ at) × (at ≤ length (now book)) ⌝ }
-    ensures { λ r. ⌜ (now (book .exit) ≡ entered to kept at (now (entry .entry)) (now (book .entry))) × (r ≡ to + (at - kept) + length (now (entry .entry))) ⌝ }
+    ensures { λ r. ⌜ (now (book .exit) ≡ entered to kept at (now (entry .entry)) (now (book .entry)))
+        × (r ≡ to + (at - kept) + length (now (entry .entry))) ⌝ }
 {
     let end = bring_down(book, to, kept, at);
     words::copy(&mut book[end..], entry);
@@ -159,9 +163,11 @@ pub fn add_all(
 ) -> Size
     requires { ⌜ Laid (now book) many used × Sorted (entries many (now book)) ⌝ }
     requires { ⌜ (span more (now other) ≤ length (now other)) × Sorted (entries more (now other)) ⌝ }
-    requires { ⌜ (length (sectionWords (addAll (entries more (now other)) (entries many (now book)))) + (used - span many (now book)) ≤ length (now book)) × (fitting (addAll (entries more (now other)) (entries many (now book))) ≡ true) ⌝ }
+    requires { ⌜ (length (sectionWords (addAll (entries more (now other)) (entries many (now book))))
+        + (used - span many (now book)) ≤ length (now book)) × (fitting (addAll (entries more (now other)) (entries many (now book))) ≡ true) ⌝ }
     requires { ⌜ lacking ≡ lackingWords (entries more (now other)) (entries many (now book)) ⌝ }
-    ensures { λ r. ⌜ Edited (now (book .entry)) many used (addAll (entries more (now (other .entry))) (entries many (now (book .entry)))) (now (book .exit)) r ⌝ }
+    ensures { λ r. ⌜ Edited (now (book .entry)) many used (addAll (entries more (now (other .entry))) (entries many (now (book .entry))))
+        (now (book .exit)) r ⌝ }
 {
     words::open_gap(book, used, lacking);
     let mut to: usize = 0;
@@ -233,7 +239,8 @@ fn lessen(book: &mut [u16], to: usize, kept: usize, at: usize) -> Lessened
 pub fn lower_all(book: &mut [u16], many: usize, used: usize, other: &[u16], more: usize) -> Size
     requires { ⌜ Laid (now book) many used × Sorted (entries many (now book)) ⌝ }
     requires { ⌜ (span more (now other) ≤ length (now other)) × Sorted (entries more (now other)) ⌝ }
-    ensures { λ r. ⌜ Edited (now (book .entry)) many used (lowerAll (entries more (now (other .entry))) (entries many (now (book .entry)))) (now (book .exit)) r ⌝ }
+    ensures { λ r. ⌜ Edited (now (book .entry)) many used (lowerAll (entries more (now (other .entry))) (entries many (now (book .entry))))
+        (now (book .exit)) r ⌝ }
 {
     let mut to: usize = 0;
     let mut kept: usize = 0;

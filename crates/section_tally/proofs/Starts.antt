@@ -29,7 +29,7 @@ starts-step at (suc n) ws h = rw sub-one
 -- The entry that stands at `at`, the first of those left, whose words end at `end`.
 module _ (book : List ℕ) (at left end : ℕ) (more : 0 < left) (ends : end ≡ at + 2 + 2 * getD book at 0) where
   -- The places of those left are its own, and those of the others.
-  pub starts-at : startsOf at left (drop at book) ≡ at ∷ startsOf end (left - 1) (drop end book)
+  starts-at : startsOf at left (drop at book) ≡ at ∷ startsOf end (left - 1) (drop end book)
   starts-at =
       let past : at + width (drop at book) ≡ end = rw (getD-drop, add-zero) (omega arith) in
       rw (starts-step at left (drop at book) more, past-at book at left end more ends, past)

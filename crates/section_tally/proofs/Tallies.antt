@@ -15,7 +15,7 @@ use Rattle.words.specs.Base.{_and_, if_then_else_, sameWords, _∈_}
 use Rattle.words.specs.Compare.{compareOf, _≺_}
 use Rattle.words.specs.declared.Compared.the-variants.{Equal, Higher}
 use Rattle.words.proofs.Ordered.{≺-trans, compare-equal, compare-flip}
-use Rattle.words.proofs.Tests.{no-test, and-left, and-right, and-both, same-words, words-same, fails-left}
+use Rattle.words.proofs.Tests.{no-test, and-left, and-right, and-both, same-words, words-same, fails-left, by-test, never}
 use Rattle.section.specs.Entries.{Entry, counted, has, Below, Sorted}
 use Rattle.section.proofs.Counts.{lower-differs, below-trans, has-entry, entry-has}
 use Rattle.section_tally.specs.Tallying.{listed, soughtIn, hasAll, onEach, tallied, marked, Unmarked, onOne, sameCounts}
@@ -53,11 +53,7 @@ same-done starts ws cs i h = rw (drop-of-length-le starts)
 
 -- Keys told different are so the other way round.
 different : (x y : List ℕ) → sameWords x y ≡ false → sameWords y x ≡ false
-different x y h = go (sameWords y x) refl
-  where
-    go : (b : Bool) → sameWords y x ≡ b → sameWords y x ≡ false
-    go true t = no-test (cc (words-same y x t, same-words x))
-    go false t = t
+different x y h = by-test (sameWords y x) (λ t. no-test (cc (words-same y x t, same-words x))) (λ t. t)
 
 -- The key of the i-th entry.
 abbrev pub keyAt : List Entry → ℕ → List ℕ
@@ -160,20 +156,20 @@ sought-lacks key [] h = refl
 sought-lacks key (e ∷ es) h = go (sameWords (e .key) key) refl (soughtIn key es) refl (sought-lacks key es)
   where
     go : (b : Bool) → sameWords (e .key) key ≡ b → (r : EntryFound) → soughtIn key es ≡ r → (soughtIn key es ≡ Missing → has key es ≡ false) → has key (e ∷ es) ≡ false
-    go true t r q later = let z : Number 0 ≡ Missing = rw t at h in absurd (let n : _≡_ {A = ℕ} 0 1 = cc in omega arith)
+    go true t r q later = let z : Number 0 ≡ Missing = rw t at h in never cc
     go false t Missing q later = rw t (later q)
-    go false t (Number i) q later = let z : Number (suc i) ≡ Missing = rw (t, q) at h in absurd (let n : _≡_ {A = ℕ} 0 1 = cc in omega arith)
+    go false t (Number i) q later = let z : Number (suc i) ≡ Missing = rw (t, q) at h in never cc
 
 -- A key that is found has an entry, and the number is that of one.
 pub sought-has : (key : List ℕ) (es : List Entry) (i : ℕ) → soughtIn key es ≡ Number i → (i < length es) × (has key es ≡ true)
 unfolding soughtIn has if_then_else_
-sought-has key [] i h = absurd (let n : _≡_ {A = ℕ} 0 1 = cc in omega arith)
+sought-has key [] i h = never cc
 sought-has key (e ∷ es) i h = go (sameWords (e .key) key) refl (soughtIn key es) refl (sought-has key es)
   where
     go : (b : Bool) → sameWords (e .key) key ≡ b → (r : EntryFound) → soughtIn key es ≡ r → ((j : ℕ) → soughtIn key es ≡ Number j → (j < length es) × (has key es ≡ true))
         → (i < length (e ∷ es)) × (has key (e ∷ es) ≡ true)
     go true t r q later = let z : Number 0 ≡ Number i = rw t at h in let n : 0 ≡ i = cc in (omega arith, rw t)
-    go false t Missing q later = let z : Missing ≡ Number i = rw (t, q) at h in absurd (let n : _≡_ {A = ℕ} 0 1 = cc in omega arith)
+    go false t Missing q later = let z : Missing ≡ Number i = rw (t, q) at h in never cc
     go false t (Number j) q later =
         let z : Number (suc j) ≡ Number i = rw (t, q) at h in
         let n : suc j ≡ i = cc in
@@ -312,8 +308,7 @@ all-known os es h = each-known os es (λ o m. h (o .key) (entry-has (o .key) m r
 
 -- It fails where the first list has a key that the second lacks.
 pub one-unknown : (z : List ℕ) (os es : List Entry) → has z os ≡ true → has z es ≡ false → hasAll os es ≡ false
-one-unknown z os es known lacks = go (hasAll os es) refl
-  where
-    go : (b : Bool) → hasAll os es ≡ b → hasAll os es ≡ false
-    go true h = let o = has-entry z os known in no-test (sym lacks ∙ ap (λ (y : List ℕ). has y es) (sym (o .2)) ∙ known-each os es h (o .0) (o .1))
-    go false h = h
+one-unknown z os es known lacks =
+    by-test (hasAll os es)
+    (λ h. let o = has-entry z os known in no-test (sym lacks ∙ ap (λ (y : List ℕ). has y es) (sym (o .2)) ∙ known-each os es h (o .0) (o .1)))
+    (λ h. h)

@@ -89,8 +89,10 @@ pub fn tally_once(
     requires { ⌜ (length (now counts) ≡ length (now starts)) × (length (now marks) ≡ length (now starts)) ⌝ }
     requires { ⌜ Few (talliedOnce by turn (soughtIn (now key) (listed (now starts) (now book))) (now marks) (now counts)) ⌝ }
     ensures known { λ r. ⌜ r ≡ has (now (key .entry)) (listed (now (starts .entry)) (now (book .entry))) ⌝ }
-    ensures counted { λ _. ⌜ now (counts .exit) ≡ talliedOnce by turn (soughtIn (now (key .entry)) (listed (now (starts .entry)) (now (book .entry)))) (now (marks .entry)) (now (counts .entry)) ⌝ }
-    ensures noted { λ _. ⌜ now (marks .exit) ≡ markedOnce turn (soughtIn (now (key .entry)) (listed (now (starts .entry)) (now (book .entry)))) (now (marks .entry)) ⌝ }
+    ensures counted { λ _. ⌜ now (counts .exit) ≡ talliedOnce by turn (soughtIn (now (key .entry)) (listed (now (starts .entry)) (now (book .entry))))
+        (now (marks .entry)) (now (counts .entry)) ⌝ }
+    ensures noted { λ _. ⌜ now (marks .exit) ≡ markedOnce turn (soughtIn (now (key .entry)) (listed (now (starts .entry)) (now (book .entry))))
+        (now (marks .entry)) ⌝ }
 {
     let EntryFound::Number(i) = find_entry(book, starts, key) else {
         return false;

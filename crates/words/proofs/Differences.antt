@@ -9,6 +9,7 @@ use native.Mathlib.Omega.{arith}
 use lib.Dec.{ltb}
 use lib.IntN.{ℤ, pos, negsuc, negℤ}
 use lib.ListN.{length}
+use Rattle.words.proofs.Tests.{never}
 use Rattle.words.specs.Compare.{_≺_, signedWords, signedFrom, signedOf, sideOf, sizeOf}
 use Rattle.words.specs.Differences.{wordAt, FirstDiffers, LowerWord, ended, less, LowerAt, IsLower, SignedPlace, told-equal, told-lower, told-higher}
 use Rattle.words.specs.declared.Compared.the-variants.{Lower}
@@ -73,7 +74,7 @@ ended-lower b y = record {
   first = record {
     counted = omega arith;
     alike = λ j k l. absurd (omega arith);
-    differ = λ e. let z : _≡_ {A = ℕ} 0 1 = cc in omega arith;
+    differ = λ e. never cc;
   };
   lower = ended;
 }
@@ -179,9 +180,9 @@ module _ (x y : List ℕ) where
     where
       -- By the sign.
       go : {z : ℤ} → SignedPlace x y z → sideOf z ≡ Lower → IsLower x y
-      go (told-equal e) f = absurd (let z : _≡_ {A = ℕ} 0 1 = cc in omega arith)
+      go (told-equal e) f = never cc
       go (told-lower i l) f = record { place = suc i; at = l }
-      go (told-higher i l) f = absurd (let z : _≡_ {A = ℕ} 0 1 = cc in omega arith)
+      go (told-higher i l) f = never cc
 
   -- and the other way round.
   pub is-lower : IsLower x y → x ≺ y

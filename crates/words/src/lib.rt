@@ -15,8 +15,8 @@ pub enum Compared {
     Higher,
 }
 
-// Compares two slices word by word from the first; a slice that ends first is lower. Answers the place of the first word in which they differ, counted from
-// 1: negative if the first slice is lower, positive if it is higher; 0 if they are equal.
+// Compares two slices word by word from the first; a slice that ends first is lower. Answers the place of the first word in which they differ,
+// counted from 1: negative if the first slice is lower, positive if it is higher; 0 if they are equal.
 pub fn compare(a: &[u16], b: &[u16]) -> i64
     ensures { λ r. ⌜ r ≡ signedOf (now (a .entry)) (now (b .entry)) ⌝ }
 {

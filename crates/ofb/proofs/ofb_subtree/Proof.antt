@@ -4,7 +4,6 @@ use mathlib.Core.Path.{_≡_, sym, ap, ap₂, _∙_}
 use mathlib.Core.List.{List}
 use native.Mathlib.Omega.{arith}
 use lib.ListN.{length}
-use Rattle.order.specs.Answers.{subtreeOf}
 use Rattle.ofb.specs.declared.OfbPart.{OfbPart}
 use Rattle.ofb.proofs.Parts.{Within, part-none, part-some}
 use borrow.Author.Needs.{needs}

@@ -164,7 +164,7 @@ module _ (b : Book) (form : inForm b ≡ true) where
 
 -- A book in form passes the test exactly if it agrees with itself: each count in R, L and P is "the number of live teachings whose order has
 -- that part".
-pub agreeing-exactly : (b : Book) → inForm b ≡ true → (agreeing b ≡ true) exactly-when Agrees b
+agreeing-exactly : (b : Book) → inForm b ≡ true → (agreeing b ≡ true) exactly-when Agrees b
 agreeing-exactly b form = (passed-agrees b form, agrees-passed b form)
 
 -- So it is of a sound book.

@@ -53,15 +53,15 @@ module _ (input : List ℕ) (k : ℕ) (cs : List FormCall) (is : handedIn input 
   book = desk-book input k cs is front
 
   -- The number that is printed for it.
-  abbrev pub number-printed : ℕ
+  abbrev number-printed : ℕ
   number-printed = callOf c book .answer .number
 
   -- The line.
-  abbrev pub line-printed : ℕ
+  abbrev line-printed : ℕ
   line-printed = callOf c book .answer .line
 
   -- The words used of the book after it.
-  abbrev pub used-printed : ℕ
+  abbrev used-printed : ℕ
   used-printed = getD (callOf c book .words) used-word 0
 
   -- The line is 65 at most.
@@ -94,7 +94,7 @@ module _ (input : List ℕ) (k : ℕ) (cs : List FormCall) (is : handedIn input 
   -- It is one of the forms.
   module _ (back : List FormCall) (e : cs ≡ front ++ (c ∷ back)) where
     -- The number is at most 22, the line at most 65, and the words used are at most the 8,192 of the slice.
-    pub desk-figures : (number-printed ≤ middle-unknown) × (line-printed ≤ suc most-nodes) × (used-printed ≤ desk-book-words)
+    desk-figures : (number-printed ≤ middle-unknown) × (line-printed ≤ suc most-nodes) × (used-printed ≤ desk-book-words)
     desk-figures = (number-most (desk-numbers input k cs is front c back e), line-most, used-most)
 
     -- So each is below 10 to the 20th,

@@ -8,6 +8,7 @@ use native.Mathlib.Decide.{decLt}
 use native.Mathlib.Omega.{arith}
 use lib.ListN.{length, getD, take, drop, take-append-drop}
 use lib.Seq.{length-take-le}
+use Rattle.words.proofs.Tests.{never}
 use Rattle.order.specs.Trees.{Tree, node, words, subtrees, below}
 use Rattle.order.specs.Reading.{found, missing}
 use Rattle.order.specs.Answers.{treeAt, treeOfLine}
@@ -105,8 +106,8 @@ one-before x a = record {
 -- Where the codes of lines are those at the tops of trees, the tree at a place has its line there.
 line-among : (xs : List Line) (ts : List Tree) (i : ℕ) (s : Tree) → codes xs ≡ map topCode ts → treeAt ts i ≡ found s → Among xs i (topCode s)
 unfolding treeAt
-line-among xs [] i s e q = absurd (let z : missing ≡ found s = q in let y : _≡_ {A = ℕ} 0 1 = cc in omega arith)
-line-among [] (t ∷ ts) i s e q = absurd (let y : _≡_ {A = ℕ} 0 1 = cc in omega arith)
+line-among xs [] i s e q = absurd (let z : missing ≡ found s = q in never cc)
+line-among [] (t ∷ ts) i s e q = never cc
 line-among (x ∷ xs) (t ∷ ts) zero s e q =
     let same : t ≡ s = cc in
     let c : x .code ≡ topCode t = cc in
@@ -124,7 +125,7 @@ top-first (node c f) = refl
 pub line-of-subtree : (t : Tree) (line : ℕ) (s : Tree) → treeOfLine line (subtrees t) ≡ found s
     → (x : Line) × LineOfText (textOf t) line x × (x .code ≡ getD (words s) 0 0)
 unfolding treeOfLine textOf spell
-line-of-subtree t zero s q = absurd (let y : _≡_ {A = ℕ} 0 1 = cc in omega arith)
+line-of-subtree t zero s q = never cc
 line-of-subtree t (suc i) s q =
     let a = line-among (linesOf t 0) (subtrees t) i s (lines-subtrees t 0) q in (
       a .this,

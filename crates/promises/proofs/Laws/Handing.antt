@@ -7,6 +7,7 @@ use mathlib.Core.List.{List, [], _∷_, _++_, append-assoc}
 use native.Mathlib.Omega.{arith}
 use lib.Dec.{eqb}
 use lib.ListN.{length, drop, length-append, length-drop}
+use Rattle.words.proofs.Tests.{never}
 use Rattle.words.specs.Base.{_and_, if_then_else_, sameWords}
 use Rattle.figures.specs.Limits.{least-k, greatest-k, most-input}
 use Rattle.figures.specs.Numbers.{done, no-form}
@@ -37,7 +38,7 @@ handed-in input k cs = go (handedIn input) (hands-in input)
   where
     -- By what it hands in.
     go : (h : Handed) → HandsIn input h → h ≡ handed k cs → (length input ≤ most-input) × (least-k ≤ k) × (k ≤ greatest-k) × (cs ≡ sheetOf (drop first-line-size input) .calls)
-    go _ (at-fault a) e = absurd (let z : _≡_ {A = ℕ} 0 1 = cc in omega arith)
+    go _ (at-fault a) e = never cc
     go _ (opens j m l g i c) e =
         let same : j ≡ k = cc in
         let calls : cs ≡ sheetOf (drop first-line-size input) .calls = cc in
@@ -128,7 +129,7 @@ OneOrder (withdraw os) = Unit {0}
 OneOrder (join vs) = ⊥
 
 -- Calls with one order each.
-unfoldable pub OneOrders : List Call → Type 0
+unfoldable OneOrders : List Call → Type 0
 OneOrders [] = Unit {0}
 OneOrders (c ∷ cs) = OneOrder c × OneOrders cs
 

@@ -64,7 +64,7 @@ module _ (ws vs : List ℕ) where
   }
 
   -- and two books are two by the tests.
-  pub by-tests : (b c : Book) → TwoBooks ws vs b c → Both ws vs b c
+  by-tests : (b c : Book) → TwoBooks ws vs b c → Both ws vs b c
   by-tests b c two = record {
     isFirst = two .isFirst;
     isSecond = two .isSecond;

@@ -6,6 +6,7 @@ use mathlib.Core.List.{List}
 use native.Mathlib.Decide.{decLt}
 use native.Mathlib.Omega.{arith}
 use lib.ListN.{length}
+use Rattle.words.proofs.Tests.{never}
 use Rattle.figures.specs.Numbers.{done, too-large, no-form, top-unknown, low-unknown, middle-unknown}
 use Rattle.figures.specs.declared.Answer.{Answer}
 use Rattle.order.specs.Trees.{Tree, node, depth, subtrees}
@@ -111,7 +112,7 @@ first-subtree (node c f) = refl
 -- A line that has a subtree is one of the order's.
 line-within : (t : Tree) (line : ℕ) (s : Tree) → treeOfLine line (subtrees t) ≡ found s → (1 ≤ line) × (line ≤ length (subtrees t))
 unfolding treeOfLine
-line-within t zero s q = absurd (let y : _≡_ {A = ℕ} 0 1 = cc in omega arith)
+line-within t zero s q = never cc
 line-within t (suc i) s q = (omega arith, place-within (subtrees t) i s q)
 
 -- ---- which line is told

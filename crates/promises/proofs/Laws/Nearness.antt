@@ -13,7 +13,7 @@ use Rattle.words.specs.Compare.{compareOf, _≺_}
 use Rattle.words.specs.Differences.{FirstDiffers, IsLower}
 use Rattle.words.specs.declared.Compared.{Compared}
 use Rattle.words.specs.declared.Compared.the-variants.{Lower, Equal, Higher}
-use Rattle.words.proofs.Tests.{no-test}
+use Rattle.words.proofs.Tests.{no-test, never}
 use Rattle.words.proofs.Differences.{first-one, lower-is, is-lower, other-place}
 use Rattle.words.proofs.Ordered.{compare-flip, flip, ≺-trans, ≺-irrefl, Stand, below as stands-below, equal as stands-equal, above as stands-above, stand}
 use Rattle.figures.specs.Numbers.{done, top-unknown, low-unknown, middle-unknown}
@@ -53,11 +53,11 @@ crossed x y h k = ≺-irrefl x (≺-trans x y x h k)
 
 -- A key that is lower is told neither equal
 lower-not-equal : (x y : List ℕ) → compareOf x y ≡ Equal → x ≺ y → ⊥
-lower-not-equal x y c h = let z : _≡_ {A = ℕ} 0 1 = cc in omega arith
+lower-not-equal x y c h = never cc
 
 -- nor higher.
 lower-not-higher : (x y : List ℕ) → compareOf x y ≡ Higher → x ≺ y → ⊥
-lower-not-higher x y c h = let z : _≡_ {A = ℕ} 0 1 = cc in omega arith
+lower-not-higher x y c h = never cc
 
 -- An entry that is lower differs first at its place.
 lower-place : (key : List ℕ) (e : Entry) → e .key ≺ key → FirstDiffers (e .key) key (placeIn key e)

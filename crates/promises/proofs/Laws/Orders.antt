@@ -7,7 +7,7 @@ use mathlib.Core.List.{List, [], _∷_, List·Memᴰ·head as here, List·Memᴰ
 use native.Mathlib.Omega.{arith}
 use lib.ListN.{length}
 use Rattle.words.specs.Base.{if_then_else_, sameWords, _∈_}
-use Rattle.words.proofs.Tests.{no-test, same-words, words-same}
+use Rattle.words.proofs.Tests.{no-test, same-words, words-same, by-test}
 use Rattle.figures.specs.Limits.{greatest-depth, least-k, greatest-k, greatest-count}
 use Rattle.section.specs.Entries.{countsFor, countOf, total, Sorted}
 use Rattle.section.proofs.Counts.{count-add}
@@ -177,12 +177,10 @@ module _ (k : ℕ) (s : Section) (u : Tree) where
     where
       -- One teaching counts a tree once at most.
       once-most : (t : Tree) → timesIn s k 1 t u ≤ 1
-      once-most t = go (anyTree u (treesIn s k t)) refl
-        where
-          -- By whether its order counts the tree.
-          go : (b : Bool) → anyTree u (treesIn s k t) ≡ b → timesIn s k 1 t u ≤ 1
-          go true e = omega (arith, times-counted s k 1 t u (any-in u (treesIn s k t) e))
-          go false e = omega (arith, times-other s k 1 t u (λ m. no-test (sym e ∙ in-any u m)))
+      once-most t =
+          by-test (anyTree u (treesIn s k t))
+          (λ e. omega (arith, times-counted s k 1 t u (any-in u (treesIn s k t) e)))
+          (λ e. omega (arith, times-other s k 1 t u (λ m. no-test (sym e ∙ in-any u m))))
 
 -- An order's words are of one tree.
 pub one-tree : {os : List ℕ} {t u : Tree} → IsOrder os t → IsOrder os u → t ≡ u

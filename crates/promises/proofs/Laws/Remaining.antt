@@ -178,7 +178,7 @@ module _ (slice : List ℕ) (k : ℕ) (long : head-words ≤ length slice) (shor
             rw (withdraw-refusal-leaves ws os (λ d. no-test (sym e ∙ eq-eqb (withdrawOf ws os .answer .number) done d))) kept
 
     -- The orders of a book in form, with these, are within limits.
-    pub both-limits : (c : Book) → inForm c ≡ true → Orders (ordersIn (c .T) ++ orders)
+    both-limits : (c : Book) → inForm c ≡ true → Orders (ordersIn (c .T) ++ orders)
     both-limits c form = onto-orders (c .T) (form-orders c form) orders (kept .limits)
 
     -- A book that agrees with itself, joined to the book, gives the book of its orders and these.

@@ -255,7 +255,7 @@ run-lines n enough short =
     (line-then n _ _ (lay n bookNone) _ bookNone _ _ judge-A (said .3) (no-lines (lay n bookNone)))))
 
 -- An input without fault prints "K 0 0 7" LF first, and then the lines of its forms on the opened book.
-pub opening-printed : (input : List ℕ) (k : ℕ) (cs : List FormCall) → handedIn input ≡ handed k cs → deskOf input ≡ says-K ++ linesFor cs (openOf blank k .words)
+opening-printed : (input : List ℕ) (k : ℕ) (cs : List FormCall) → handedIn input ≡ handed k cs → deskOf input ≡ says-K ++ linesFor cs (openOf blank k .words)
 opening-printed input k cs is =
     first-line-printed input k cs is ∙ ap (λ (l : List ℕ). l ++ linesFor cs (openOf blank k .words)) (said .4)
 
@@ -334,11 +334,11 @@ pub too-long : (input : List ℕ) → most-input < length input → deskOf input
 too-long input h = let a : Answer = answered too-large in fault-alone input a (front-fault input a (long-faulty input h)) ∙ faults-said .0
 
 -- "a first line otherwise spelt, no input, or k out of range, "K 3 0 0""
-pub otherwise-printed : (input : List ℕ) → openingOf input ≡ Fault (answered k-outside) → deskOf input ≡ says-3
+otherwise-printed : (input : List ℕ) → openingOf input ≡ Fault (answered k-outside) → deskOf input ≡ says-3
 otherwise-printed input e = fault-alone input (answered k-outside) e ∙ faults-said .1
 
 -- "bytes between line 1 and the first letter, or bytes and no letter, "K 10 2 0""
-pub stray-printed : (input : List ℕ) → openingOf input ≡ Fault (record { number = no-form; line = 2 }) → deskOf input ≡ says-10
+stray-printed : (input : List ℕ) → openingOf input ≡ Fault (record { number = no-form; line = 2 }) → deskOf input ≡ says-10
 stray-printed input e = fault-alone input (record { number = no-form; line = 2 }) e ∙ faults-said .2
 
 -- What stands behind the first 32,769 bytes does not matter.

@@ -6,6 +6,7 @@ use mathlib.Core.List.{List, _++_}
 use native.Mathlib.Omega.{arith}
 use lib.ListN.{length, getD, take, drop, length-take, length-drop}
 use borrow.Author.Needs.{needs}
+use Rattle.words.proofs.Tests.{never}
 use Rattle.words.specs.declared.Compared.{Compared}
 use Rattle.words.specs.declared.Compared.the-variants.{Lower, Equal, Higher}
 use Rattle.section.specs.Entries.{entries, span}
@@ -81,11 +82,11 @@ is-higher c = sym (c .before .before .first-against .ensures) ∙ c .enum-told3 
 
 -- One is left if it is lower.
 some-lower : (c : tie.After-enum-told Inv-loop μ-loop) → 0 < c .before .before .before .before .before .before .before .loop .left
-some-lower c = against-some _ _ _ Lower (is-lower c) (λ h. let z : _≡_ {A = ℕ} 0 1 = cc in omega arith)
+some-lower c = against-some _ _ _ Lower (is-lower c) (λ h. never cc)
 
 -- One is left if it is equal.
 some-equal : (c : tie.After-enum-told2 Inv-loop μ-loop) → 0 < c .before .before .before .before .before .before .before .loop .left
-some-equal c = against-some _ _ _ Equal (is-equal c) (λ h. let z : _≡_ {A = ℕ} 0 1 = cc in omega arith)
+some-equal c = against-some _ _ _ Equal (is-equal c) (λ h. never cc)
 
 -- An equal entry lies within the book.
 equal-here : (c : tie.After-enum-told2 Inv-loop μ-loop) → let k = c .before .before .before .before .before .before .before in

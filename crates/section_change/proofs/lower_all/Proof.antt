@@ -5,6 +5,7 @@ use mathlib.Core.Path.{_≡_, refl, sym, _∙_}
 use mathlib.Core.List.{List}
 use native.Mathlib.Omega.{arith}
 use lib.ListN.{length, getD, take, drop, length-take, length-drop}
+use Rattle.words.proofs.Tests.{never}
 use Rattle.words.specs.declared.Compared.{Compared}
 use Rattle.words.specs.declared.Compared.the-variants.{Lower, Equal, Higher}
 use Rattle.section.specs.Entries.{entries, span}
@@ -60,11 +61,11 @@ is-higher c = sym (c .before .before .first-against .ensures) ∙ c .enum-told3 
 
 -- One is left if it is lower.
 some-lower : (c : tie.After-enum-told Inv-loop μ-loop) → 0 < c .before .before .before .before .before .before .before .loop .left
-some-lower c = against-some _ _ _ Lower (is-lower c) (λ h. let z : _≡_ {A = ℕ} 0 1 = cc in omega arith)
+some-lower c = against-some _ _ _ Lower (is-lower c) (λ h. never cc)
 
 -- One is left if it is equal.
 some-equal : (c : tie.After-enum-told2 Inv-loop μ-loop) → 0 < c .before .before .before .before .before .before .before .loop .left
-some-equal c = against-some _ _ _ Equal (is-equal c) (λ h. let z : _≡_ {A = ℕ} 0 1 = cc in omega arith)
+some-equal c = against-some _ _ _ Equal (is-equal c) (λ h. never cc)
 
 -- The first entry left lies within the words used, and is among those counted.
 first : (k : tie.At-loop Inv-loop μ-loop) → 0 < k .loop .left → (k .loop .at + 2 + 2 * getD (k .loop .book) (k .loop .at) 0 ≤ k .before .before .before .args .used) × (0 < k .loop .count)

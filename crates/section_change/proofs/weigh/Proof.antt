@@ -9,6 +9,7 @@ use lib.Dec.{leb}
 use lib.ListN.{length, getD, take, drop, length-take, length-drop}
 use borrow.Author.Needs.{needs}
 use borrow.Author.Tests.{le-leb, lt-leb}
+use Rattle.words.proofs.Tests.{never}
 use Rattle.words.specs.Base.{if_then_else_}
 use Rattle.words.specs.declared.Compared.the-variants.{Lower, Equal, Higher}
 use Rattle.words.proofs.Ordered.{compare-equal}
@@ -33,13 +34,13 @@ record State (book : List ℕ) (many : ℕ) (other : List ℕ) (more at left fro
 -- Where the first entry left is lower there is one.
 lower-some : (key ws : List ℕ) (left : ℕ) → firstAgainst key (entries left ws) ≡ Lower → 0 < left
 unfolding entries
-lower-some key ws zero h = absurd (let z : _≡_ {A = ℕ} 0 1 = cc in omega arith)
+lower-some key ws zero h = never cc
 lower-some key ws (suc left) h = omega arith
 
 -- Where the first entry left is equal there is one.
 equal-some : (key ws : List ℕ) (left : ℕ) → firstAgainst key (entries left ws) ≡ Equal → 0 < left
 unfolding entries
-equal-some key ws zero h = absurd (let z : _≡_ {A = ℕ} 0 1 = cc in omega arith)
+equal-some key ws zero h = never cc
 equal-some key ws (suc left) h = omega arith
 
 -- Two counts of a key, and whether a count was told to pass before and after they are put together.
