@@ -19,7 +19,7 @@ use Rattle.book.specs.declared.BookForm.{BookForm}
 use Rattle.book.specs.declared.BookForm.the-variants.{Refused, InForm}
 
 -- The word past the entries that start at `from`, as many as word `slot` of the head says.
-abbrev pastEntries : ℕ → ℕ → List ℕ → ℕ
+abbrev pub pastEntries : ℕ → ℕ → List ℕ → ℕ
 pastEntries from slot ws = from + span (getD ws slot 0) (drop from ws)
 
 -- Where section R starts.

@@ -1,3 +1,4 @@
+-- Inner: no promise rests on these definitions.
 -- What a call has where the words are a book in form: its sections, and where they stand. Assumes nothing: these are definitions.
 use Prim.Native.Nat.{ℕ, _+_, _≤_}
 use mathlib.Core.Path.{_≡_}

@@ -1,3 +1,4 @@
+-- Inner: no promise rests on these definitions.
 -- What one pass over the words of a section finds, by the definitions of a book in form. Assumes nothing: these are definitions.
 use Prim.Native.Nat.{ℕ, zero, suc, _+_}
 use mathlib.Core.Bool.{Bool, true}

@@ -1,3 +1,4 @@
+-- Inner: no promise rests on these definitions.
 -- A book changed by another, section by section: teaching adds an order's own book, in which every count is 1, withdrawing takes it away, and
 -- joining adds a book of any counts. Assumes nothing: these are definitions.
 use Prim.Native.Nat.{ℕ, _+_, _-_, _≤_}

@@ -1,3 +1,4 @@
+-- Inner: no promise rests on these definitions.
 -- When a section of a book is that of its T, and the scratch that finding out takes. Assumes nothing: these are definitions.
 use Prim.Native.Nat.{ℕ, _+_, _*_, _-_, _/_, _≤_}
 use mathlib.Core.Bool.{Bool}

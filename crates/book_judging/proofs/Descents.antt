@@ -46,7 +46,7 @@ first-of b line (s ∷ ss) = go (knows b s) refl (first-of b (suc line) ss)
 -- ---- the turns
 
 -- The line of a doubt, or the line found before it.
-unfoldable orLine : ℕ → Doubt → ℕ
+unfoldable pub orLine : ℕ → Doubt → ℕ
 orLine line no-doubt = line
 orLine line (doubt l s) = l
 

@@ -19,7 +19,7 @@ use Rattle.order.specs.Reading.{byOrder, causeOf}
 use Rattle.order.specs.Standing.{cutOf}
 use Rattle.order.proofs.Causes.{has-tree}
 use Rattle.book_listing.specs.Own.{entry-words, occurring, eachWords, partWords, listOf}
-use Rattle.book_listing.proofs.Parts.{partsIn, parts-all, Gone, gone-none, gone-all, gone-passed, gone-entered, partHere, TellsLow, cut-few, cut-even, parts-past, words-here}
+use Rattle.book_listing.proofs.Parts.{partsOfKind, parts-all, Gone, gone-none, gone-all, gone-passed, gone-entered, partHere, TellsLow, cut-few, cut-even, parts-past, words-here}
 
 -- ---- the words of a list that grows
 
@@ -90,7 +90,7 @@ pub record Listing (low : Bool) (k n : ℕ) (os out₀ out entry : List ℕ) (li
   pub long : length out ≡ length out₀
   pub uses : used ≡ length (sectionWords listed)
   pub counts : many ≡ length listed
-  pub room : used + eachWords (partsIn low k (drop line (subtrees tree))) ≤ length out
+  pub room : used + eachWords (partsOfKind low k (drop line (subtrees tree))) ≤ length out
   pub spare : length entry ≡ entry-words
 
 -- A place by other names.
@@ -154,7 +154,7 @@ module _ (low : Bool) (k n : ℕ) (os out₀ out entry : List ℕ) (line used ma
     this-even = cut-even low k n os (st .tree) line (st .listed) (st .gone) more (k - 1)
 
     -- There is room for it and for those behind it.
-    part-room : used + (2 + length (this .key)) + eachWords (partsIn low k (drop (line + 1) (subtrees (st .tree)))) ≤ length out
+    part-room : used + (2 + length (this .key)) + eachWords (partsOfKind low k (drop (line + 1) (subtrees (st .tree)))) ≤ length out
     part-room = omega (arith, st .room, words-here low k n os (st .tree) line (st .listed) (st .gone) more b least is same)
 
     -- What is written of it: the cut at d = k-1, up to `end`.

@@ -22,12 +22,12 @@ use section_change::Size;
 // The most words that an entry takes.
 const ENTRY_WORDS: usize = 2 + limits::MOST_WORDS;
 
-// All low and middle parts of an order take no more words: for each line the two words of an entry's head, and for each node two words in the
-// part of its own line and in those of at most k-1 lines above it.
-const LIST_WORDS: usize = limits::MOST_NODES * (2 + 2 * Depth::GREATEST as usize);
+// The top of an order and all its low and middle parts take no more words: two for the head of the top's entry, two for that of each line's, and
+// two for each node in at most k of these trees.
+const LIST_WORDS: usize = 2 + limits::MOST_NODES * (2 + 2 * Depth::GREATEST as usize);
 
-// No order's own book takes more words: its head, the order, its top, and all its low and middle parts.
-pub const OWN_WORDS: usize = limits::HEAD_WORDS + 2 * ENTRY_WORDS + LIST_WORDS;
+// No order's own book takes more words: its head, the order, and its top with all its low and middle parts.
+pub const OWN_WORDS: usize = limits::HEAD_WORDS + ENTRY_WORDS + LIST_WORDS;
 
 // Writes an entry that counts `times` for the cut at d of the subtree of a line, the lines counted from 0, to the front of `out`. Answers its
 // number of words.
@@ -154,45 +154,17 @@ pub fn list_own(
     ensures wrote { λ _. ⌜ now (own .exit) ≡ lay own-words (ownOf (k .k) times (now (order .entry))) ⌝ }
 {
     let taught = limits::HEAD_WORDS;
-    let whole = list_section(
-        order,
-        spans,
-        levels,
-        k,
-        Section::Taught,
-        times,
-        &mut own[taught..],
-    );
+    let part = &mut own[taught..];
+    let whole = list_section(order, spans, levels, k, Section::Taught, times, part);
     let tops = taught + whole.used;
-    let top = list_section(
-        order,
-        spans,
-        levels,
-        k,
-        Section::Tops,
-        times,
-        &mut own[tops..],
-    );
+    let part = &mut own[tops..];
+    let top = list_section(order, spans, levels, k, Section::Tops, times, part);
     let lows = tops + top.used;
-    let low = list_section(
-        order,
-        spans,
-        levels,
-        k,
-        Section::Lows,
-        times,
-        &mut own[lows..],
-    );
+    let part = &mut own[lows..];
+    let low = list_section(order, spans, levels, k, Section::Lows, times, part);
     let middles = lows + low.used;
-    let middle = list_section(
-        order,
-        spans,
-        levels,
-        k,
-        Section::Middles,
-        times,
-        &mut own[middles..],
-    );
+    let part = &mut own[middles..];
+    let middle = list_section(order, spans, levels, k, Section::Middles, times, part);
     let used = middles + middle.used;
     own[limits::K_WORD] = k.value();
     own[limits::USED_WORD] = used as u16;

@@ -18,7 +18,7 @@ use Rattle.order.specs.Parts.{isLow, top}
 use Rattle.order.proofs.Orders.{size, some-lines}
 use Rattle.order.proofs.Causes.{Passed, has-tree}
 use Rattle.order.proofs.Cutting.{cut-shallow}
-use Rattle.order.proofs.Shares.{cutNodes, shares}
+use Rattle.order.proofs.Shares.{cutNodes, top-shares}
 use Rattle.order.proofs.Lines.{cut-spot}
 use Rattle.order.proofs.LineCuts.{line-short}
 use Rattle.order.proofs.Spots.{two-words-a-line, top-spot}
@@ -28,7 +28,7 @@ use Rattle.book.specs.declared.Section.the-variants.{Taught, Tops, Lows, Middle
 use Rattle.book.specs.Taught.{taught, bookOf}
 use Rattle.book.proofs.Meaning.{used-is}
 use Rattle.book_listing.specs.Own.{list-words, own-words, ownBook, ownOf, eachWords, partWords, listOf, roomFor}
-use Rattle.book_listing.proofs.Parts.{enterEach, all-entered, partsIn, parts-none, parts-all, parts-more, parts-same}
+use Rattle.book_listing.proofs.Parts.{enterEach, all-entered, partsOfKind, parts-none, parts-all, parts-more, parts-same}
 
 -- ---- how many words it takes
 
@@ -42,14 +42,14 @@ one-long : (key : List ℕ) (n : ℕ) → length (sectionWords (counted key n �
 one-long key n = rw (one-words (counted key n)) (omega arith)
 
 -- Every subtree stands for a part of one kind, its cut at k-1: a head of two words, and two words for each node of the cut.
-parts-both : (k : ℕ) (ss : List Tree) → least-k ≤ k → eachWords (partsIn true k ss) + eachWords (partsIn false k ss) ≡ 2 * length ss + 2 * cutNodes (k - 1) ss
+parts-both : (k : ℕ) (ss : List Tree) → least-k ≤ k → eachWords (partsOfKind true k ss) + eachWords (partsOfKind false k ss) ≡ 2 * length ss + 2 * cutNodes (k - 1) ss
 unfolding eachWords cutNodes
 parts-both k [] least = rw (parts-none true k, parts-none false k) refl
 parts-both k (s ∷ ss) least = go (isLow k s) refl (parts-both k ss least) (size (cut s (k - 1)))
   where
-    go : (b : Bool) → isLow k s ≡ b → eachWords (partsIn true k ss) + eachWords (partsIn false k ss) ≡ 2 * length ss + 2 * cutNodes (k - 1) ss
+    go : (b : Bool) → isLow k s ≡ b → eachWords (partsOfKind true k ss) + eachWords (partsOfKind false k ss) ≡ 2 * length ss + 2 * cutNodes (k - 1) ss
         → length (words (cut s (k - 1))) ≡ length (subtrees (cut s (k - 1))) * 2
-        → eachWords (partsIn true k (s ∷ ss)) + eachWords (partsIn false k (s ∷ ss)) ≡ 2 * length (s ∷ ss) + 2 * cutNodes (k - 1) (s ∷ ss)
+        → eachWords (partsOfKind true k (s ∷ ss)) + eachWords (partsOfKind false k (s ∷ ss)) ≡ 2 * length (s ∷ ss) + 2 * cutNodes (k - 1) (s ∷ ss)
     go true e ih two = rw (parts-more k s ss least true e, parts-same k s ss least false (λ f. no-test (sym f ∙ e))) (omega arith)
     go false e ih two = rw (parts-same k s ss least true (λ f. no-test (sym e ∙ f)), parts-more k s ss least false e) (omega arith)
 
@@ -62,7 +62,7 @@ each-size n (t ∷ ts) es some sorted =
     omega (arith, each-size n ts (addOnce e es) some (sorted-add-once e es some sorted), size-once e es sorted)
 
 -- The words for the parts of a kind are those for what the lines stand for.
-words-are : (low : Bool) (k : ℕ) (os : List ℕ) (t : Tree) → Passed os t → partWords low k os ≡ eachWords (partsIn low k (subtrees t))
+words-are : (low : Bool) (k : ℕ) (os : List ℕ) (t : Tree) → Passed os t → partWords low k os ≡ eachWords (partsOfKind low k (subtrees t))
 unfolding partWords byOrder
 words-are low k os t p = rw (p .is, parts-all low k t)
 
@@ -92,14 +92,17 @@ module _ (os : List ℕ) (is : causeOf os ≡ done) where
   pub whole-short : (d : ℕ) → length (cutOf os 0 d) ≤ most-words
   whole-short d = line-short os 0 d is first-line
 
-  -- All parts have room in the scratch, since each of at most 64 nodes stands in at most k of them.
-  pub few-words : (k : ℕ) → least-k ≤ k → k ≤ greatest-k → partWords true k os + partWords false k os ≤ list-words
+  -- Its top and all its parts have room in the scratch, since each of at most 64 nodes stands in at most k of them.
+  pub few-words : (k : ℕ) → least-k ≤ k → k ≤ greatest-k → roomFor Tops k os + (partWords true k os + partWords false k os) ≤ list-words
   few-words k least most =
       let x = has-tree os is in
       let t = x .tree in
-      let levels : suc (k - 1) ≤ greatest-k = omega arith in
-      let times : suc (k - 1) * length (subtrees t) ≤ greatest-k * most-nodes = mul-le-mul levels (x .passes .nodes) in
-      omega (arith, words-are true k os t (x .passes), words-are false k os t (x .passes), parts-both k (subtrees t) least, shares t (k - 1), x .passes .nodes)
+      let same : suc (k - 2) ≡ k - 1 = omega arith in
+      let deep : cutNodes (suc (k - 2)) (subtrees t) ≡ cutNodes (k - 1) (subtrees t) = ap (λ (d : ℕ). cutNodes d (subtrees t)) same in
+      let levels : suc (suc (k - 2)) ≤ greatest-k = omega arith in
+      let times : suc (suc (k - 2)) * length (subtrees t) ≤ greatest-k * most-nodes = mul-le-mul levels (x .passes .nodes) in
+      let top : length (cutOf os 0 (k - 2)) ≡ length (subtrees (cut t (k - 2))) * 2 = ap length (cut-spot os 0 (found t) (top-spot os t (x .passes)) (k - 2)) ∙ size (cut t (k - 2)) in
+      omega (arith, words-are true k os t (x .passes), words-are false k os t (x .passes), parts-both k (subtrees t) least, top-shares t (k - 2), deep, x .passes .nodes)
 
   module _ (k n : ℕ) where
     -- Its own book is that of what is listed in the four sections.
@@ -140,7 +143,7 @@ module _ (os : List ℕ) (is : causeOf os ≡ done) where
       list-short low =
           let x = has-tree os is in
           let t = x .tree in
-          rw (all-entered low k n os t some (x .passes), words-are low k os t (x .passes)) (omega (arith, each-size n (partsIn low k (subtrees t)) [] some tt))
+          rw (all-entered low k n os t some (x .passes), words-are low k os t (x .passes)) (omega (arith, each-size n (partsOfKind low k (subtrees t)) [] some tt))
 
       -- A section of it takes no more words than there is room for.
       pub section-short : (s : Section) → length (sectionWords (sectionOf s (ownOf k n os))) ≤ roomFor s k os
@@ -149,7 +152,7 @@ module _ (os : List ℕ) (is : causeOf os ≡ done) where
         where
           short : (s : Section) → length (sectionWords (listedIn s k n os)) ≤ roomFor s k os
           short Taught = omega (arith, one-long (cutOf os 0 greatest-depth) n, whole-short greatest-depth)
-          short Tops = omega (arith, one-long (cutOf os 0 (k - 2)) n, whole-short (k - 2))
+          short Tops = omega (arith, one-long (cutOf os 0 (k - 2)) n)
           short Lows = list-short true
           short Middles = list-short false
 

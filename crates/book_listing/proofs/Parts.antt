@@ -107,25 +107,25 @@ entered-all n ts p = entered-once n ts [] p tt ∙ ap (λ (us : List Tree). addE
 -- ---- the parts of a kind
 
 -- The parts that these subtrees stand for, of the low or of the middle ones.
-unfoldable pub partsIn : Bool → ℕ → List Tree → List Tree
-partsIn true k ss = keep (isLow k) ss
-partsIn false k ss = map (middle k) (keep (isMiddle k) ss)
+unfoldable pub partsOfKind : Bool → ℕ → List Tree → List Tree
+partsOfKind true k ss = keep (isLow k) ss
+partsOfKind false k ss = map (middle k) (keep (isMiddle k) ss)
 
 -- No subtrees stand for none.
-pub parts-none : (low : Bool) (k : ℕ) → partsIn low k [] ≡ []
-unfolding partsIn keep
+pub parts-none : (low : Bool) (k : ℕ) → partsOfKind low k [] ≡ []
+unfolding partsOfKind keep
 parts-none true k = refl
 parts-none false k = refl
 
 -- Those of an order's subtrees are the order's.
-pub parts-all : (low : Bool) (k : ℕ) (t : Tree) → partsIn low k (subtrees t) ≡ occurring low k t
-unfolding partsIn lows middles
+pub parts-all : (low : Bool) (k : ℕ) (t : Tree) → partsOfKind low k (subtrees t) ≡ occurring low k t
+unfolding partsOfKind lows middles
 parts-all true k t = refl
 parts-all false k t = refl
 
 -- Each once they are the order's, each once.
-parts-once : (low : Bool) (k : ℕ) (t : Tree) → eachOnce (partsIn low k (subtrees t)) ≡ partsOnce low k t
-unfolding partsIn lows middles lowParts middleParts
+parts-once : (low : Bool) (k : ℕ) (t : Tree) → eachOnce (partsOfKind low k (subtrees t)) ≡ partsOnce low k t
+unfolding partsOfKind lows middles lowParts middleParts
 parts-once true k t = refl
 parts-once false k t = refl
 
@@ -139,17 +139,17 @@ either-kind k s h =
 
 module _ (k : ℕ) (s : Tree) (ss : List Tree) (least : least-k ≤ k) where
   -- A subtree of the kind stands for its cut at k-1.
-  pub parts-more : (low : Bool) → isLow k s ≡ low → partsIn low k (s ∷ ss) ≡ cut s (k - 1) ∷ partsIn low k ss
-  unfolding partsIn keep if_then_else_ middle isLow
+  pub parts-more : (low : Bool) → isLow k s ≡ low → partsOfKind low k (s ∷ ss) ≡ cut s (k - 1) ∷ partsOfKind low k ss
+  unfolding partsOfKind keep if_then_else_ middle isLow
   parts-more true e = rw (e, cut-shallow s (k - 1) (omega (arith, leb-true (depth s) (k - 2) e)))
   parts-more false e = rw (either-kind k s least, e)
 
   -- One of the other kind adds none.
-  pub parts-same : (low : Bool) → (isLow k s ≡ low → ⊥) → partsIn low k (s ∷ ss) ≡ partsIn low k ss
-  unfolding partsIn keep if_then_else_
+  pub parts-same : (low : Bool) → (isLow k s ≡ low → ⊥) → partsOfKind low k (s ∷ ss) ≡ partsOfKind low k ss
+  unfolding partsOfKind keep if_then_else_
   parts-same low other = go low (isLow k s) refl other
     where
-      go : (low b : Bool) → isLow k s ≡ b → (isLow k s ≡ low → ⊥) → partsIn low k (s ∷ ss) ≡ partsIn low k ss
+      go : (low b : Bool) → isLow k s ≡ b → (isLow k s ≡ low → ⊥) → partsOfKind low k (s ∷ ss) ≡ partsOfKind low k ss
       go true true e h = absurd (h e)
       go true false e h = rw e
       go false true e h = rw (either-kind k s least, e)
@@ -158,9 +158,9 @@ module _ (k : ℕ) (s : Tree) (ss : List Tree) (least : least-k ≤ k) where
 -- ---- the lines that are gone over
 
 -- All parts, entered one after the other, are those that n teachings count.
-pub all-entered : (low : Bool) (k n : ℕ) (os : List ℕ) (t : Tree) → 1 ≤ n → Passed os t → listOf low k n os ≡ enterEach n (partsIn low k (subtrees t)) []
+pub all-entered : (low : Bool) (k n : ℕ) (os : List ℕ) (t : Tree) → 1 ≤ n → Passed os t → listOf low k n os ≡ enterEach n (partsOfKind low k (subtrees t)) []
 unfolding listOf byOrder
-all-entered low k n os t some p = rw (p .is) (sym (entered-all n (partsIn low k (subtrees t)) some ∙ ap (λ (ts : List Tree). addEach n ts []) (parts-once low k t)))
+all-entered low k n os t some p = rw (p .is) (sym (entered-all n (partsOfKind low k (subtrees t)) some ∙ ap (λ (ts : List Tree). addEach n ts []) (parts-once low k t)))
 
 -- The entry of the part that a line stands for: its subtree's cut at k-1, which is the subtree itself where that is low.
 abbrev pub partHere : ℕ → ℕ → List ℕ → ℕ → Entry
@@ -171,7 +171,7 @@ pub record Gone (low : Bool) (k n : ℕ) (os : List ℕ) (t : Tree) (line : ℕ)
   pub some : 1 ≤ n
   pub passes : Passed os t
   pub sorted : Sorted listed
-  pub left : enterEach n (partsIn low k (drop line (subtrees t))) listed ≡ enterEach n (partsIn low k (subtrees t)) []
+  pub left : enterEach n (partsOfKind low k (drop line (subtrees t))) listed ≡ enterEach n (partsOfKind low k (subtrees t)) []
 
 -- Before the first line there are none.
 pub gone-none : (low : Bool) (k n : ℕ) (os : List ℕ) (t : Tree) → 1 ≤ n → Passed os t → Gone low k n os t 0 []
@@ -193,14 +193,14 @@ module _ (low : Bool) (k n : ℕ) (os : List ℕ) (t : Tree) (line : ℕ) (liste
   pub gone-all : length os / 2 ≤ line → listed ≡ listOf low k n os
   unfolding enterEach
   gone-all past =
-      let none : partsIn low k (drop line (subtrees t)) ≡ [] =
-      ap (partsIn low k) (drop-of-length-le (subtrees t) {i = line} (omega (arith, two-words-a-line os t (g .passes)))) ∙ parts-none low k in
+      let none : partsOfKind low k (drop line (subtrees t)) ≡ [] =
+      ap (partsOfKind low k) (drop-of-length-le (subtrees t) {i = line} (omega (arith, two-words-a-line os t (g .passes)))) ∙ parts-none low k in
       ap (λ (ts : List Tree). enterEach n ts listed) (sym none) ∙ g .left ∙ sym (all-entered low k n os t (g .some) (g .passes))
 
   -- A key that they have is one of all parts.
   pub gone-has : (z : List ℕ) → has z listed ≡ true → has z (listOf low k n os) ≡ true
   gone-has z h =
-      ap (has z) (all-entered low k n os t (g .some) (g .passes) ∙ sym (g .left)) ∙ has-entered n z (partsIn low k (drop line (subtrees t))) listed h
+      ap (has z) (all-entered low k n os t (g .some) (g .passes) ∙ sym (g .left)) ∙ has-entered n z (partsOfKind low k (drop line (subtrees t))) listed h
 
 -- Two answers that are told the same are the same.
 told-same : (a b : Bool) → Bool·beq a b ≡ true → a ≡ b
@@ -247,9 +247,9 @@ module _ (low : Bool) (k n : ℕ) (os : List ℕ) (t : Tree) (line : ℕ) (liste
 
   module _ (b : Bool) (least : least-k ≤ k) (is : TellsLow b k os line) where
     -- A line of the other kind stands for none of the parts left.
-    pub parts-past : Bool·beq b low ≡ false → partsIn low k (drop line (subtrees t)) ≡ partsIn low k (drop (line + 1) (subtrees t))
+    pub parts-past : Bool·beq b low ≡ false → partsOfKind low k (drop line (subtrees t)) ≡ partsOfKind low k (drop (line + 1) (subtrees t))
     parts-past other =
-        ap (partsIn low k) next ∙ parts-same k (spot .tree) (drop (line + 1) (subtrees t)) least low (λ e. told-other b low other (sym (kind-here b is) ∙ e))
+        ap (partsOfKind low k) next ∙ parts-same k (spot .tree) (drop (line + 1) (subtrees t)) least low (λ e. told-other b low other (sym (kind-here b is) ∙ e))
 
     -- Past it the entries are as they were.
     pub gone-passed : Bool·beq b low ≡ false → Gone low k n os t (line + 1) listed
@@ -262,11 +262,11 @@ module _ (low : Bool) (k n : ℕ) (os : List ℕ) (t : Tree) (line : ℕ) (liste
 
     module _ (same : Bool·beq b low ≡ true) where
       -- The parts left are that of the line, and those of the lines behind it.
-      parts-here : partsIn low k (drop line (subtrees t)) ≡ cut (spot .tree) (k - 1) ∷ partsIn low k (drop (line + 1) (subtrees t))
-      parts-here = ap (partsIn low k) next ∙ parts-more k (spot .tree) (drop (line + 1) (subtrees t)) least low (kind-here b is ∙ told-same b low same)
+      parts-here : partsOfKind low k (drop line (subtrees t)) ≡ cut (spot .tree) (k - 1) ∷ partsOfKind low k (drop (line + 1) (subtrees t))
+      parts-here = ap (partsOfKind low k) next ∙ parts-more k (spot .tree) (drop (line + 1) (subtrees t)) least low (kind-here b is ∙ told-same b low same)
 
       -- Its entry has its words of those for the parts left.
-      pub words-here : eachWords (partsIn low k (drop line (subtrees t))) ≡ 2 + length (partHere k n os line .key) + eachWords (partsIn low k (drop (line + 1) (subtrees t)))
+      pub words-here : eachWords (partsOfKind low k (drop line (subtrees t))) ≡ 2 + length (partHere k n os line .key) + eachWords (partsOfKind low k (drop (line + 1) (subtrees t)))
       unfolding eachWords
       words-here = ap eachWords parts-here ∙ rw (cut-spot os (line * 2) _ spot (k - 1))
 
@@ -277,6 +277,6 @@ module _ (low : Bool) (k n : ℕ) (os : List ℕ) (t : Tree) (line : ℕ) (liste
         some = g .some;
         passes = g .passes;
         sorted = sorted-add-once (partHere k n os line) listed (g .some) (g .sorted);
-        left = ap (λ (w : List ℕ). enterEach n (partsIn low k (drop (line + 1) (subtrees t))) (addOnce (counted w n) listed)) (cut-spot os (line * 2) _ spot (k - 1))
+        left = ap (λ (w : List ℕ). enterEach n (partsOfKind low k (drop (line + 1) (subtrees t))) (addOnce (counted w n) listed)) (cut-spot os (line * 2) _ spot (k - 1))
             ∙ ap (λ (ts : List Tree). enterEach n ts listed) (sym parts-here) ∙ g .left;
       }

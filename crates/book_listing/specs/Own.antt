@@ -1,5 +1,6 @@
+-- Inner: no promise rests on these definitions.
 -- An order's own book: what some teachings of it count, and how it is listed. Assumes nothing: these are definitions.
-use Prim.Native.Nat.{ℕ, _+_, _*_}
+use Prim.Native.Nat.{ℕ, _+_, _*_, _-_}
 use mathlib.Core.Bool.{Bool, true, false}
 use mathlib.Core.List.{List, [], _∷_}
 use lib.ListN.{length}
@@ -7,6 +8,7 @@ use Rattle.figures.specs.Limits.{most-nodes, most-words, head-words, greatest-k
 use Rattle.section.specs.Entries.{Entry}
 use Rattle.order.specs.Trees.{Tree, words}
 use Rattle.order.specs.Reading.{byOrder, orderOf}
+use Rattle.order.specs.Standing.{cutOf}
 use Rattle.order.specs.Parts.{lows, middles, lowParts, middleParts}
 use Rattle.book.specs.Book.{Book}
 use Rattle.book.specs.declared.Section.{Section}
@@ -17,14 +19,15 @@ use Rattle.book.specs.Taught.{emptyBook, addEach, bookOf}
 abbrev pub entry-words : ℕ
 entry-words = 2 + most-words
 
--- All low and middle parts of an order take no more words. Each line stands for one part, whose entry has a head of two words. The part is the
--- cut at k-1 of the line's subtree, so a node has its two words in the part of its own line and in those of at most k-1 lines above it.
+-- The top of an order and all its low and middle parts take no more words. An entry has a head of two words, one for the top and one for each
+-- line, which stands for one part: the cut at k-1 of its subtree. So a node has its two words in the part of its own line and in those of at most
+-- k-1 lines above it, and where it is in the top, which is cut at k-2, at most k-2 lines stand above it.
 abbrev pub list-words : ℕ
-list-words = most-nodes * (2 + 2 * greatest-k)
+list-words = 2 + most-nodes * (2 + 2 * greatest-k)
 
--- No order's own book takes more words: its head, the order, its top, and all its low and middle parts.
+-- No order's own book takes more words: its head, the order, and its top with all its low and middle parts.
 abbrev pub own-words : ℕ
-own-words = head-words + 2 * entry-words + list-words
+own-words = head-words + entry-words + list-words
 
 -- The book of n teachings of an order.
 abbrev pub ownBook : ℕ → ℕ → Tree → Book
@@ -60,6 +63,6 @@ listOf low k n os = byOrder (orderOf os) (λ number. []) (λ t. addEach n (parts
 -- No more words are needed to list a section of an order's own book.
 abbrev pub roomFor : Section → ℕ → List ℕ → ℕ
 roomFor Taught k os = entry-words
-roomFor Tops k os = entry-words
+roomFor Tops k os = 2 + length (cutOf os 0 (k - 2))
 roomFor Lows k os = partWords true k os
 roomFor Middles k os = partWords false k os

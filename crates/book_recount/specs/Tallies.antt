@@ -1,3 +1,4 @@
+-- Inner: no promise rests on these definitions.
 -- What is tallied for a section of a book by the orders in its T. Assumes nothing: these are definitions.
 use Prim.Native.Nat.{ℕ}
 use mathlib.Core.Bool.{Bool, true}

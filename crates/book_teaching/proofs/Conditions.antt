@@ -7,6 +7,7 @@ use mathlib.Core.List.{List}
 use mathlib.Core.Option.{some}
 use native.Mathlib.Omega.{arith}
 use lib.ListN.{length}
+use Rattle.words.specs.Base.{_exactly-when_}
 use Rattle.words.proofs.Tests.{no-test}
 use Rattle.figures.specs.Numbers.{done, no-room, too-many, not-taught, not-agreeing}
 use Rattle.section.specs.Entries.{has}
@@ -19,7 +20,7 @@ use Rattle.book.proofs.Meaning.{read-back}
 use Rattle.book.proofs.Openings.{number-is, one-number, words-are}
 use Rattle.book_teaching.specs.Calls.{teachOf, withdrawn, withdrawOf}
 use Rattle.book_teaching.proofs.Formed.{taught-keeps-form, withdrawn-keeps-form}
-use Rattle.book_teaching.specs.Conditions.{_exactly-when_, BookAndOrder, WouldPass, PartMissing}
+use Rattle.book_teaching.specs.Conditions.{BookAndOrder, WouldPass, PartMissing}
 use Rattle.book_teaching.proofs.Calling.{Met, met, refuses, goes, its-form, its-limits, TeachCase, passing, crowded, teaches, teach-case, WithdrawCase, untaught, lacks, withdraws, withdraw-case}
 use Rattle.book_teaching.proofs.Reasons.{within-none, not-within, fails-missing, passes-none}
 

@@ -16,11 +16,6 @@ use Rattle.book.specs.Decoding.{sized, decode}
 use Rattle.book.specs.declared.Section.{Section}
 use Rattle.book.specs.Taught.{treesIn}
 
-infix 1 _exactly-when_
--- "Given exactly when": each follows from the other.
-abbrev pub _exactly-when_ : Type 0 → Type 0 → Type 0
-_exactly-when_ A B = (A → B) × (B → A)
-
 -- None of "4, 5, 1, 2": the words have the size of a book and are the book b in form, and the other words are the order t.
 pub record BookAndOrder (ws os : List ℕ) (b : Book) (t : Tree) : Type 0 where
   pub size : sized ws ≡ true

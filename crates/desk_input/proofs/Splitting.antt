@@ -20,7 +20,7 @@ use Rattle.desk_input.specs.declared.LineKind.the-variants.{Asks, Other}
 -- ---- the first line
 
 -- What the first of lines asks for.
-abbrev firstKind : List (List ℕ) → LineKind
+abbrev pub firstKind : List (List ℕ) → LineKind
 firstKind [] = Other
 firstKind (l ∷ ls) = kindOf l
 
@@ -54,7 +54,7 @@ first-kind (b ∷ e ∷ rest) = go (eqb b line-feed) refl (eqb e line-feed) refl
 -- ---- bytes behind others
 
 -- What lines ask for, the first of which goes on from before and is no letter line.
-abbrev goingOn : List (List ℕ) → Sheet
+abbrev pub goingOn : List (List ℕ) → Sheet
 goingOn [] = record { before = []; calls = [] }
 goingOn (l ∷ ls) = withLine Other l (callsOf ls)
 

@@ -10,7 +10,7 @@ use Rattle.desk_input.specs.declared.Letter.{Letter}
 -- ---- calls as they are written
 
 -- A call as it is written: "a line of the one letter T, W or J and LF", and its form.
-abbrev callText : FormCall → List ℕ
+abbrev pub callText : FormCall → List ℕ
 callText c = letterByte (c .letter) ∷ line-feed ∷ c .text
 
 -- Calls one after the other.

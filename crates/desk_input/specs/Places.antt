@@ -1,3 +1,4 @@
+-- Inner: no promise rests on these definitions but on `letterAt`, with which a letter line in front is said.
 -- What the inner functions find in the input, in the terms that the code has at hand. Assumes nothing: these are definitions.
 use Prim.Native.Nat.{ℕ, suc}
 use mathlib.Core.Bool.{Bool, true, false}

@@ -14,7 +14,7 @@ use Rattle.form.specs.Text.{Line}
 use Rattle.form.specs.Reading.{siblings, children, wordsOfLines}
 
 -- Every line is deeper than l.
-abbrev Above : ℕ → List Line → Type 0
+abbrev pub Above : ℕ → List Line → Type 0
 Above l [] = Unit {0}
 Above l (x ∷ xs) = (l < x .level) × Above l xs
 

@@ -1,3 +1,4 @@
+-- Inner: no promise rests on these definitions.
 -- What the inner functions of reading and writing give, in the terms that the code has at hand. Assumes nothing: these are definitions.
 use Prim.Native.Nat.{ℕ, suc, _+_, _*_, _-_, _≤_, _<_}
 use mathlib.Core.Path.{_≡_}

@@ -128,7 +128,7 @@ hopped-before (cons t f) k i l ss after ls here h =
 -- ---- the trees that wait, and the levels of their first lines
 
 -- Trees that wait have the levels of their first lines, where the first of them begins on line i.
-unfoldable TopsSet : Waiting → ℕ → List ℕ → Type 0
+unfoldable pub TopsSet : Waiting → ℕ → List ℕ → Type 0
 TopsSet all-done i ls = Unit {0}
 TopsSet (waits t l w) i ls = (getD ls i 0 ≡ l) × TopsSet w (i + lines t) ls
 

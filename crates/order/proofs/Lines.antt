@@ -141,7 +141,7 @@ pub record LacksLine (s : List ℕ) (line : ℕ) : Type 0 where
   pub lacks : treeOfLine line (subtrees tree) ≡ missing
 
 -- What a place says of the order and the line.
-abbrev Placed : List ℕ → ℕ → Place → Type 0
+abbrev pub Placed : List ℕ → ℕ → Place → Type 0
 Placed s line (Refused n) = orderOf s ≡ refused n
 Placed s line Lacking = LacksLine s line
 Placed s line (At at) = HasLine s line at

@@ -16,7 +16,7 @@ use Rattle.order.proofs.Reading.{Sound, sound, complete, reads-none}
 -- ---- words and trees
 
 -- What words are read as, if anything, is a good tree whose words they are.
-abbrev IsTree : List ℕ → TreeFound → Type 0
+abbrev pub IsTree : List ℕ → TreeFound → Type 0
 IsTree s missing = Unit {0}
 IsTree s (found t) = (s ≡ words t) × Good t
 

@@ -26,7 +26,7 @@ use Rattle.order.proofs.LineSpans.{spans-behind, spans-room, span-read,
 -- ---- the cuts that wait
 
 -- What is written of the trees that wait, in a cut at d of a tree whose top has the level `own`.
-unfoldable cutsW : ℕ → ℕ → Waiting → List ℕ
+unfoldable pub cutsW : ℕ → ℕ → Waiting → List ℕ
 cutsW own d all-done = []
 cutsW own d (waits t l w) = words (cut t (d - (l - own))) ++ cutsW own d w
 

@@ -25,7 +25,7 @@ join bare g = g
 join (cons t f) g = cons t (join f g)
 
 -- A tree put before what was read.
-abbrev addT : Tree → Reading → Reading
+abbrev pub addT : Tree → Reading → Reading
 addT t broken = broken
 addT t (read f r) = read (cons t f) r
 
@@ -156,7 +156,7 @@ reads-none (c ∷ []) = refl
 reads-none (c ∷ k ∷ s) = refl
 
 -- What was read of one tree, and then n trees from the words past it.
-abbrev thenF : ℕ → Reading → Reading
+abbrev pub thenF : ℕ → Reading → Reading
 thenF n broken = broken
 thenF n (read bare r) = broken
 thenF n (read (cons t f) r) = addT t (readTrees r n)

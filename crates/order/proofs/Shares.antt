@@ -49,6 +49,10 @@ one-each (s ∷ ss) = omega (arith, one-node s, one-each ss)
     one-node (node c f) = unfold cut subtrees in refl
 
 -- The cuts at d of all subtrees have at most d + 1 times as many nodes as the tree.
-pub shares : (t : Tree) (d : ℕ) → cutNodes d (subtrees t) ≤ suc d * length (subtrees t)
+shares : (t : Tree) (d : ℕ) → cutNodes d (subtrees t) ≤ suc d * length (subtrees t)
 shares t zero = omega (arith, one-each (subtrees t))
 shares t (suc d) = omega (arith, deeper t d, shares t d, suc-mul (suc d) (length (subtrees t)))
+
+-- The cuts one level deeper have at most d + 2 times as many, together with the tree cut at d.
+pub top-shares : (t : Tree) (d : ℕ) → cutNodes (suc d) (subtrees t) + length (subtrees (cut t d)) ≤ suc (suc d) * length (subtrees t)
+top-shares t d = omega (arith, deeper t d, shares t d, suc-mul (suc d) (length (subtrees t)))

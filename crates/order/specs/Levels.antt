@@ -1,3 +1,4 @@
+-- Inner: no promise rests on these definitions.
 -- The levels of an order's lines, which its text has and by which its cuts are written. Assumes nothing: these are definitions.
 use mathlib.Core.List.{List, [], _∷_, _++_}
 use mathlib.Core.Path.{_≡_}

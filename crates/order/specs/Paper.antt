@@ -21,7 +21,7 @@ childOf (suc zero) (cons t f) = found t
 childOf (suc (suc i)) (cons t f) = childOf (suc i) f
 
 -- The children of the top.
-abbrev childrenOfTop : Tree → Forest
+abbrev pub childrenOfTop : Tree → Forest
 childrenOfTop (node c f) = f
 
 -- The label of the top.

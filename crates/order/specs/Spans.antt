@@ -1,3 +1,4 @@
+-- Inner: no promise rests on these definitions.
 -- Orders gone over from the last node to the first: where the subtree of each line ends and how deep it is, and the row of trees that words
 -- spell. Assumes nothing: these are definitions.
 use mathlib.Core.List.{List, [], _∷_, _++_}

@@ -1,3 +1,4 @@
+-- Inner: no promise rests on these definitions.
 -- What stands at a word of an order, by the trees: a tree, its cut, a line. Assumes nothing: these are definitions.
 use mathlib.Core.List.{List, []}
 use Prim.Native.Nat.{ℕ, zero, suc, _*_}

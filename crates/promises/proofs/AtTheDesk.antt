@@ -12,7 +12,7 @@ use native.Mathlib.Decide.{decLt}
 use native.Mathlib.Omega.{arith}
 use lib.ListN.{length, length-append, length-replicate, getD, replicate}
 use Rattle.words.proofs.Tests.{never}
-use Rattle.words.specs.Base.{if_then_else_}
+use Rattle.words.specs.Base.{if_then_else_, _exactly-when_}
 use Rattle.figures.specs.Limits.{head-words, desk-book-words, least-k, greatest-k, greatest-count, used-word}
 use Rattle.figures.specs.Numbers.{done, no-room, not-taught, top-unknown, low-unknown, middle-unknown}
 use Rattle.figures.specs.Answers.{answered}
@@ -33,7 +33,6 @@ use Rattle.book.proofs.Openings.{opened-book, opened-used, number-is}
 use Rattle.book_judging.specs.Judging.{Doubt, no-doubt, doubt, leastToFix, verdictOn, verdict, judgeOf}
 use Rattle.book_judging.proofs.Judgements.{by-verdict}
 use Rattle.book_teaching.specs.Calls.{teachOf, withdrawOf}
-use Rattle.book_teaching.specs.Conditions.{_exactly-when_}
 use Rattle.book_teaching.proofs.Conditions.{teach-refusal-leaves, withdraw-refusal-leaves}
 use Rattle.desk_line.specs.Replies.{reply}
 use Rattle.desk_input.specs.Sheets.{letter-K, letterByte, FormCall, Handed, faulty, handed, handedIn, openingBy, openingOf, frontAnswer}

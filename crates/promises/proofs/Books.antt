@@ -9,7 +9,7 @@ use borrow.Author.Tests.{ltb-true, ltb-false, lt-ltb, le-ltb}
 use lib.Dec.{ltb}
 use lib.ListN.{length, take, drop, replicate, length-append}
 use lib.Seq.{take-append-seam, drop-at, drop-drop}
-use Rattle.words.specs.Base.{_∈_}
+use Rattle.words.specs.Base.{_∈_, _exactly-when_}
 use Rattle.words.specs.Compare.{firstWords, compareOf, _≺_}
 use Rattle.words.specs.declared.Compared.the-variants.{Lower}
 use Rattle.words.proofs.Tests.{is-true, never}
@@ -37,7 +37,7 @@ use Rattle.book.proofs.Meaning.{lay-long, used-fits}
 use Rattle.book.proofs.Sections.{form-sorted}
 use Rattle.book.proofs.Teachings.{live-taught, times-counted, times-other, count-after-taught}
 use Rattle.book_teaching.specs.Calls.{teachOf, withdrawOf, lowerEach, withdrawn}
-use Rattle.book_teaching.specs.Conditions.{_exactly-when_, BookAndOrder, PartMissing, from-tops, from-lows, from-middles}
+use Rattle.book_teaching.specs.Conditions.{BookAndOrder, PartMissing, from-tops, from-lows, from-middles}
 use Rattle.book_teaching.proofs.Adds.{live-withdrawn}
 use Rattle.book_teaching.proofs.Conditions.{teach-0, teach-writes, withdraw-0, withdraw-writes}
 use Rattle.book_teaching.proofs.Undoing.{count-after-withdrawn}

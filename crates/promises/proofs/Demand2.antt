@@ -10,7 +10,7 @@ use mathlib.Core.Bool.{false}
 use mathlib.Core.List.{List, [], _∷_, _++_, append-assoc, map, Memᴰ·map, Memᴰ·of-map, List·Memᴰ·head as here, List·Memᴰ·tail as there}
 use native.Mathlib.Omega.{arith}
 use lib.ListN.{length, getD, take}
-use Rattle.words.specs.Base.{over, _∈_}
+use Rattle.words.specs.Base.{over, _∈_, _exactly-when_}
 use Rattle.figures.specs.Limits.{least-code, greatest-code, most-nodes, used-word}
 use Rattle.figures.specs.Numbers.{done, no-form, top-unknown, low-unknown}
 use Rattle.figures.specs.Answers.{answered, wrote, refusedAt}
@@ -41,7 +41,6 @@ use Rattle.book.specs.Opening.{outcome}
 use Rattle.book_judging.specs.Judging.{judgeOf}
 use Rattle.book_judging.specs.Verdicts.{In, PassesBy}
 use Rattle.book_judging.proofs.Answers.{answered-passes, passes-answered}
-use Rattle.book_teaching.specs.Conditions.{_exactly-when_}
 use Rattle.book_filing.specs.Files.{front-bytes, fileOf, writeFileOf, readFileOf}
 use Rattle.promises.specs.Agreement.{Agrees}
 use Rattle.promises.specs.Forms.{LevelInTens, InTens, LineStands, ComesBack, LinesBelow, PartKnown, NoLineUnknown, LineWanted, Told}

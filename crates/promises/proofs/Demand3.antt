@@ -11,7 +11,7 @@ use Prim.Native.Nat.{ℕ, _≤_, _<_}
 use mathlib.Core.Path.{_≡_, refl, ap}
 use mathlib.Core.List.{List, [], _∷_, _++_}
 use lib.ListN.{length}
-use Rattle.words.specs.Base.{_∈_}
+use Rattle.words.specs.Base.{_∈_, _exactly-when_}
 use Rattle.figures.specs.Limits.{head-words, most-book-words, least-k, greatest-k, greatest-count}
 use Rattle.figures.specs.Numbers.{done, no-room, too-many, not-taught}
 use Rattle.figures.specs.Answers.{answered}
@@ -25,7 +25,6 @@ use Rattle.book.specs.Sound.{IsBook}
 use Rattle.book.specs.Opening.{outcome, openOf}
 use Rattle.book_judging.specs.Judging.{judgeOf}
 use Rattle.book_teaching.specs.Calls.{teachOf, withdrawOf}
-use Rattle.book_teaching.specs.Conditions.{_exactly-when_}
 use Rattle.book_joining.specs.Joining.{CountsAdded, joinOf}
 use Rattle.book_joining.proofs.Joins.{either-way, regrouped, regrouped-back, join-empty}
 use Rattle.book.specs.Checking.{agreeOf}

@@ -8,11 +8,10 @@ use borrow.Author.Tests.{ltb-false, le-ltb}
 use lib.Dec.{ltb}
 use lib.ListN.{length}
 use Rattle.words.proofs.Tests.{never}
-use Rattle.words.specs.Base.{_∈_, if_then_else_}
+use Rattle.words.specs.Base.{_∈_, if_then_else_, _exactly-when_}
 use Rattle.figures.specs.Limits.{most-input}
 use Rattle.figures.specs.Numbers.{too-large}
 use Rattle.figures.specs.Answers.{answered}
-use Rattle.book_teaching.specs.Conditions.{_exactly-when_}
 use Rattle.form.specs.Text.{line-feed}
 use Rattle.desk_input.specs.Sheets.{letterByte, FormCall, Sheet, sheetOf, FirstLine, otherwise, asks, firstLine, faulty, handed, handedBy, byFirst, handedIn}
 use Rattle.desk_input.specs.Joined.{joinedCalls, sheetBytes, StartsLine, nothing-before, LetterLine, Plain, Parts, part}

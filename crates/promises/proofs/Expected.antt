@@ -6,6 +6,7 @@ use mathlib.Core.Bool.{Bool, true, false}
 use mathlib.Core.List.{List}
 use native.Mathlib.Omega.{arith}
 use lib.IntN.{ℤ, negℤ}
+use Rattle.words.specs.Base.{_exactly-when_}
 use Rattle.words.specs.Compare.{compareOf, signedOf, sideOf, sizeOf}
 use Rattle.words.specs.Differences.{FirstDiffers, SignedPlace}
 use Rattle.words.proofs.Differences.{signed-is, signed-only, signed-flip as flips, size-place as sizes}
@@ -27,7 +28,6 @@ use Rattle.book_judging.specs.declared.Judgement.{Judgement}
 use Rattle.book_judging.specs.Verdicts.{In, Judged, no-book, no-order, judged}
 use Rattle.book_judging.proofs.Judgements.{none-by-cause, none-unheld}
 use Rattle.book_judging.proofs.Answers.{judged-is, answered-top, answered-low, answered-middle}
-use Rattle.book_teaching.specs.Conditions.{_exactly-when_}
 use Rattle.promises.specs.Expected.{IsNear, Expected, of-top, of-low, of-middle, of-none}
 use Rattle.promises.proofs.Laws.Nearness.{near-of, near-once, tops-ascend, lows-ascend, middles-ascend, middle-is-r}
 use Rattle.promises.proofs.Laws.Nearness.{none-handed, top-handed, low-handed, middle-handed, Reported, for-top, for-low, for-middle, for-none, reported}

@@ -10,7 +10,7 @@ use mathlib.Core.Path.{_≡_, refl, sym, ap, ap₂, subst, _∙_}
 use mathlib.Core.List.{List, [], _∷_, _++_}
 use native.Mathlib.Omega.{arith}
 use lib.ListN.{length, getD, length-append}
-use Rattle.words.specs.Base.{if_then_else_}
+use Rattle.words.specs.Base.{if_then_else_, _exactly-when_}
 use Rattle.figures.specs.Limits.{greatest-count, live-word}
 use Rattle.figures.specs.Numbers.{done, low-unknown}
 use Rattle.figures.specs.Answers.{answered}
@@ -27,7 +27,6 @@ use Rattle.book_judging.specs.Judging.{judgeOf}
 use Rattle.book_judging.specs.Verdicts.{PassesBy, Judged}
 use Rattle.book_judging.proofs.Answers.{judged-only}
 use Rattle.book_teaching.specs.Calls.{teachOf}
-use Rattle.book_teaching.specs.Conditions.{_exactly-when_}
 use Rattle.book_teaching.specs.Whys.{WhyTaught}
 use Rattle.book_teaching.proofs.Whys.{teach-only}
 use Rattle.promises.specs.Heard.{single, pair}

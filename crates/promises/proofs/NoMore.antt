@@ -9,7 +9,7 @@ use Prim.Native.Nat.{ℕ, suc, _-_, _≤_}
 use mathlib.Core.Path.{_≡_, sym, subst}
 use mathlib.Core.List.{List, [], _∷_}
 use native.Mathlib.Omega.{arith}
-use Rattle.words.specs.Base.{_∈_}
+use Rattle.words.specs.Base.{_∈_, _exactly-when_}
 use Rattle.figures.specs.Numbers.{done, not-agreeing}
 use Rattle.figures.specs.Answers.{answered}
 use Rattle.order.specs.Trees.{Tree, words, depth}
@@ -23,7 +23,6 @@ use Rattle.book.proofs.Sound.{refused-4-5}
 use Rattle.book.proofs.Openings.{one-number}
 use Rattle.book_judging.specs.Judging.{judgeOf}
 use Rattle.book_teaching.specs.Calls.{teachOf, withdrawOf}
-use Rattle.book_teaching.specs.Conditions.{_exactly-when_}
 use Rattle.book_teaching.specs.Whys.{WhyWithdrawn, withdraw-no-book, withdraw-no-order, no-entry, part-missing, book-withdrawn}
 use Rattle.book_teaching.proofs.Sequences.{agreeing-no-9}
 use Rattle.book_teaching.proofs.Whys.{withdraw-why}

@@ -41,11 +41,11 @@ pub data WhyNumbered (os : List ℕ) (a : Answer) : Type 0 where
   numbered : (n : ℕ) → a ≡ answered n → Cause os n → WhyNumbered os a
 
 -- "a line the order lacks": its lines are those of its nodes, counted from 1.
-pub data LacksLine (t : Tree) (line : ℕ) : Type 0 where
+pub data NoSuchLine (t : Tree) (line : ℕ) : Type 0 where
   -- No order has a line 0.
-  line-0 : line ≡ 0 → LacksLine t line
+  line-0 : line ≡ 0 → NoSuchLine t line
   -- It has no line past the one of its last node.
-  past-last : length (subtrees t) < line → LacksLine t line
+  past-last : length (subtrees t) < line → NoSuchLine t line
 
 -- Why `order_cuts::subtree` hands out p: "A subtree is a contiguous part of the order's words, and is handed out as that part, asked for by its
 -- line; for an order with a cause of 1 or 2, or a line the order lacks, an empty part is handed out". Lines count from 1, in preorder.
@@ -53,7 +53,7 @@ pub data WhySubtree (os : List ℕ) (line : ℕ) (p : Piece) : Type 0 where
   -- "for an order with a cause of 1 or 2": an empty part, at the front
   subtree-no-order : (n : ℕ) → p ≡ piece 0 [] → Cause os n → (n ≡ done → ⊥) → WhySubtree os line p
   -- "or a line the order lacks": an empty part, at the front
-  subtree-lacks : (t : Tree) → p ≡ piece 0 [] → IsOrder os t → LacksLine t line → WhySubtree os line p
+  subtree-lacks : (t : Tree) → p ≡ piece 0 [] → IsOrder os t → NoSuchLine t line → WhySubtree os line p
   -- "is handed out as that part": from the two words of the line on, the subtree's words, which stand there
   subtree : (t s : Tree) → p ≡ piece ((line - 1) * 2) (words s) → IsOrder os t → treeOfLine line (subtrees t) ≡ found s
       → take (length (words s)) (drop ((line - 1) * 2) os) ≡ words s → WhySubtree os line p
@@ -63,7 +63,7 @@ pub data WhyCut (os out : List ℕ) (line d : ℕ) (w : Writing) : Type 0 where
   -- 1 and 2, by the order
   cut-no-order : (n : ℕ) → w ≡ refuse n out → Cause os n → (n ≡ done → ⊥) → WhyCut os out line d w
   -- 0 for "a line the order lacks": nothing is cut, so nothing is written
-  cut-lacks : (t : Tree) → w ≡ writing (wrote done 0) out → IsOrder os t → LacksLine t line → WhyCut os out line d w
+  cut-lacks : (t : Tree) → w ≡ writing (wrote done 0) out → IsOrder os t → NoSuchLine t line → WhyCut os out line d w
   -- 11: "lent output too short"
   cut-short : (t s : Tree) → w ≡ refuse short-output out → IsOrder os t → treeOfLine line (subtrees t) ≡ found s
       → length out < length (words (cut s d)) → WhyCut os out line d w
@@ -78,7 +78,7 @@ pub data WhyPart (os out : List ℕ) (line k : ℕ) (w : PartWriting) : Type 0 w
   -- 1 and 2, by the order: no part
   part-no-order : (n : ℕ) → w ≡ partWriting (noPart n) out → Cause os n → (n ≡ done → ⊥) → WhyPart os out line k w
   -- 0 for "a line the order lacks": no part
-  part-lacks : (t : Tree) → w ≡ partWriting (noPart done) out → IsOrder os t → LacksLine t line → WhyPart os out line k w
+  part-lacks : (t : Tree) → w ≡ partWriting (noPart done) out → IsOrder os t → NoSuchLine t line → WhyPart os out line k w
   -- 11, "lent output too short", for a low part: a "subtree of depth at most k-2"
   low-short : (t s : Tree) → w ≡ ofKind Low (refuse short-output out) → IsOrder os t → treeOfLine line (subtrees t) ≡ found s → depth s ≤ k - 2
       → length out < length (words s) → WhyPart os out line k w

@@ -1,3 +1,4 @@
+-- Inner: no promise rests on these definitions but on `fitting`, with which 7 is said.
 -- A section changed by another one, whose keys ascend as well: what the other adds to it, what it takes from it, and what it would enter;
 -- and the words of a lent part whose first entries are changed. Assumes nothing: these are definitions.
 use Prim.Native.Nat.{ℕ, _+_, _*_, _-_, _≤_}

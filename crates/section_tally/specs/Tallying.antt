@@ -1,3 +1,4 @@
+-- Inner: no promise rests on these definitions.
 -- Entries by the places where they start, and the counts and marks that a turn leaves for them. Assumes nothing: these are definitions.
 use Prim.Native.Nat.{ℕ, zero, suc, _+_, _≤_, _<_}
 use mathlib.Core.Path.{_≡_}

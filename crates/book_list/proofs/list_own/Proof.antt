@@ -48,7 +48,7 @@ few b s size is = omega (arith, ap (λ (z : Size). z .many) is, length-size (sec
   where
     most : (s : Section) → room b s ≤ own-words
     most Taught = omega arith
-    most Tops = omega arith
+    most Tops = omega (arith, all-room b, b .pre .1 .1 .1 .1 .1)
     most Lows = omega (arith, all-room b, b .pre .1 .1 .1 .1 .1)
     most Middles = omega (arith, all-room b, b .pre .1 .1 .1 .1 .1)
 
@@ -135,17 +135,17 @@ head-within c = stage-head _ _ _ _ _ (stage₄ c)
 
 -- ---- at each place
 
-mul-list-section : tie.Need-mul-list-section
-mul-list-section c = search needs
+mul-part : tie.Need-mul-part
+mul-part c = search needs
 
-sub-list-section : tie.Need-sub-list-section
-sub-list-section c = stage-within _ _ _ _ _ (stage₀ (c .before .before .before .before))
+sub-part : tie.Need-sub-part
+sub-part c = stage-within _ _ _ _ _ (stage₀ (c .before .before .before .before))
 
-part-list-section-start : tie.Need-part-list-section-start
-part-list-section-start c = stage-within _ _ _ _ _ (stage₀ (c .before .before .before .before))
+part-part-start : tie.Need-part-part-start
+part-part-start c = stage-within _ _ _ _ _ (stage₀ (c .before .before .before .before))
 
-part-list-section-end : tie.Need-part-list-section-end
-part-list-section-end c = search needs
+part-part-end : tie.Need-part-part-end
+part-part-end c = search needs
 
 list-section-requires : tie.Need-list-section-requires
 list-section-requires c κs =
@@ -156,17 +156,17 @@ list-section-requires c κs =
 add-tops : tie.Need-add-tops
 add-tops c = omega (arith, called₁ (c .before .before .before) .pre .1 .1 .1 .1 .1, stage₁ (c .before .before .before) .room)
 
-mul-list-section-2 : tie.Need-mul-list-section-2
-mul-list-section-2 c = omega (arith, called₁ (c .before .before .before) .pre .1 .1 .1 .1 .1, stage₁ (c .before .before .before) .room)
+mul-part-2 : tie.Need-mul-part-2
+mul-part-2 c = omega (arith, called₁ (c .before .before .before) .pre .1 .1 .1 .1 .1, stage₁ (c .before .before .before) .room)
 
-sub-list-section-2 : tie.Need-sub-list-section-2
-sub-list-section-2 c = stage-within _ _ _ _ _ (stage₁ (c .before .before .before))
+sub-part-2 : tie.Need-sub-part-2
+sub-part-2 c = stage-within _ _ _ _ _ (stage₁ (c .before .before .before))
 
-part-list-section-start-2 : tie.Need-part-list-section-start-2
-part-list-section-start-2 c = stage-within _ _ _ _ _ (stage₁ (c .before .before .before))
+part-part-start-2 : tie.Need-part-part-start-2
+part-part-start-2 c = stage-within _ _ _ _ _ (stage₁ (c .before .before .before))
 
-part-list-section-end-2 : tie.Need-part-list-section-end-2
-part-list-section-end-2 c = search needs
+part-part-end-2 : tie.Need-part-part-end-2
+part-part-end-2 c = search needs
 
 list-section-requires-2 : tie.Need-list-section-requires-2
 list-section-requires-2 c κs =
@@ -178,17 +178,17 @@ list-section-requires-2 c κs =
 add-lows : tie.Need-add-lows
 add-lows c = omega (arith, called₂ (c .before .before .before) .pre .1 .1 .1 .1 .1, stage₂ (c .before .before .before) .room)
 
-mul-list-section-3 : tie.Need-mul-list-section-3
-mul-list-section-3 c = omega (arith, called₂ (c .before .before .before) .pre .1 .1 .1 .1 .1, stage₂ (c .before .before .before) .room)
+mul-part-3 : tie.Need-mul-part-3
+mul-part-3 c = omega (arith, called₂ (c .before .before .before) .pre .1 .1 .1 .1 .1, stage₂ (c .before .before .before) .room)
 
-sub-list-section-3 : tie.Need-sub-list-section-3
-sub-list-section-3 c = stage-within _ _ _ _ _ (stage₂ (c .before .before .before))
+sub-part-3 : tie.Need-sub-part-3
+sub-part-3 c = stage-within _ _ _ _ _ (stage₂ (c .before .before .before))
 
-part-list-section-start-3 : tie.Need-part-list-section-start-3
-part-list-section-start-3 c = stage-within _ _ _ _ _ (stage₂ (c .before .before .before))
+part-part-start-3 : tie.Need-part-part-start-3
+part-part-start-3 c = stage-within _ _ _ _ _ (stage₂ (c .before .before .before))
 
-part-list-section-end-3 : tie.Need-part-list-section-end-3
-part-list-section-end-3 c = search needs
+part-part-end-3 : tie.Need-part-part-end-3
+part-part-end-3 c = search needs
 
 list-section-requires-3 : tie.Need-list-section-requires-3
 list-section-requires-3 c κs =
@@ -200,17 +200,17 @@ list-section-requires-3 c κs =
 add-middles : tie.Need-add-middles
 add-middles c = omega (arith, called₃ (c .before .before .before) .pre .1 .1 .1 .1 .1, stage₃ (c .before .before .before) .room)
 
-mul-list-section-4 : tie.Need-mul-list-section-4
-mul-list-section-4 c = omega (arith, called₃ (c .before .before .before) .pre .1 .1 .1 .1 .1, stage₃ (c .before .before .before) .room)
+mul-part-4 : tie.Need-mul-part-4
+mul-part-4 c = omega (arith, called₃ (c .before .before .before) .pre .1 .1 .1 .1 .1, stage₃ (c .before .before .before) .room)
 
-sub-list-section-4 : tie.Need-sub-list-section-4
-sub-list-section-4 c = stage-within _ _ _ _ _ (stage₃ (c .before .before .before))
+sub-part-4 : tie.Need-sub-part-4
+sub-part-4 c = stage-within _ _ _ _ _ (stage₃ (c .before .before .before))
 
-part-list-section-start-4 : tie.Need-part-list-section-start-4
-part-list-section-start-4 c = stage-within _ _ _ _ _ (stage₃ (c .before .before .before))
+part-part-start-4 : tie.Need-part-part-start-4
+part-part-start-4 c = stage-within _ _ _ _ _ (stage₃ (c .before .before .before))
 
-part-list-section-end-4 : tie.Need-part-list-section-end-4
-part-list-section-end-4 c = search needs
+part-part-end-4 : tie.Need-part-part-end-4
+part-part-end-4 c = search needs
 
 list-section-requires-4 : tie.Need-list-section-requires-4
 list-section-requires-4 c κs =
@@ -289,28 +289,28 @@ pub list-own-spec : {M : Type 1} → statement M
 list-own-spec =
     tie.close
     (tie.spec
-    mul-list-section
-    sub-list-section
-    part-list-section-start
-    part-list-section-end
+    mul-part
+    sub-part
+    part-part-start
+    part-part-end
     list-section-requires
     add-tops
-    mul-list-section-2
-    sub-list-section-2
-    part-list-section-start-2
-    part-list-section-end-2
+    mul-part-2
+    sub-part-2
+    part-part-start-2
+    part-part-end-2
     list-section-requires-2
     add-lows
-    mul-list-section-3
-    sub-list-section-3
-    part-list-section-start-3
-    part-list-section-end-3
+    mul-part-3
+    sub-part-3
+    part-part-start-3
+    part-part-end-3
     list-section-requires-3
     add-middles
-    mul-list-section-4
-    sub-list-section-4
-    part-list-section-start-4
-    part-list-section-end-4
+    mul-part-4
+    sub-part-4
+    part-part-start-4
+    part-part-end-4
     list-section-requires-4
     add-used
     value-requires

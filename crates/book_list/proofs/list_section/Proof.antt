@@ -1,5 +1,5 @@
 -- `book_list::list_section` meets its contract: the order and its top are one entry each, the parts of either kind a list. Assumes nothing.
-use Prim.Native.Nat.{ℕ, _+_, _≤_}
+use Prim.Native.Nat.{ℕ, _+_, _-_, _≤_}
 use mathlib.Core.Path.{_≡_, refl, subst}
 use mathlib.Core.List.{List, [], _∷_}
 use native.Mathlib.Omega.{arith}
@@ -13,7 +13,7 @@ use Rattle.order.specs.Standing.{cutOf}
 use Rattle.book.specs.Book.{sectionOf}
 use Rattle.book.specs.declared.Section.{Section}
 use Rattle.book.specs.declared.Section.the-variants.{Taught, Tops, Lows, Middles}
-use Rattle.book_listing.specs.Own.{entry-words, ownOf, roomFor}
+use Rattle.book_listing.specs.Own.{ownOf, roomFor}
 use Rattle.book_listing.proofs.Owning.{first-line, whole-short, listedIn, section-is}
 use Rattle.book_list.proofs.Owning.{Listed, one-listed}
 use Rattle.book_list.proofs.list_section.Statement.{statement}
@@ -23,9 +23,13 @@ use Rattle.book_list.proofs.list_section.Tie as tie
 room : (b : tie.Start) (s : Section) → b .args .section ≡ s → roomFor s (b .args .k .k) (b .args .order .now) ≤ length (b .args .out .now)
 room b s told = subst (λ (z : Section). roomFor z (b .args .k .k) (b .args .order .now) ≤ length (b .args .out .now)) told (b .pre .1 .1 .1 .1 .1)
 
--- There is room for an entry of any cut of the order where there is for the longest.
-cut-room : (b : tie.Start) (d : ℕ) → entry-words ≤ length (b .args .out .now) → 2 + length (cutOf (b .args .order .now) 0 d) ≤ length (b .args .out .now)
-cut-room b d long = omega (arith, whole-short (b .args .order .now) (b .pre .1 .0 .sound) d)
+-- There is room for an entry of the whole order where there is for the longest.
+whole-room : (b : tie.Start) → b .args .section ≡ Taught → 2 + length (cutOf (b .args .order .now) 0 greatest-depth) ≤ length (b .args .out .now)
+whole-room b told = omega (arith, whole-short (b .args .order .now) (b .pre .1 .0 .sound) greatest-depth, room b Taught told)
+
+-- There is room for an entry of the top, by what the depth at which it is cut is.
+top-room : (b : tie.Start) (d : ℕ) → d ≡ b .args .k .k - 2 → b .args .section ≡ Tops → 2 + length (cutOf (b .args .order .now) 0 d) ≤ length (b .args .out .now)
+top-room b d is told = rw is (room b Tops told)
 
 -- What was listed in a section is the section that is asked for.
 asked : (b : tie.Start) (s : Section) → b .args .section ≡ s → (now : List ℕ) (size : Size)
@@ -36,11 +40,11 @@ asked b s told now size =
 
 -- An entry of the cut at d of the order, which is the cut at another depth that is the same, is written.
 written : (b : tie.Start) (d same used : ℕ) (now : List ℕ) → let cut = cutOf (b .args .order .now) 0 d in
-    d ≡ same → entry-words ≤ length (b .args .out .now) → used ≡ 2 + length cut → now ≡ over (entryWords (counted cut (b .args .times))) (b .args .out .now)
+    d ≡ same → 2 + length cut ≤ length (b .args .out .now) → used ≡ 2 + length cut → now ≡ over (entryWords (counted cut (b .args .times))) (b .args .out .now)
     → Listed (b .args .out .now) (counted (cutOf (b .args .order .now) 0 same) (b .args .times) ∷ []) now (record { used = used; many = 1 })
 written b d same used now deep long uses wrote =
     subst (λ (z : ℕ). Listed (b .args .out .now) (counted (cutOf (b .args .order .now) 0 z) (b .args .times) ∷ []) now (record { used = used; many = 1 })) deep
-    (one-listed _ _ _ _ (b .pre .1 .1 .1 .1 .0) (cut-room b d long) uses wrote)
+    (one-listed _ _ _ _ (b .pre .1 .1 .1 .1 .0) long uses wrote)
 
 enum-told : tie.Need-enum-told
 enum-told c = search needs
@@ -48,7 +52,7 @@ enum-told c = search needs
 write-entry-requires : tie.Need-write-entry-requires
 write-entry-requires c κs =
     let b = c .before .before .before .before .before .before .before in
-    (b .pre .1 .0, (b .pre .1 .1 .0, (first-line _ (b .pre .1 .0 .sound), cut-room b _ (room b Taught (c .before .enum-told .given .1)))))
+    (b .pre .1 .0, (b .pre .1 .1 .0, (first-line _ (b .pre .1 .0 .sound), whole-room b (c .before .enum-told .given .1))))
 
 enum-told-2 : tie.Need-enum-told-2
 enum-told-2 c = search needs
@@ -59,7 +63,7 @@ of-tops-requires c κs = search needs
 write-entry-requires-2 : tie.Need-write-entry-requires-2
 write-entry-requires-2 c κs =
     let b = c .before .before .before .before .before .before .before .before in
-    (b .pre .1 .0, (b .pre .1 .1 .0, (first-line _ (b .pre .1 .0 .sound), cut-room b _ (room b Tops (c .before .before .enum-told2 .given .1)))))
+    (b .pre .1 .0, (b .pre .1 .1 .0, (first-line _ (b .pre .1 .0 .sound), top-room b _ (c .before .of-tops .ensures) (c .before .before .enum-told2 .given .1))))
 
 enum-told-3 : tie.Need-enum-told-3
 enum-told-3 c = search needs
@@ -86,7 +90,7 @@ returns c =
     let e = w .before .before in
     let b = e .before .before .before .before .before .before in
     let told = e .enum-told .given .1 in
-    asked b Taught told _ _ (written b greatest-depth _ _ _ refl (room b Taught told) (w .write-entry .ensures .0) (w .write-entry .ensures .1))
+    asked b Taught told _ _ (written b greatest-depth _ _ _ refl (whole-room b told) (w .write-entry .ensures .0) (w .write-entry .ensures .1))
 
 same-length-2 : tie.Need-same-length-2
 same-length-2 c = search needs
@@ -97,7 +101,7 @@ returns-2 c =
     let o = w .before .before in
     let b = o .before .before .before .before .before .before .before in
     let told = o .before .enum-told2 .given .1 in
-    asked b Tops told _ _ (written b _ _ _ _ (o .of-tops .ensures) (room b Tops told) (w .write-entry2 .ensures .0) (w .write-entry2 .ensures .1))
+    asked b Tops told _ _ (written b _ _ _ _ (o .of-tops .ensures) (top-room b _ (o .of-tops .ensures) told) (w .write-entry2 .ensures .0) (w .write-entry2 .ensures .1))
 
 same-length-3 : tie.Need-same-length-3
 same-length-3 c = search needs

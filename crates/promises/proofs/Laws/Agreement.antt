@@ -5,7 +5,7 @@ use mathlib.Core.Path.{_≡_, refl, sym, ap, subst, _∙_}
 use mathlib.Core.Bool.{Bool, true, false}
 use mathlib.Core.List.{List, [], _∷_, List·Memᴰ·head as here, List·Memᴰ·not-nil}
 use native.Mathlib.Omega.{arith}
-use Rattle.words.specs.Base.{_∈_}
+use Rattle.words.specs.Base.{_∈_, _exactly-when_}
 use Rattle.words.proofs.Tests.{no-test, and-both}
 use Rattle.figures.specs.Limits.{least-k}
 use Rattle.section.specs.Entries.{Entry, has, countOf, Sorted}
@@ -25,7 +25,6 @@ use Rattle.book.proofs.Taught.{any-in, in-any, taught-k, each-keys, section-sam
 use Rattle.book.proofs.Teachings.{taught-section, times-counted, times-other, count-after-taught}
 use Rattle.book.proofs.Sections.{form-sorted}
 use Rattle.book.proofs.Agreeing.{TaughtOrders, form-orders, later-taught, first, teachings-sorted, agreeing-is}
-use Rattle.book_teaching.specs.Conditions.{_exactly-when_}
 use Rattle.promises.specs.Remaining.{HasPart}
 use Rattle.promises.specs.Agreement.{CountsOf, no-entry, counts, counts-not, Agrees}
 use Rattle.promises.proofs.Laws.Orders.{top-part, part-top, low-part, part-low, middle-part, part-middle}

@@ -4,7 +4,7 @@ use Prim.Native.Nat.{ℕ}
 use mathlib.Core.Path.{_≡_, refl, sym, ap, _∙_}
 use mathlib.Core.Bool.{Bool, true, false}
 use mathlib.Core.List.{List}
-use Rattle.words.specs.Base.{if_then_else_}
+use Rattle.words.specs.Base.{if_then_else_, _exactly-when_}
 use Rattle.words.proofs.Tests.{no-test}
 use Rattle.figures.specs.Numbers.{done, book-size, not-in-form, not-agreeing}
 use Rattle.figures.specs.Answers.{answered}
@@ -17,7 +17,6 @@ use Rattle.book.specs.declared.BookForm.the-variants.{Refused}
 use Rattle.book.proofs.Sound.{why-is, why-only}
 use Rattle.book.specs.Checking.{agreeOf}
 use Rattle.book.proofs.Checking.{check-unheld, check-held}
-use Rattle.book_teaching.specs.Conditions.{_exactly-when_}
 use Rattle.promises.specs.Remaining.{Call, after, remaining, booked}
 use Rattle.promises.specs.Agreement.{Agrees}
 use Rattle.promises.specs.Whys.{WhyChecked, check-no-book, disagrees, agrees}

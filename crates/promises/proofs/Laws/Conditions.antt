@@ -10,6 +10,7 @@ use native.Mathlib.Omega.{arith}
 use borrow.Author.Tests.{lt-leb, lt-ltb, le-ltb, ltb-true, ltb-false}
 use lib.Dec.{ltb}
 use lib.ListN.{length}
+use Rattle.words.specs.Base.{_exactly-when_}
 use Rattle.figures.specs.Limits.{least-k, greatest-k, greatest-count, head-words, most-book-words}
 use Rattle.figures.specs.Numbers.{done, no-room, too-many, not-taught}
 use Rattle.section.specs.Entries.{has}
@@ -24,7 +25,7 @@ use Rattle.book.specs.declared.Section.the-variants.{Taught}
 use Rattle.book.proofs.Sound.{sound-form}
 use Rattle.book.proofs.Openings.{number-is}
 use Rattle.book_teaching.specs.Calls.{teachOf, withdrawOf}
-use Rattle.book_teaching.specs.Conditions.{_exactly-when_, BookAndOrder, WouldPass, lives}
+use Rattle.book_teaching.specs.Conditions.{BookAndOrder, WouldPass, lives}
 use Rattle.book_teaching.proofs.Conditions.{teach-7, teach-6, teach-0, withdraw-0, withdraw-8}
 use Rattle.book_teaching.proofs.Reasons.{within-none}
 use Rattle.book_teaching.proofs.Sequences.{agreeing-withdraws}

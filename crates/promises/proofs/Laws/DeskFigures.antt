@@ -53,15 +53,15 @@ module _ (input : List ℕ) (k : ℕ) (cs : List FormCall) (is : handedIn input 
   book = desk-book input k cs is front
 
   -- The number that is printed for it.
-  abbrev number-printed : ℕ
+  abbrev pub number-printed : ℕ
   number-printed = callOf c book .answer .number
 
   -- The line.
-  abbrev line-printed : ℕ
+  abbrev pub line-printed : ℕ
   line-printed = callOf c book .answer .line
 
   -- The words used of the book after it.
-  abbrev used-printed : ℕ
+  abbrev pub used-printed : ℕ
   used-printed = getD (callOf c book .words) used-word 0
 
   -- The line is 65 at most.

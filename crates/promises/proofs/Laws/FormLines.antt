@@ -8,6 +8,7 @@ use native.Mathlib.Decide.{decLt}
 use native.Mathlib.Omega.{arith}
 use lib.ListN.{length, getD, take, drop, take-append-drop}
 use lib.Seq.{length-take-le}
+use Rattle.words.specs.Base.{_exactly-when_}
 use Rattle.words.proofs.Tests.{never}
 use Rattle.order.specs.Trees.{Tree, node, words, subtrees, below}
 use Rattle.order.specs.Reading.{found, missing}
@@ -22,7 +23,6 @@ use Rattle.form.specs.Faults.{greatest-level, no-more}
 use Rattle.form.proofs.LineBytes.{one-digit, two-digits, spell-append}
 use Rattle.form.proofs.TreeLines.{codes, topCode, lines-subtrees, lines-count, row-count}
 use Rattle.form.proofs.LinesBelow.{TreeFirst, tree-first, row-above}
-use Rattle.book_teaching.specs.Conditions.{_exactly-when_}
 use Rattle.desk_step.specs.Lines.{feeds}
 use Rattle.desk_step.proofs.Lines.{no-feed, feeds-append, feeds-none, one-feed}
 use Rattle.promises.specs.Forms.{LevelInTens, one-figure, two-figures, LineOfText, LinesBelow}

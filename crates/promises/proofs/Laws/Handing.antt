@@ -129,7 +129,7 @@ OneOrder (withdraw os) = Unit {0}
 OneOrder (join vs) = ⊥
 
 -- Calls with one order each.
-unfoldable OneOrders : List Call → Type 0
+unfoldable pub OneOrders : List Call → Type 0
 OneOrders [] = Unit {0}
 OneOrders (c ∷ cs) = OneOrder c × OneOrders cs
 

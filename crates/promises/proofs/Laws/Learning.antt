@@ -4,7 +4,7 @@ use Prim.Native.Nat.{ℕ, _-_, _≤_}
 use mathlib.Core.Path.{_≡_, refl, sym, ap, subst, _∙_}
 use mathlib.Core.List.{List, [], _∷_, List·Memᴰ·head as here, List·Memᴰ·tail as there, List·Memᴰ·not-nil}
 use native.Mathlib.Omega.{arith}
-use Rattle.words.specs.Base.{_∈_}
+use Rattle.words.specs.Base.{_∈_, _exactly-when_}
 use Rattle.section.specs.Entries.{Entry, countOf, Sorted}
 use Rattle.order.specs.Trees.{Tree, words, Good}
 use Rattle.order.specs.Reading.{byFound, TreeFound, missing, found, treeOf}
@@ -22,7 +22,6 @@ use Rattle.book.specs.declared.Section.the-variants.{Tops, Lows, Middles}
 use Rattle.book.proofs.Sound.{sound-form}
 use Rattle.book.proofs.Sections.{form-sorted}
 use Rattle.book_judging.specs.Verdicts.{In, Passes}
-use Rattle.book_teaching.specs.Conditions.{_exactly-when_}
 use Rattle.promises.specs.Remaining.{HasPart, SomeHas, MadeOf}
 use Rattle.promises.specs.Agreement.{CountsOf, no-entry, counts, counts-not, Agrees}
 use Rattle.promises.specs.NoMore.{FormOf, TaughtIn, treesOf, setsOf, Remains}

@@ -6,6 +6,7 @@ use mathlib.Core.List.{List}
 use native.Mathlib.Decide.{decLt}
 use native.Mathlib.Omega.{arith}
 use lib.ListN.{length}
+use Rattle.words.specs.Base.{_exactly-when_}
 use Rattle.words.proofs.Tests.{never}
 use Rattle.figures.specs.Numbers.{done, too-large, no-form, top-unknown, low-unknown, middle-unknown}
 use Rattle.figures.specs.declared.Answer.{Answer}
@@ -25,7 +26,6 @@ use Rattle.book.specs.Sound.{IsBook}
 use Rattle.book_judging.specs.Judging.{judgeOf}
 use Rattle.book_judging.specs.Verdicts.{In, Known, ToFix, Doubted, Lent, Verdict, passing, no-top, no-low, no-middle, Judged, no-book, no-order, judged}
 use Rattle.book_judging.proofs.Answers.{judged-is, top-answered, low-answered, middle-answered}
-use Rattle.book_teaching.specs.Conditions.{_exactly-when_}
 use Rattle.book_judging.proofs.Judgements.{by-verdict}
 use Rattle.book_judging.proofs.Verdicts.{lines-known, verdict-is}
 use Rattle.promises.specs.Forms.{LineOfText, ComesBack, PartKnown, NoLineUnknown, CanBeFixed, LineWanted, Told}

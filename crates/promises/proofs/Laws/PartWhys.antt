@@ -25,7 +25,7 @@ use Rattle.order.proofs.Causes.{cause-is, cause-only, Seen, stopped, passed, se
 use Rattle.order.proofs.Fitting.{passed-order, order-read}
 use Rattle.order.proofs.Spots.{spot-part}
 use Rattle.order.proofs.Lines.{LacksLine, HasLine, placed, place-none, place-past, place-at}
-use Rattle.promises.specs.Whys.{WhyNumbered, numbered, LacksLine, line-0, past-last, WhySubtree, subtree-no-order, subtree-lacks, subtree}
+use Rattle.promises.specs.Whys.{WhyNumbered, numbered, NoSuchLine, line-0, past-last, WhySubtree, subtree-no-order, subtree-lacks, subtree}
 use Rattle.promises.specs.Whys.{WhyCut, cut-no-order, cut-lacks, cut-short, cut-written}
 use Rattle.promises.specs.Whys.{WhyPart, part-no-order, part-lacks, low-short, low-written, middle-short, middle-written}
 use Rattle.promises.proofs.Laws.Refusals.{write-refuses, write-writes}
@@ -61,11 +61,11 @@ module _ (os : List ℕ) (t : Tree) (o : IsOrder os t) where
 
   module _ (line : ℕ) where
     -- A line that it lacks has no subtree.
-    no-subtree : LacksLine t line → treeOfLine line (subtrees t) ≡ missing
+    no-subtree : NoSuchLine t line → treeOfLine line (subtrees t) ≡ missing
     no-subtree l = go (placed os line (placeOf os line) Lacking refl (place l))
       where
         -- The line has no place.
-        place : LacksLine t line → placeOf os line ≡ Lacking
+        place : NoSuchLine t line → placeOf os line ≡ Lacking
         place (line-0 z) = place-none os line no-cause z
         place (past-last h) = place-past os line no-cause (omega (arith, half-lines))
 
@@ -96,7 +96,7 @@ module _ (os : List ℕ) (t : Tree) (o : IsOrder os t) where
 -- What a line of any words is: a refused order, a line that the order lacks, or one that it has.
 data Asked (os : List ℕ) (line : ℕ) : Type 0 where
   no-order : (n : ℕ) → Cause os n → (n ≡ done → ⊥) → Asked os line
-  lacking : (t : Tree) → IsOrder os t → LacksLine t line → Asked os line
+  lacking : (t : Tree) → IsOrder os t → NoSuchLine t line → Asked os line
   there : (t : Tree) (o : IsOrder os t) → OfLine os t o line → Asked os line
 
 -- Every line of any words is one of these.
@@ -124,7 +124,7 @@ module _ (os : List ℕ) (line : ℕ) where
 
   module _ (t : Tree) (o : IsOrder os t) where
     -- So it is for a line that the order lacks.
-    hands-empty : LacksLine t line → subtreeOf os line ≡ noPiece
+    hands-empty : NoSuchLine t line → subtreeOf os line ≡ noPiece
     unfolding subtreeOf byOrder byFound
     hands-empty l = rw (order-read os t o, no-subtree os t o line l)
 
@@ -159,7 +159,7 @@ module _ (os out : List ℕ) (line d : ℕ) where
 
   module _ (t : Tree) (o : IsOrder os t) where
     -- Of a line that the order lacks nothing is written.
-    cuts-empty : LacksLine t line → cutIntoOf os line d out ≡ writing (wrote done 0) out
+    cuts-empty : NoSuchLine t line → cutIntoOf os line d out ≡ writing (wrote done 0) out
     unfolding cutIntoOf byOrder byFound
     cuts-empty l = rw (order-read os t o, no-subtree os t o line l) (write-writes [] out (omega arith))
 
@@ -202,7 +202,7 @@ module _ (os out : List ℕ) (line k : ℕ) where
 
   module _ (t : Tree) (o : IsOrder os t) where
     -- A line that the order lacks has no part.
-    parts-empty : LacksLine t line → partIntoOf os line k out ≡ partWriting (noPart done) out
+    parts-empty : NoSuchLine t line → partIntoOf os line k out ≡ partWriting (noPart done) out
     unfolding partIntoOf byOrder byFound
     parts-empty l = rw (order-read os t o, no-subtree os t o line l)
 

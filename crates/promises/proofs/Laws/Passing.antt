@@ -4,7 +4,7 @@ use Prim.Native.Nat.{ℕ, _-_, _≤_}
 use mathlib.Core.Path.{_≡_, refl, sym, ap, subst}
 use mathlib.Core.List.{List, List·Memᴰ·head as here, List·Memᴰ·tail as there}
 use native.Mathlib.Omega.{arith}
-use Rattle.words.specs.Base.{_∈_}
+use Rattle.words.specs.Base.{_∈_, _exactly-when_}
 use Rattle.figures.specs.Numbers.{done}
 use Rattle.figures.specs.declared.Answer.{Answer}
 use Rattle.section.specs.Entries.{Entry, countOf, Sorted}
@@ -21,7 +21,6 @@ use Rattle.book.proofs.Sections.{form-sorted}
 use Rattle.book_judging.specs.Judging.{judgeOf}
 use Rattle.book_judging.specs.Verdicts.{In, Passes, PassesBy}
 use Rattle.book_judging.proofs.Answers.{answered-passes, passes-answered}
-use Rattle.book_teaching.specs.Conditions.{_exactly-when_}
 use Rattle.promises.specs.Remaining.{HowMany, none-left, one-more, not-this, HasPart, ExactlyThese, SomeHas, MadeOf}
 use Rattle.promises.proofs.Laws.Orders.{one-tree}
 

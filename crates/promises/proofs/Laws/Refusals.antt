@@ -2,13 +2,13 @@
 -- output, with the words behind it as they came. Assumes nothing.
 use Prim.Native.Nat.{ℕ, _≤_, _<_}
 use mathlib.Core.Path.{_≡_, refl, sym, ap, _∙_}
-use mathlib.Core.Bool.{Bool, true, false}
+use mathlib.Core.Bool.{Bool, true, false, not}
 use mathlib.Core.List.{List, []}
 use native.Mathlib.Decide.{decLt}
 use native.Mathlib.Omega.{arith}
 use lib.ListN.{length, drop, length-append, length-drop}
 use lib.Seq.{drop-append-seam}
-use Rattle.words.specs.Base.{if_then_else_, within, over}
+use Rattle.words.specs.Base.{if_then_else_, within, over, _exactly-when_}
 use Rattle.figures.specs.Limits.{least-k, greatest-k}
 use Rattle.figures.specs.Numbers.{done, k-outside, book-size, short-output}
 use Rattle.figures.specs.Answers.{wrote, refusedAt}
@@ -23,7 +23,6 @@ use Rattle.form.specs.Writing.{writeOf}
 use Rattle.book.specs.Decoding.{sized}
 use Rattle.book.specs.Taught.{bookOf}
 use Rattle.book.specs.Opening.{Outcome, leave, writeBook, openOf}
-use Rattle.book_teaching.specs.Conditions.{_exactly-when_}
 
 -- ---- words written to the front of a lent output
 
@@ -138,7 +137,7 @@ open-refusal-leaves ws k = go (sized ws) (within least-k greatest-k k)
   where
     -- What opening does, by the tests of the size and of k.
     whole : Bool → Bool → Outcome
-    whole a b = if a then (if b then writeBook ws (bookOf k []) else leave ws k-outside) else leave ws book-size
+    whole a b = if not a then leave ws book-size else if not b then leave ws k-outside else writeBook ws (bookOf k [])
 
     -- By the two tests.
     go : (a b : Bool) → (whole a b .answer .number ≡ done → ⊥) → whole a b .words ≡ ws

@@ -100,7 +100,7 @@ abbrev no-ten : List ℕ
 no-ten = 48 ∷ 32 ∷ 48 ∷ 48 ∷ 65 ∷ 48 ∷ 10 ∷ []
 
 -- The numbers of nineteen calls.
-unfoldable heard-numbers : List ℕ
+unfoldable pub heard-numbers : List ℕ
 heard-numbers =
     -- an order
     checkOf (words A) .number
@@ -152,7 +152,7 @@ chain zero = 1 ∷ 0 ∷ []
 chain (suc n) = 1 ∷ 1 ∷ chain n
 
 -- So many nodes, each with eight leaves.
-unfoldable eights : ℕ → List ℕ
+unfoldable pub eights : ℕ → List ℕ
 eights zero = []
 eights (suc n) = (1 ∷ 8 ∷ leaves 8) ++ eights n
 
