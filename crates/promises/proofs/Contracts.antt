@@ -42,13 +42,13 @@ use Rattle.book_judge.proofs.judge
 use Rattle.book_teach.proofs.teach
 use Rattle.book_teach.proofs.withdraw
 use Rattle.book_join.proofs.join
-use Rattle.book_check.proofs.check as agree-check
-use Rattle.book_file.proofs.write as store-write
-use Rattle.book_file.proofs.read as store-read
+use Rattle.book_check.proofs.check as book-check
+use Rattle.book_file.proofs.write as file-write
+use Rattle.book_file.proofs.read as file-read
 use Rattle.desk_input.proofs.opening
 use Rattle.desk_input.proofs.Letter.byte as letter-byte
-use Rattle.desk_step.proofs.begin as calls-begin
-use Rattle.desk_step.proofs.step as calls-step
+use Rattle.desk_step.proofs.begin as desk-begin
+use Rattle.desk_step.proofs.step as desk-step
 use Rattle.order_check.proofs.check.Statement as order-check-statement
 use Rattle.order_check.proofs.check.Met as order-check-met
 use Rattle.order_cuts.proofs.subtree.Statement as subtree-statement
@@ -73,20 +73,20 @@ use Rattle.book_teach.proofs.withdraw.Statement as withdraw-statement
 use Rattle.book_teach.proofs.withdraw.Met as withdraw-met
 use Rattle.book_join.proofs.join.Statement as join-statement
 use Rattle.book_join.proofs.join.Met as join-met
-use Rattle.book_check.proofs.check.Statement as agree-check-statement
-use Rattle.book_check.proofs.check.Met as agree-check-met
-use Rattle.book_file.proofs.write.Statement as store-write-statement
-use Rattle.book_file.proofs.write.Met as store-write-met
-use Rattle.book_file.proofs.read.Statement as store-read-statement
-use Rattle.book_file.proofs.read.Met as store-read-met
+use Rattle.book_check.proofs.check.Statement as book-check-statement
+use Rattle.book_check.proofs.check.Met as book-check-met
+use Rattle.book_file.proofs.write.Statement as file-write-statement
+use Rattle.book_file.proofs.write.Met as file-write-met
+use Rattle.book_file.proofs.read.Statement as file-read-statement
+use Rattle.book_file.proofs.read.Met as file-read-met
 use Rattle.desk_input.proofs.opening.Statement as opening-statement
 use Rattle.desk_input.proofs.opening.Met as opening-met
 use Rattle.desk_input.proofs.Letter.byte.Statement as letter-byte-statement
 use Rattle.desk_input.proofs.Letter.byte.Met as letter-byte-met
-use Rattle.desk_step.proofs.begin.Statement as calls-begin-statement
-use Rattle.desk_step.proofs.begin.Met as calls-begin-met
-use Rattle.desk_step.proofs.step.Statement as calls-step-statement
-use Rattle.desk_step.proofs.step.Met as calls-step-met
+use Rattle.desk_step.proofs.begin.Statement as desk-begin-statement
+use Rattle.desk_step.proofs.begin.Met as desk-begin-met
+use Rattle.desk_step.proofs.step.Statement as desk-step-statement
+use Rattle.desk_step.proofs.step.Met as desk-step-met
 use Rattle.figures.proofs.depths.Depth.new as depth-new
 use Rattle.figures.proofs.depths.Depth.new.Statement as depth-new-statement
 use Rattle.figures.proofs.depths.Depth.new.Met as depth-new-met
@@ -155,16 +155,16 @@ module _ {M : Type 1} where
   join-meets = join-met.met
 
   -- `book_check::check`
-  pub check-meets : agree-check-statement.statement M
-  check-meets = agree-check-met.met
+  pub check-meets : book-check-statement.statement M
+  check-meets = book-check-met.met
 
   -- `book_file::write`
-  pub write-file-meets : store-write-statement.statement M
-  write-file-meets = store-write-met.met
+  pub write-file-meets : file-write-statement.statement M
+  write-file-meets = file-write-met.met
 
   -- `book_file::read`
-  pub read-file-meets : store-read-statement.statement M
-  read-file-meets = store-read-met.met
+  pub read-file-meets : file-read-statement.statement M
+  read-file-meets = file-read-met.met
 
   -- `desk_input::opening`
   pub opening-meets : opening-statement.statement M
@@ -175,12 +175,12 @@ module _ {M : Type 1} where
   letter-byte-meets = letter-byte-met.met
 
   -- `desk_step::begin`
-  pub begin-meets : calls-begin-statement.statement M
-  begin-meets = calls-begin-met.met
+  pub begin-meets : desk-begin-statement.statement M
+  begin-meets = desk-begin-met.met
 
   -- `desk_step::step`
-  pub step-meets : calls-step-statement.statement M
-  step-meets = calls-step-met.met
+  pub step-meets : desk-step-statement.statement M
+  step-meets = desk-step-met.met
 
   -- `figures::Depth::new`
   pub depth-new-meets : depth-new-statement.statement M
@@ -270,18 +270,18 @@ module _ {M : Type 1} (𝓤 : URA.URA M) (H : Wp.Heap 𝓤) (A : Atoms.Atoms �
   join-says κs args g r = (refl, refl, refl)
 
   -- `book_check::check`
-  pub check-says : (κs args g r : _) → let c = agree-check.spec 𝓤 H A mem run κs args in
-      (c .ghost ≡ Unit {0}) × (c .requires g ≡ ⊤ₛ) × (c .ensures g r ≡ exits 𝓤 H A agree-check.signature (agree-check.ended .kept) κs args (λ end. ⌜ r ≡ agreeOf (now (args .0)) ⌝))
+  pub check-says : (κs args g r : _) → let c = book-check.spec 𝓤 H A mem run κs args in
+      (c .ghost ≡ Unit {0}) × (c .requires g ≡ ⊤ₛ) × (c .ensures g r ≡ exits 𝓤 H A book-check.signature (book-check.ended .kept) κs args (λ end. ⌜ r ≡ agreeOf (now (args .0)) ⌝))
   check-says κs args g r = (refl, refl, refl)
 
   -- `book_file::write`
-  pub write-file-says : (κs args g r : _) → let c = store-write.spec 𝓤 H A mem run κs args in
-      (c .ghost ≡ Unit {0}) × (c .requires g ≡ ⊤ₛ) × (c .ensures g r ≡ exits 𝓤 H A store-write.signature (store-write.ended .kept) κs args (λ end. ⌜ writing r (now (end .1 .0)) ≡ writeFileOf (now (args .0)) (now (args .1 .0)) ⌝))
+  pub write-file-says : (κs args g r : _) → let c = file-write.spec 𝓤 H A mem run κs args in
+      (c .ghost ≡ Unit {0}) × (c .requires g ≡ ⊤ₛ) × (c .ensures g r ≡ exits 𝓤 H A file-write.signature (file-write.ended .kept) κs args (λ end. ⌜ writing r (now (end .1 .0)) ≡ writeFileOf (now (args .0)) (now (args .1 .0)) ⌝))
   write-file-says κs args g r = (refl, refl, refl)
 
   -- `book_file::read`
-  pub read-file-says : (κs args g r : _) → let c = store-read.spec 𝓤 H A mem run κs args in
-      (c .ghost ≡ Unit {0}) × (c .requires g ≡ ⊤ₛ) × (c .ensures g r ≡ exits 𝓤 H A store-read.signature (store-read.ended .kept) κs args (λ end. ⌜ outcome r (now (end .1 .0)) ≡ readFileOf (now (args .0)) (now (args .1 .0)) ⌝))
+  pub read-file-says : (κs args g r : _) → let c = file-read.spec 𝓤 H A mem run κs args in
+      (c .ghost ≡ Unit {0}) × (c .requires g ≡ ⊤ₛ) × (c .ensures g r ≡ exits 𝓤 H A file-read.signature (file-read.ended .kept) κs args (λ end. ⌜ outcome r (now (end .1 .0)) ≡ readFileOf (now (args .0)) (now (args .1 .0)) ⌝))
   read-file-says κs args g r = (refl, refl, refl)
 
   -- `desk_input::opening`
@@ -295,15 +295,15 @@ module _ {M : Type 1} (𝓤 : URA.URA M) (H : Wp.Heap 𝓤) (A : Atoms.Atoms �
   letter-byte-says κs args g r = (refl, refl, refl)
 
   -- `desk_step::begin`
-  pub begin-says : (κs args g r : _) → let c = calls-begin.spec 𝓤 H A mem run κs args in
+  pub begin-says : (κs args g r : _) → let c = desk-begin.spec 𝓤 H A mem run κs args in
       (c .ghost ≡ Unit {0}) × (c .requires g ≡ ⊤ₛ)
-      × (c .ensures g r ≡ exits 𝓤 H A calls-begin.signature (calls-begin.ended .kept) κs args (λ end. ⌜ stepping r (now (end .1 .0)) (now (end .1 .1 .0)) ≡ beginOf (now (args .0)) (now (args .1 .0)) (now (args .1 .1 .0)) ⌝))
+      × (c .ensures g r ≡ exits 𝓤 H A desk-begin.signature (desk-begin.ended .kept) κs args (λ end. ⌜ stepping r (now (end .1 .0)) (now (end .1 .1 .0)) ≡ beginOf (now (args .0)) (now (args .1 .0)) (now (args .1 .1 .0)) ⌝))
   begin-says κs args g r = (refl, refl, refl)
 
   -- `desk_step::step`
-  pub step-says : (κs args g r : _) → let c = calls-step.spec 𝓤 H A mem run κs args in
+  pub step-says : (κs args g r : _) → let c = desk-step.spec 𝓤 H A mem run κs args in
       (c .ghost ≡ Unit {0}) × (c .requires g ≡ ⊤ₛ)
-      × (c .ensures g r ≡ exits 𝓤 H A calls-step.signature (calls-step.ended .kept) κs args (λ end. ⌜ stepping r (now (end .1 .0)) (now (end .1 .1 .0)) ≡ stepOf (now (args .0)) (now (args .1 .0)) (now (args .1 .1 .0)) ⌝))
+      × (c .ensures g r ≡ exits 𝓤 H A desk-step.signature (desk-step.ended .kept) κs args (λ end. ⌜ stepping r (now (end .1 .0)) (now (end .1 .1 .0)) ≡ stepOf (now (args .0)) (now (args .1 .0)) (now (args .1 .1 .0)) ⌝))
   step-says κs args g r = (refl, refl, refl)
 
   -- `figures::Depth::new`

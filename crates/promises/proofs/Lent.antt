@@ -20,12 +20,12 @@ use Rattle.book_judge.proofs.judge
 use Rattle.book_teach.proofs.teach
 use Rattle.book_teach.proofs.withdraw
 use Rattle.book_join.proofs.join
-use Rattle.book_check.proofs.check as agree-check
-use Rattle.book_file.proofs.write as store-write
-use Rattle.book_file.proofs.read as store-read
+use Rattle.book_check.proofs.check as book-check
+use Rattle.book_file.proofs.write as file-write
+use Rattle.book_file.proofs.read as file-read
 use Rattle.desk_input.proofs.opening
-use Rattle.desk_step.proofs.begin as calls-begin
-use Rattle.desk_step.proofs.step as calls-step
+use Rattle.desk_step.proofs.begin as desk-begin
+use Rattle.desk_step.proofs.step as desk-step
 use Rattle.ofb.proofs.ofb_open as ofb-open
 use Rattle.ofb.proofs.ofb_teach as ofb-teach
 use Rattle.ofb.proofs.ofb_withdraw as ofb-withdraw
@@ -113,28 +113,28 @@ pub join-lent : join.signature .params ≡ words-written 0 tt ∷ words-read 1 t
 join-lent = refl
 
 -- `book_check::check`
-pub agree-check-lent : agree-check.signature .params ≡ words-read 0 tt ∷ []
-agree-check-lent = refl
+pub book-check-lent : book-check.signature .params ≡ words-read 0 tt ∷ []
+book-check-lent = refl
 
 -- `book_file::write`
-pub store-write-lent : store-write.signature .params ≡ words-read 0 tt ∷ bytes-written 1 tt ∷ []
-store-write-lent = refl
+pub file-write-lent : file-write.signature .params ≡ words-read 0 tt ∷ bytes-written 1 tt ∷ []
+file-write-lent = refl
 
 -- `book_file::read`
-pub store-read-lent : store-read.signature .params ≡ bytes-read 0 tt ∷ words-written 1 tt ∷ []
-store-read-lent = refl
+pub file-read-lent : file-read.signature .params ≡ bytes-read 0 tt ∷ words-written 1 tt ∷ []
+file-read-lent = refl
 
 -- `desk_input::opening`
 pub opening-lent : opening.signature .params ≡ bytes-read 0 tt ∷ []
 opening-lent = refl
 
 -- `desk_step::begin`
-pub calls-begin-lent : calls-begin.signature .params ≡ bytes-read 0 tt ∷ words-written 1 tt ∷ bytes-written 2 tt ∷ []
-calls-begin-lent = refl
+pub desk-begin-lent : desk-begin.signature .params ≡ bytes-read 0 tt ∷ words-written 1 tt ∷ bytes-written 2 tt ∷ []
+desk-begin-lent = refl
 
 -- `desk_step::step`
-pub calls-step-lent : calls-step.signature .params ≡ bytes-read 0 tt ∷ words-written 1 tt ∷ bytes-written 2 tt ∷ []
-calls-step-lent = refl
+pub desk-step-lent : desk-step.signature .params ≡ bytes-read 0 tt ∷ words-written 1 tt ∷ bytes-written 2 tt ∷ []
+desk-step-lent = refl
 
 -- ---- functions for C
 

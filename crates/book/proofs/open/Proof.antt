@@ -23,52 +23,22 @@ right c = sym (c .before .is-book-size .ensures) ∙ not-false _ (c .if1 .left)
 long : (c : tie.Else1) → head-words ≤ length (c .before .before .before .args .book .now)
 long c = size-told (length (c .before .before .before .args .book .now)) (right c) .0
 
-is-book-size-requires : tie.Need-is-book-size-requires
-is-book-size-requires c κs = search needs
-
-answered-requires : tie.Need-answered-requires
-answered-requires c κs = search needs
-
 returns : tie.Need-returns
 returns c = let a = c .before .before .before .before .args in sym (open-unsized (a .book .now) (a .k) _ (c .answered .ensures) (sized-by _ _ (sym (c .before .before .is-book-size .ensures) ∙ not-true _ (c .before .if1 .taken))))
 
-new-requires : tie.Need-new-requires
-new-requires c κs = search needs
-
-enum-known-depth : tie.Need-enum-known-depth
-enum-known-depth c = search needs
-
 enum-told : tie.Need-enum-told
 enum-told c = search needs
-
-answered-requires-2 : tie.Need-answered-requires-2
-answered-requires-2 c κs = search needs
 
 returns-2 : tie.Need-returns-2
 returns-2 c =
     let a = c .before .before .before .before .before .before .before .args in
     sym (no-depth (a .book .now) (a .k) _ (c .answered2 .ensures) (sized-by _ _ (right (c .before .before .before .before))) (outside _ _ (c .before .before .before .new .ensures) (c .before .enum-told .given .1)))
 
-clear-requires : tie.Need-clear-requires
-clear-requires c κs = search needs
-
-value-requires : tie.Need-value-requires
-value-requires c κs = search needs
-
 slice-write-book : tie.Need-slice-write-book
 slice-write-book c = omega (arith, long (c .before .before .before .before .before .before .before .before .before), simp length-replicate at (ap length (c .before .before .before .clear .ensures)))
 
-cast-book : tie.Need-cast-book
-cast-book c = search needs
-
 slice-write-book-2 : tie.Need-slice-write-book-2
 slice-write-book-2 c = simp length-set (omega (arith, long (c .before .before .before .before .before .before .before .before .before), simp length-replicate at (ap length (c .before .before .before .clear .ensures))))
-
-answered-requires-3 : tie.Need-answered-requires-3
-answered-requires-3 c κs = search needs
-
-same-length : tie.Need-same-length
-same-length c = search needs
 
 returns-3 : tie.Need-returns-3
 returns-3 c =
@@ -81,19 +51,19 @@ pub open-spec : {M : Type 1} → statement M
 open-spec =
     tie.close
     (tie.spec
-    is-book-size-requires
-    answered-requires
+    (λ c κs. search needs)
+    (λ c κs. search needs)
     returns
-    new-requires
-    enum-known-depth
+    (λ c κs. search needs)
+    (λ c. search needs)
     enum-told
-    answered-requires-2
+    (λ c κs. search needs)
     returns-2
-    clear-requires
-    value-requires
+    (λ c κs. search needs)
+    (λ c κs. search needs)
     slice-write-book
-    cast-book
+    (λ c. search needs)
     slice-write-book-2
-    answered-requires-3
-    same-length
+    (λ c κs. search needs)
+    (λ c. search needs)
     returns-3)

@@ -10,19 +10,11 @@ use Rattle.book_change.proofs.change_book.Reads as change-book-reads
 use Rattle.book_change.proofs.weigh_book.Reads as weigh-book-reads
 use Rattle.book.proofs.Holding.{used-room}
 
--- src/lib.rt:24:9
-weigh-book-requires : tie.Need-weigh-book-requires
-weigh-book-requires c κs = search needs
-
 -- src/lib.rt:25:8
 sub-if1 : tie.Need-sub-if1
 sub-if1 c =
     let s = c .before .before .before .before .before in
     used-room _ _ (s .pre .0)
-
--- src/lib.rt:26:9
-same-length : tie.Need-same-length
-same-length c = search needs
 
 -- src/lib.rt:26:9
 returns : tie.Need-returns
@@ -41,10 +33,6 @@ change-book-requires c κs =
     (g, (h, (can-add _ _ _ _ g h _ (w .weigh-book .ensures) (c .before .if1 .left) (s .pre .1 .1 .0) (s .pre .1 .1 .1), lacks-so _ _ _ _ g h _ (w .weigh-book .ensures) (c .before .if1 .left))))
 
 -- src/lib.rt:17:1
-same-length-2 : tie.Need-same-length-2
-same-length-2 c = search needs
-
--- src/lib.rt:17:1
 returns-2 : tie.Need-returns-2
 returns-2 c =
     let b = c .before .before in
@@ -56,10 +44,10 @@ pub add-book-spec : {M : Type 1} → statement M
 add-book-spec =
     tie.close
     (tie.spec
-    weigh-book-requires
+    (λ c κs. search needs)
     sub-if1
-    same-length
+    (λ c. search needs)
     returns
     change-book-requires
-    same-length-2
+    (λ c. search needs)
     returns-2)

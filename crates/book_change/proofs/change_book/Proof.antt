@@ -130,9 +130,6 @@ change-section-requires-4 c κs =
       ),
     )
 
-same-length : tie.Need-same-length
-same-length c = search needs
-
 returns : tie.Need-returns
 unfolding changedBook
 returns c =
@@ -149,5 +146,5 @@ change-book-spec =
     change-section-requires-2
     change-section-requires-3
     change-section-requires-4
-    same-length
+    (λ c. search needs)
     returns)

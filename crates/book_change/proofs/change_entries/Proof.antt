@@ -31,23 +31,14 @@ add-all-requires c κs =
     let e = c .before .enum-told .given .1 in
     (s .pre .0, (s .pre .1 .0, (as-added (s .args .change) _ _ _ _ e (s .pre .1 .1 .0), as-lacking (s .args .change) _ _ _ e (s .pre .1 .1 .1))))
 
-enum-told-2 : tie.Need-enum-told-2
-enum-told-2 c = search needs
-
 lower-all-requires : tie.Need-lower-all-requires
 lower-all-requires c κs = let s = c .before .before .before .before .before in (s .pre .0, s .pre .1 .0)
-
-same-length : tie.Need-same-length
-same-length c = search needs
 
 returns : tie.Need-returns
 returns c =
     let s = c .before .before .before .before .before .before .before .before in
     let x = s .args in
     subst (λ (d : Change). Edited (x .part .now) (x .many) (x .used) (changed d (entries (x .more) (x .other .now)) (entries (x .many) (x .part .now))) (c .before .before .add-all .last .0) (c .before .before .add-all .result)) (sym (c .before .before .before .before .enum-told .given .1)) (c .before .before .add-all .ensures)
-
-same-length-2 : tie.Need-same-length-2
-same-length-2 c = search needs
 
 returns-2 : tie.Need-returns-2
 returns-2 c =
@@ -61,9 +52,9 @@ change-entries-spec =
     (tie.spec
     enum-told
     add-all-requires
-    enum-told-2
+    (λ c. search needs)
     lower-all-requires
-    same-length
+    (λ c. search needs)
     returns
-    same-length-2
+    (λ c. search needs)
     returns-2)

@@ -77,9 +77,6 @@ few z =
     many-then (x .book .now) (x .other .now) (x .change) (x .section) (x .at) (x .uses) (x .from) _ (s .pre .0) (s .pre .1 .0) (s .pre .1 .1 .0) (v .slot .result) (v .slot .ensures) _ _ _ (z .change-entries .result) (lent s) (lent-other s) (z .change-entries .ensures) in
     (omega (arith, ends z, s .pre .1 .1 .0 .room), omega (arith, ends z, s .pre .1 .1 .0 .room))
 
-slot-requires : tie.Need-slot-requires
-slot-requires c κs = search needs
-
 mul-many : tie.Need-mul-many
 mul-many c = omega (arith, slot-in c, c .slot .ensures, slot-small (start c .args .section))
 
@@ -120,9 +117,6 @@ sub-change-entries c = omega (arith, at-in (start (slotted c)))
 part-change-entries-start : tie.Need-part-change-entries-start
 part-change-entries-start c = omega (arith, at-in (start (slotted c)))
 
-part-change-entries-end : tie.Need-part-change-entries-end
-part-change-entries-end c = search needs
-
 sub-change-entries-2 : tie.Need-sub-change-entries-2
 sub-change-entries-2 c = omega (arith, at-in (start (slotted (c .before))))
 
@@ -134,9 +128,6 @@ sub-change-entries-3 c = omega (arith, from-in (start (slotted (c .before))))
 
 part-change-entries-start-2 : tie.Need-part-change-entries-start-2
 part-change-entries-start-2 c = omega (arith, from-in (start (slotted (c .before))))
-
-part-change-entries-end-2 : tie.Need-part-change-entries-end-2
-part-change-entries-end-2 c = search needs
 
 change-entries-requires : tie.Need-change-entries-requires
 change-entries-requires c κs =
@@ -201,7 +192,7 @@ pub change-section-spec : {M : Type 1} → statement M
 change-section-spec =
     tie.close
     (tie.spec
-    slot-requires
+    (λ c κs. search needs)
     mul-many
     slice-read-many
     cast-many
@@ -214,12 +205,12 @@ change-section-spec =
     mul-change-entries
     sub-change-entries
     part-change-entries-start
-    part-change-entries-end
+    (λ c. search needs)
     sub-change-entries-2
     mul-change-entries-2
     sub-change-entries-3
     part-change-entries-start-2
-    part-change-entries-end-2
+    (λ c. search needs)
     change-entries-requires
     add-end
     cast-book

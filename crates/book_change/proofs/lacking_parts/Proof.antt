@@ -14,15 +14,6 @@ few c =
     let h = c .before .before .before .before .before .pre .1 in
     omega (arith, weighed-few _ _ h Tops _ _ (c .before .before .weigh-section .ensures), weighed-few _ _ h Lows _ _ (c .before .weigh-section2 .ensures), weighed-few _ _ h Middles _ _ (c .weigh-section3 .ensures))
 
-weigh-section-requires : tie.Need-weigh-section-requires
-weigh-section-requires c κs = search needs
-
-weigh-section-requires-2 : tie.Need-weigh-section-requires-2
-weigh-section-requires-2 c κs = search needs
-
-weigh-section-requires-3 : tie.Need-weigh-section-requires-3
-weigh-section-requires-3 c κs = search needs
-
 add-result : tie.Need-add-result
 add-result c = omega (arith, few (c .before .before))
 
@@ -38,9 +29,9 @@ pub lacking-parts-spec : {M : Type 1} → statement M
 lacking-parts-spec =
     tie.close
     (tie.spec
-    weigh-section-requires
-    weigh-section-requires-2
-    weigh-section-requires-3
+    (λ c κs. search needs)
+    (λ c κs. search needs)
+    (λ c κs. search needs)
     add-result
     add-result-2
     returns)

@@ -24,38 +24,17 @@ module _ (c : Change) (s : Section) (live more : ℕ) (in-taught : s ≡ Taught)
 enum-told : tie.Need-enum-told
 enum-told c = search needs
 
-enum-told-2 : tie.Need-enum-told-2
-enum-told-2 c = search needs
-
 add-result : tie.Need-add-result
 add-result c = let a = c .before .before .before .before in omega (arith, few (a .args .change) (a .args .section) (a .args .live) (a .args .more) (c .before .before .enum-told .given .1) (a .pre) (c .enum-told2 .given .1))
 
-enum-told-3 : tie.Need-enum-told-3
-enum-told-3 c = search needs
-
 sub-result : tie.Need-sub-result
 sub-result c = let a = c .before .before .before .before in omega (arith, enough (a .args .change) (a .args .section) (a .args .live) (a .args .more) (c .before .before .enum-told .given .1) (a .pre) (c .enum-told3 .given .1))
-
-enum-told-4 : tie.Need-enum-told-4
-enum-told-4 c = search needs
-
-enum-told-5 : tie.Need-enum-told-5
-enum-told-5 c = search needs
-
-enum-told-6 : tie.Need-enum-told-6
-enum-told-6 c = search needs
 
 returns : tie.Need-returns
 returns c = rw (c .before .before .enum-told .given .1, c .enum-told2 .given .1)
 
 returns-2 : tie.Need-returns-2
 returns-2 c = rw (c .before .before .enum-told .given .1, c .enum-told3 .given .1)
-
-returns-3 : tie.Need-returns-3
-returns-3 c = search needs
-
-returns-4 : tie.Need-returns-4
-returns-4 c = search needs
 
 returns-5 : tie.Need-returns-5
 returns-5 c = search needs
@@ -65,15 +44,15 @@ lives-spec =
     tie.close
     (tie.spec
     enum-told
-    enum-told-2
+    (λ c. search needs)
     add-result
-    enum-told-3
+    (λ c. search needs)
     sub-result
-    enum-told-4
-    enum-told-5
-    enum-told-6
+    (λ c. search needs)
+    (λ c. search needs)
+    (λ c. search needs)
     returns
     returns-2
-    returns-3
-    returns-4
+    (λ c. search needs)
+    (λ c. search needs)
     returns-5)

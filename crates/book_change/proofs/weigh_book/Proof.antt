@@ -17,18 +17,6 @@ few c =
     let h = t .before .before .before .before .before .pre .1 in
     (weighed-few _ _ h Taught _ _ (t .before .before .weigh-section .ensures), weighed-few _ _ h Tops _ _ (t .before .weigh-section2 .ensures), weighed-few _ _ h Lows _ _ (t .weigh-section3 .ensures), weighed-few _ _ h Middles _ _ (c .weigh-section4 .ensures))
 
-weigh-section-requires : tie.Need-weigh-section-requires
-weigh-section-requires c κs = search needs
-
-weigh-section-requires-2 : tie.Need-weigh-section-requires-2
-weigh-section-requires-2 c κs = search needs
-
-weigh-section-requires-3 : tie.Need-weigh-section-requires-3
-weigh-section-requires-3 c κs = search needs
-
-weigh-section-requires-4 : tie.Need-weigh-section-requires-4
-weigh-section-requires-4 c κs = search needs
-
 add-lacking : tie.Need-add-lacking
 add-lacking c = omega (arith, few (c .before .before))
 
@@ -37,15 +25,6 @@ add-lacking-2 c = omega (arith, few (c .before .before .before))
 
 add-lacking-3 : tie.Need-add-lacking-3
 add-lacking-3 c = omega (arith, few (c .before .before .before .before))
-
-either-requires : tie.Need-either-requires
-either-requires c κs = search needs
-
-either-requires-2 : tie.Need-either-requires-2
-either-requires-2 c κs = search needs
-
-either-requires-3 : tie.Need-either-requires-3
-either-requires-3 c κs = search needs
 
 returns : tie.Need-returns
 returns c =
@@ -58,14 +37,14 @@ pub weigh-book-spec : {M : Type 1} → statement M
 weigh-book-spec =
     tie.close
     (tie.spec
-    weigh-section-requires
-    weigh-section-requires-2
-    weigh-section-requires-3
-    weigh-section-requires-4
+    (λ c κs. search needs)
+    (λ c κs. search needs)
+    (λ c κs. search needs)
+    (λ c κs. search needs)
     add-lacking
     add-lacking-2
     add-lacking-3
-    either-requires
-    either-requires-2
-    either-requires-3
+    (λ c κs. search needs)
+    (λ c κs. search needs)
+    (λ c κs. search needs)
     returns)

@@ -27,15 +27,6 @@ book-start c = start-within _ _ (called c .pre .0) (called c .args .section) _ _
 other-start : (c : tie.After-start2) → c .start2 .result ≤ length (called c .args .other .now)
 other-start c = start-within _ _ (called c .pre .1) (called c .args .section) _ _ (c .start2 .ensures) (c .before .before .slot .ensures)
 
-slot-requires : tie.Need-slot-requires
-slot-requires c κs = search needs
-
-start-requires : tie.Need-start-requires
-start-requires c κs = search needs
-
-start-requires-2 : tie.Need-start-requires-2
-start-requires-2 c κs = search needs
-
 mul-many : tie.Need-mul-many
 mul-many c = omega (arith, word-small c)
 
@@ -63,9 +54,6 @@ sub-weigh c = book-start (c .before .before)
 part-weigh-start : tie.Need-part-weigh-start
 part-weigh-start c = book-start (c .before .before)
 
-part-weigh-end : tie.Need-part-weigh-end
-part-weigh-end c = search needs
-
 mul-weigh-2 : tie.Need-mul-weigh-2
 mul-weigh-2 c = omega (arith, other-start (c .before .before .before), called (c .before .before .before) .pre .1 .short)
 
@@ -74,9 +62,6 @@ sub-weigh-2 c = other-start (c .before .before .before)
 
 part-weigh-start-2 : tie.Need-part-weigh-start-2
 part-weigh-start-2 c = other-start (c .before .before .before)
-
-part-weigh-end-2 : tie.Need-part-weigh-end-2
-part-weigh-end-2 c = search needs
 
 weigh-requires : tie.Need-weigh-requires
 weigh-requires c κs =
@@ -98,9 +83,9 @@ pub weigh-section-spec : {M : Type 1} → statement M
 weigh-section-spec =
     tie.close
     (tie.spec
-    slot-requires
-    start-requires
-    start-requires-2
+    (λ c κs. search needs)
+    (λ c κs. search needs)
+    (λ c κs. search needs)
     mul-many
     shared-slice-read-many
     cast-many
@@ -110,10 +95,10 @@ weigh-section-spec =
     mul-weigh
     sub-weigh
     part-weigh-start
-    part-weigh-end
+    (λ c. search needs)
     mul-weigh-2
     sub-weigh-2
     part-weigh-start-2
-    part-weigh-end-2
+    (λ c. search needs)
     weigh-requires
     returns)

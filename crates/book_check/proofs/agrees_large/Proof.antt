@@ -17,15 +17,6 @@ use Rattle.book_check.proofs.agrees_large.Tie as tie
 any-roomy : (ws : List ℕ) (p : Places) → Holds ws p → Roomy ws most-entries
 any-roomy ws p h = few-entries ws p h most-entries (omega (arith, uses ws p h, used-fits ws (bookIn ws) (h .laid), h .short))
 
-slice-aggregate-sections-agree : tie.Need-slice-aggregate-sections-agree
-slice-aggregate-sections-agree c = search needs
-
-slice-aggregate-sections-agree-2 : tie.Need-slice-aggregate-sections-agree-2
-slice-aggregate-sections-agree-2 c = search needs
-
-slice-aggregate-sections-agree-3 : tie.Need-slice-aggregate-sections-agree-3
-slice-aggregate-sections-agree-3 c = search needs
-
 sections-agree-requires : tie.Need-sections-agree-requires
 sections-agree-requires c κs =
     let s = c .before .before .before .before .pre in
@@ -39,8 +30,8 @@ pub agrees-large-spec : {M : Type 1} → statement M
 agrees-large-spec =
     tie.close
     (tie.spec
-    slice-aggregate-sections-agree
-    slice-aggregate-sections-agree-2
-    slice-aggregate-sections-agree-3
+    (λ c. search needs)
+    (λ c. search needs)
+    (λ c. search needs)
     sections-agree-requires
     returns)

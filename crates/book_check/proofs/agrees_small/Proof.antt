@@ -6,15 +6,6 @@ use Rattle.book_check.proofs.Counting.{few-entries}
 use Rattle.book_check.proofs.agrees_small.Statement.{statement}
 use Rattle.book_check.proofs.agrees_small.Tie as tie
 
-slice-aggregate-sections-agree : tie.Need-slice-aggregate-sections-agree
-slice-aggregate-sections-agree c = search needs
-
-slice-aggregate-sections-agree-2 : tie.Need-slice-aggregate-sections-agree-2
-slice-aggregate-sections-agree-2 c = search needs
-
-slice-aggregate-sections-agree-3 : tie.Need-slice-aggregate-sections-agree-3
-slice-aggregate-sections-agree-3 c = search needs
-
 sections-agree-requires : tie.Need-sections-agree-requires
 sections-agree-requires c κs =
     let s = c .before .before .before .before .pre in
@@ -28,8 +19,8 @@ pub agrees-small-spec : {M : Type 1} → statement M
 agrees-small-spec =
     tie.close
     (tie.spec
-    slice-aggregate-sections-agree
-    slice-aggregate-sections-agree-2
-    slice-aggregate-sections-agree-3
+    (λ c. search needs)
+    (λ c. search needs)
+    (λ c. search needs)
     sections-agree-requires
     returns)

@@ -6,18 +6,6 @@ use Rattle.book.proofs.Checking.{check-unheld}
 use Rattle.book_check.proofs.check.Statement.{statement}
 use Rattle.book_check.proofs.check.Tie as tie
 
-in-form-requires : tie.Need-in-form-requires
-in-form-requires c κs = search needs
-
-enum-known-number : tie.Need-enum-known-number
-enum-known-number c = search needs
-
-answered-requires : tie.Need-answered-requires
-answered-requires c κs = search needs
-
-enum-known-places : tie.Need-enum-known-places
-enum-known-places c = search needs
-
 check-sections-requires : tie.Need-check-sections-requires
 check-sections-requires c κs = holds _ _ (sym (c .before .before .before .in-form .ensures) ∙ c .before .places .given .1)
 
@@ -31,10 +19,10 @@ pub check-spec : {M : Type 1} → statement M
 check-spec =
     tie.close
     (tie.spec
-    in-form-requires
-    enum-known-number
-    answered-requires
-    enum-known-places
+    (λ c κs. search needs)
+    (λ c. search needs)
+    (λ c κs. search needs)
+    (λ c. search needs)
     check-sections-requires
     returns
     returns-2)

@@ -29,19 +29,10 @@ module _ (ws : List ℕ) (p : Places) (h : Holds ws p) where
   unfolding if_then_else_
   check-done e = sym (check-held ws (bookIn ws) (held-book ws p h) ∙ rw e)
 
-agrees-requires : tie.Need-agrees-requires
-agrees-requires c κs = search needs
-
-answered-requires : tie.Need-answered-requires
-answered-requires c κs = search needs
-
 returns : tie.Need-returns
 returns c =
     let a = c .before .before in
     c .answered .ensures ∙ check-not _ _ (a .before .before .pre) (sym (a .agrees .ensures) ∙ not-true _ (c .before .if1 .taken))
-
-answered-requires-2 : tie.Need-answered-requires-2
-answered-requires-2 c κs = search needs
 
 returns-2 : tie.Need-returns-2
 returns-2 c =
@@ -52,8 +43,8 @@ pub check-sections-spec : {M : Type 1} → statement M
 check-sections-spec =
     tie.close
     (tie.spec
-    agrees-requires
-    answered-requires
+    (λ c κs. search needs)
+    (λ c κs. search needs)
     returns
-    answered-requires-2
+    (λ c κs. search needs)
     returns-2)

@@ -275,9 +275,6 @@ counts-lent t = take-at (counts t) (behind t) (many-at (listing t) - 0) (counted
 counts-room : (t : tie.After-tally-taught) → many-at (listing t) ≤ length (counts t ++ behind t)
 counts-room t = omega (arith, counted t, length-append (counts t) (behind t))
 
-slot-requires : tie.Need-slot-requires
-slot-requires c κs = search needs
-
 mul-many : tie.Need-mul-many
 mul-many c = omega (arith, slot-small (called c .args .section), c .slot .ensures)
 
@@ -287,32 +284,11 @@ shared-slice-read-many c = let b = called (c .before) in slot-within _ _ (b .pre
 cast-many : tie.Need-cast-many
 cast-many c = omega (arith, c .shared-slice-known2 .given (c .before .slot .result))
 
-sub-clear : tie.Need-sub-clear
-sub-clear c = search needs
-
-part-clear-start : tie.Need-part-clear-start
-part-clear-start c = search needs
-
 part-clear-end : tie.Need-part-clear-end
 part-clear-end c = counts-fit (c .before)
 
-clear-requires : tie.Need-clear-requires
-clear-requires c κs = search needs
-
-sub-clear-2 : tie.Need-sub-clear-2
-sub-clear-2 c = search needs
-
-part-clear-start-2 : tie.Need-part-clear-start-2
-part-clear-start-2 c = search needs
-
 part-clear-end-2 : tie.Need-part-clear-end-2
 part-clear-end-2 c = marks-fit (c .before .before .before .before .before)
-
-clear-requires-2 : tie.Need-clear-requires-2
-clear-requires-2 c κs = search needs
-
-start-requires : tie.Need-start-requires
-start-requires c κs = search needs
 
 index-requires : tie.Need-index-requires
 index-requires c κs =
@@ -320,31 +296,13 @@ index-requires c κs =
     let b = called (slotted a) in
     (within a, (b .pre .0 .short, starts-fit (slotted a)))
 
-sub-tally-taught : tie.Need-sub-tally-taught
-sub-tally-taught c = search needs
-
-part-tally-taught-start : tie.Need-part-tally-taught-start
-part-tally-taught-start c = search needs
-
 part-tally-taught-end : tie.Need-part-tally-taught-end
 part-tally-taught-end c = starts-room (c .before .before .before)
-
-sub-tally-taught-2 : tie.Need-sub-tally-taught-2
-sub-tally-taught-2 c = search needs
-
-part-tally-taught-start-2 : tie.Need-part-tally-taught-start-2
-part-tally-taught-start-2 c = search needs
 
 part-tally-taught-end-2 : tie.Need-part-tally-taught-end-2
 part-tally-taught-end-2 c =
     let z = first-clean (c .before .before .before .before .before .before .before .before .before) in
     zeros-room (told (worded z)) (called (worded z) .args .counts .now) _ (counts-fit (worded z)) (z .clear .ensures)
-
-sub-tally-taught-3 : tie.Need-sub-tally-taught-3
-sub-tally-taught-3 c = search needs
-
-part-tally-taught-start-3 : tie.Need-part-tally-taught-start-3
-part-tally-taught-start-3 c = search needs
 
 part-tally-taught-end-3 : tie.Need-part-tally-taught-end-3
 part-tally-taught-end-3 c =
@@ -358,15 +316,6 @@ tally-taught-requires c κs =
     let b = called (slotted (begun i)) in
     (b .pre .0, (indexed i, ((long i, few i), no-marks i)))
 
-same-length : tie.Need-same-length
-same-length c = search needs
-
-same-length-2 : tie.Need-same-length-2
-same-length-2 c = search needs
-
-same-length-3 : tie.Need-same-length-3
-same-length-3 c = search needs
-
 returns : tie.Need-returns
 returns c =
     let t = c .before .before .before .before .before in
@@ -375,20 +324,8 @@ returns c =
     unknown-disagrees _ _ (called (slotted a) .pre .0) (called (slotted a) .args .section) _ _ (a .start .ensures) (slotted a .slot .ensures) (starts i) _ (i .index .ensures)
     (zeros (clean i)) (zeroed (clean i)) (sym (t .tally-taught .ensures .0) ∙ not-true _ (c .if1 .taken))
 
-sub-same-counts : tie.Need-sub-same-counts
-sub-same-counts c = search needs
-
-part-same-counts-start : tie.Need-part-same-counts-start
-part-same-counts-start c = search needs
-
 part-same-counts-end : tie.Need-part-same-counts-end
 part-same-counts-end c = starts-room (c .before .before .before .before .before .before .before .before .before .before .before .before .before)
-
-sub-same-counts-2 : tie.Need-sub-same-counts-2
-sub-same-counts-2 c = search needs
-
-part-same-counts-start-2 : tie.Need-part-same-counts-start-2
-part-same-counts-start-2 c = search needs
 
 part-same-counts-end-2 : tie.Need-part-same-counts-end-2
 part-same-counts-end-2 c = counts-room (c .before .before .before .before .before .before .before .before)
@@ -397,9 +334,6 @@ same-counts-requires : tie.Need-same-counts-requires
 same-counts-requires c κs =
     let t = c .before .before .before .before .before .before .before .before .before in
     (indexed (listing t), ap length (counts-lent t) ∙ t .tally-taught .kept .1 .1 .1 .1 .0 ∙ long (listing t))
-
-same-length-4 : tie.Need-same-length-4
-same-length-4 c = search needs
 
 same-length-5 : tie.Need-same-length-5
 same-length-5 c =
@@ -427,42 +361,42 @@ pub section-agrees-spec : {M : Type 1} → statement M
 section-agrees-spec =
     tie.close
     (tie.spec
-    slot-requires
+    (λ c κs. search needs)
     mul-many
     shared-slice-read-many
     cast-many
-    sub-clear
-    part-clear-start
+    (λ c. search needs)
+    (λ c. search needs)
     part-clear-end
-    clear-requires
-    sub-clear-2
-    part-clear-start-2
+    (λ c κs. search needs)
+    (λ c. search needs)
+    (λ c. search needs)
     part-clear-end-2
-    clear-requires-2
-    start-requires
+    (λ c κs. search needs)
+    (λ c κs. search needs)
     index-requires
-    sub-tally-taught
-    part-tally-taught-start
+    (λ c. search needs)
+    (λ c. search needs)
     part-tally-taught-end
-    sub-tally-taught-2
-    part-tally-taught-start-2
+    (λ c. search needs)
+    (λ c. search needs)
     part-tally-taught-end-2
-    sub-tally-taught-3
-    part-tally-taught-start-3
+    (λ c. search needs)
+    (λ c. search needs)
     part-tally-taught-end-3
     tally-taught-requires
-    same-length
-    same-length-2
-    same-length-3
+    (λ c. search needs)
+    (λ c. search needs)
+    (λ c. search needs)
     returns
-    sub-same-counts
-    part-same-counts-start
+    (λ c. search needs)
+    (λ c. search needs)
     part-same-counts-end
-    sub-same-counts-2
-    part-same-counts-start-2
+    (λ c. search needs)
+    (λ c. search needs)
     part-same-counts-end-2
     same-counts-requires
-    same-length-4
+    (λ c. search needs)
     same-length-5
     same-length-6
     returns-2)

@@ -51,15 +51,6 @@ at-lows p = p .before .before .before .before .before .before .before .before .b
 section-agrees-requires : tie.Need-section-agrees-requires
 section-agrees-requires c κs = let s = c .before .before .before .before .before .before .before .pre in (s .0, (s .1 .0 Tops, (s .1 .1 .0 Tops, s .1 .1 .1 Tops)))
 
-same-length : tie.Need-same-length
-same-length c = search needs
-
-same-length-2 : tie.Need-same-length-2
-same-length-2 c = search needs
-
-same-length-3 : tie.Need-same-length-3
-same-length-3 c = search needs
-
 returns : tie.Need-returns
 returns c =
     let r = c .before .before .before .before .before .before .before in
@@ -71,15 +62,6 @@ section-agrees-requires-2 c κs =
     let k = r .section-agrees .kept in
     let s = called r .pre in
     (s .0, (omega (arith, k .1 .1 .1 .0, s .1 .0 Lows), (omega (arith, k .1 .1 .1 .1 .0, s .1 .1 .0 Lows), omega (arith, k .1 .1 .1 .1 .1 .0, s .1 .1 .1 Lows))))
-
-same-length-4 : tie.Need-same-length-4
-same-length-4 c = search needs
-
-same-length-5 : tie.Need-same-length-5
-same-length-5 c = search needs
-
-same-length-6 : tie.Need-same-length-6
-same-length-6 c = search needs
 
 returns-2 : tie.Need-returns-2
 returns-2 c =
@@ -93,15 +75,6 @@ section-agrees-requires-3 c κs =
     let k₂ = l .section-agrees2 .kept in
     let s = called (at-tops l) .pre in
     (s .0, (omega (arith, k₂ .1 .1 .1 .0, k₁ .1 .1 .1 .0, s .1 .0 Middles), (omega (arith, k₂ .1 .1 .1 .1 .0, k₁ .1 .1 .1 .1 .0, s .1 .1 .0 Middles), omega (arith, k₂ .1 .1 .1 .1 .1 .0, k₁ .1 .1 .1 .1 .1 .0, s .1 .1 .1 Middles))))
-
-same-length-7 : tie.Need-same-length-7
-same-length-7 c = search needs
-
-same-length-8 : tie.Need-same-length-8
-same-length-8 c = search needs
-
-same-length-9 : tie.Need-same-length-9
-same-length-9 c = search needs
 
 returns-3 : tie.Need-returns-3
 returns-3 c =
@@ -117,17 +90,17 @@ sections-agree-spec =
     tie.close
     (tie.spec
     section-agrees-requires
-    same-length
-    same-length-2
-    same-length-3
+    (λ c. search needs)
+    (λ c. search needs)
+    (λ c. search needs)
     returns
     section-agrees-requires-2
-    same-length-4
-    same-length-5
-    same-length-6
+    (λ c. search needs)
+    (λ c. search needs)
+    (λ c. search needs)
     returns-2
     section-agrees-requires-3
-    same-length-7
-    same-length-8
-    same-length-9
+    (λ c. search needs)
+    (λ c. search needs)
+    (λ c. search needs)
     returns-3)

@@ -12,24 +12,15 @@ use Rattle.book_file.proofs.is_marked.Tie as tie
 returns : tie.Need-returns
 returns c = sym (mark-short (c .before .args .file .now) (omega arith))
 
-shared-slice-read-if2 : tie.Need-shared-slice-read-if2
-shared-slice-read-if2 c = search needs
-
 returns-2 : tie.Need-returns-2
 returns-2 c =
     let file = c .before .before .before .args .file .now in
     sym (mark-by file (omega arith) ∙ fails-left _ _ (ne-eqb (getD file 0 0) 79 (c .if2 .taken)))
 
-shared-slice-read-if3 : tie.Need-shared-slice-read-if3
-shared-slice-read-if3 c = search needs
-
 returns-3 : tie.Need-returns-3
 returns-3 c =
     let file = c .before .before .before .before .before .args .file .now in
     sym (mark-by file (omega arith) ∙ fails-right _ _ (fails-left _ _ (ne-eqb (getD file 1 0) 70 (c .if3 .taken))))
-
-shared-slice-read-result : tie.Need-shared-slice-read-result
-shared-slice-read-result c = search needs
 
 returns-4 : tie.Need-returns-4
 returns-4 c =
@@ -41,9 +32,9 @@ is-marked-spec =
     tie.close
     (tie.spec
     returns
-    shared-slice-read-if2
+    (λ c. search needs)
     returns-2
-    shared-slice-read-if3
+    (λ c. search needs)
     returns-3
-    shared-slice-read-result
+    (λ c. search needs)
     returns-4)

@@ -24,27 +24,6 @@ cleared words book l ys fits is zeros =
     ap length (tail-all (length words) l k) ∙ simp length-drop (omega arith) in
     tail-back (length words) l k ys ∙ ap₂ _++_ front (zeros ∙ ap (λ (m : ℕ). replicate m 0) many)
 
-copy-requires : tie.Need-copy-requires
-copy-requires c κs = search needs
-
-mul-clear : tie.Need-mul-clear
-mul-clear c = search needs
-
-sub-clear : tie.Need-sub-clear
-sub-clear c = search needs
-
-part-clear-start : tie.Need-part-clear-start
-part-clear-start c = search needs
-
-part-clear-end : tie.Need-part-clear-end
-part-clear-end c = search needs
-
-clear-requires : tie.Need-clear-requires
-clear-requires c κs = search needs
-
-same-length : tie.Need-same-length
-same-length c = search needs
-
 returns : tie.Need-returns
 returns c =
     let x = c .before .before .before .before .before .before .before .before .before .before in
@@ -54,11 +33,11 @@ pub put-book-spec : {M : Type 1} → statement M
 put-book-spec =
     tie.close
     (tie.spec
-    copy-requires
-    mul-clear
-    sub-clear
-    part-clear-start
-    part-clear-end
-    clear-requires
-    same-length
+    (λ c κs. search needs)
+    (λ c. search needs)
+    (λ c. search needs)
+    (λ c. search needs)
+    (λ c. search needs)
+    (λ c κs. search needs)
+    (λ c. search needs)
     returns)

@@ -6,18 +6,6 @@ use Rattle.book_filing.proofs.Writing.{front-stores}
 use Rattle.book_file.proofs.put_front.Statement.{statement}
 use Rattle.book_file.proofs.put_front.Tie as tie
 
-slice-write-out : tie.Need-slice-write-out
-slice-write-out c = search needs
-
-slice-write-out-2 : tie.Need-slice-write-out-2
-slice-write-out-2 c = search needs
-
-slice-write-out-3 : tie.Need-slice-write-out-3
-slice-write-out-3 c = search needs
-
-put-word-requires : tie.Need-put-word-requires
-put-word-requires c κs = search needs
-
 same-length : tie.Need-same-length
 same-length c = ap length (c .before .before .put-word .ensures) ∙ simp length-set
 
@@ -28,9 +16,9 @@ pub put-front-spec : {M : Type 1} → statement M
 put-front-spec =
     tie.close
     (tie.spec
-    slice-write-out
-    slice-write-out-2
-    slice-write-out-3
-    put-word-requires
+    (λ c. search needs)
+    (λ c. search needs)
+    (λ c. search needs)
+    (λ c κs. search needs)
     same-length
     returns)

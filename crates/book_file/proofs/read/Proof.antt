@@ -27,22 +27,10 @@ marked c = sym (c .before .is-marked .ensures) ∙ not-false _ (c .if2 .left)
 long : (c : tie.Else2) → front-bytes ≤ length (c .before .before .before .before .before .before .args .file .now)
 long c = marked-long (c .before .before .before .before .before .before .args .file .now) (marked c)
 
-is-book-size-requires : tie.Need-is-book-size-requires
-is-book-size-requires c κs = search needs
-
-answered-requires : tie.Need-answered-requires
-answered-requires c κs = search needs
-
 returns : tie.Need-returns
 returns c =
     let x = c .before .before .before .before .before .args in
     sym (read-unsized (x .file .now) (x .book .now) _ (c .answered .ensures) (sized-by _ _ (sym (c .before .before .is-book-size .ensures) ∙ not-true _ (c .before .if1 .taken))))
-
-is-marked-requires : tie.Need-is-marked-requires
-is-marked-requires c κs = search needs
-
-answered-requires-2 : tie.Need-answered-requires-2
-answered-requires-2 c κs = search needs
 
 returns-2 : tie.Need-returns-2
 returns-2 c =
@@ -52,9 +40,6 @@ returns-2 c =
 
 word-at-requires : tie.Need-word-at-requires
 word-at-requires c κs = omega (arith, long c)
-
-answered-requires-3 : tie.Need-answered-requires-3
-answered-requires-3 c κs = search needs
 
 returns-3 : tie.Need-returns-3
 returns-3 c =
@@ -69,15 +54,6 @@ sub-read-rest c = omega (arith, long (c .before .before))
 part-read-rest-start : tie.Need-part-read-rest-start
 part-read-rest-start c = omega (arith, long (c .before .before))
 
-part-read-rest-end : tie.Need-part-read-rest-end
-part-read-rest-end c = search needs
-
-read-rest-requires : tie.Need-read-rest-requires
-read-rest-requires c κs = search needs
-
-same-length : tie.Need-same-length
-same-length c = search needs
-
 returns-4 : tie.Need-returns-4
 returns-4 c =
     let x = c .before .before .before .before .before .before .before .before .before .before .before .before .before .args in
@@ -91,18 +67,18 @@ pub read-spec : {M : Type 1} → statement M
 read-spec =
     tie.close
     (tie.spec
-    is-book-size-requires
-    answered-requires
+    (λ c κs. search needs)
+    (λ c κs. search needs)
     returns
-    is-marked-requires
-    answered-requires-2
+    (λ c κs. search needs)
+    (λ c κs. search needs)
     returns-2
     word-at-requires
-    answered-requires-3
+    (λ c κs. search needs)
     returns-3
     sub-read-rest
     part-read-rest-start
-    part-read-rest-end
-    read-rest-requires
-    same-length
+    (λ c. search needs)
+    (λ c κs. search needs)
+    (λ c. search needs)
     returns-4)

@@ -38,17 +38,11 @@ half c =
     let even : length rest % 2 ≡ 0 = c .before .before .before .if1 .left in
     ap length (taken c) ∙ words-long rest (length rest / 2) (omega arith)
 
-answered-requires : tie.Need-answered-requires
-answered-requires c κs = search needs
-
 returns : tie.Need-returns
 returns c =
     let x = c .before .before .before .before .args in
     let odd : length (x .rest .now) % 2 ≡ 0 → ⊥ = c .before .if1 .taken in
     ap (λ (a : Answer). outcome a (x .book .now)) (c .answered .ensures) ∙ sym (no-stored (x .rest .now) (x .book .now) (λ n few twice. odd (omega arith)))
-
-answered-requires-2 : tie.Need-answered-requires-2
-answered-requires-2 c κs = search needs
 
 returns-2 : tie.Need-returns-2
 returns-2 c =
@@ -56,34 +50,10 @@ returns-2 c =
     let many : most-book-words < length (x .rest .now) / 2 = c .before .if2 .taken in
     ap (λ (a : Answer). outcome a (x .book .now)) (c .answered2 .ensures) ∙ sym (no-stored (x .rest .now) (x .book .now) (λ n few twice. omega arith))
 
-sub-take-words : tie.Need-sub-take-words
-sub-take-words c = search needs
-
-part-words-start : tie.Need-part-words-start
-part-words-start c = search needs
-
-part-words-end : tie.Need-part-words-end
-part-words-end c = search needs
-
-take-words-requires : tie.Need-take-words-requires
-take-words-requires c κs = search needs
-
-sub-read-words : tie.Need-sub-read-words
-sub-read-words c = search needs
-
-part-read-words-start : tie.Need-part-read-words-start
-part-read-words-start c = search needs
-
 part-read-words-end : tie.Need-part-read-words-end
 part-read-words-end c =
     let t = c .before .before in
     fits (length (t .before .before .before .before .before .before .args .rest .now) / 2) (replicate most-book-words 0) (t .take-words .last .1 .0) (half t)
-
-read-words-requires : tie.Need-read-words-requires
-read-words-requires c κs = search needs
-
-same-length : tie.Need-same-length
-same-length c = search needs
 
 returns-3 : tie.Need-returns-3
 returns-3 c =
@@ -99,17 +69,17 @@ pub read-rest-spec : {M : Type 1} → statement M
 read-rest-spec =
     tie.close
     (tie.spec
-    answered-requires
+    (λ c κs. search needs)
     returns
-    answered-requires-2
+    (λ c κs. search needs)
     returns-2
-    sub-take-words
-    part-words-start
-    part-words-end
-    take-words-requires
-    sub-read-words
-    part-read-words-start
+    (λ c. search needs)
+    (λ c. search needs)
+    (λ c. search needs)
+    (λ c κs. search needs)
+    (λ c. search needs)
+    (λ c. search needs)
     part-read-words-end
-    read-words-requires
-    same-length
+    (λ c κs. search needs)
+    (λ c. search needs)
     returns-3)

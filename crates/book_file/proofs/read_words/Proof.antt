@@ -30,17 +30,8 @@ places t = t .before .places .given .0 .0
 formed : (t : tie.After-known-told) → bookFormOf (words t) ≡ InForm (places t)
 formed t = sym (t .before .before .before .in-form .ensures) ∙ t .before .places .given .1
 
-in-form-requires : tie.Need-in-form-requires
-in-form-requires c κs = search needs
-
-enum-known-places : tie.Need-enum-known-places
-enum-known-places c = search needs
-
 enum-told : tie.Need-enum-told
 enum-told c = search needs
-
-answered-requires : tie.Need-answered-requires
-answered-requires c κs = search needs
 
 returns : tie.Need-returns
 returns c =
@@ -51,9 +42,6 @@ returns c =
 stored-number-requires : tie.Need-stored-number-requires
 stored-number-requires c κs = holds _ _ (formed c)
 
-answered-requires-2 : tie.Need-answered-requires-2
-answered-requires-2 c κs = search needs
-
 returns-2 : tie.Need-returns-2
 returns-2 c =
     let n = c .before .before in
@@ -61,24 +49,12 @@ returns-2 c =
     ap (λ (r : Answer). outcome r (slice t)) (c .answered2 .ensures ∙ ap answered (n .stored-number .ensures))
     ∙ sym (restore-numbered (words t) (slice t) (places t) (formed t) (λ d. c .before .if1 .taken (n .stored-number .ensures ∙ d)))
 
-answered-requires-3 : tie.Need-answered-requires-3
-answered-requires-3 c κs = search needs
-
 returns-3 : tie.Need-returns-3
 returns-3 c =
     let n = c .before .before .before in
     let t = n .before in
     ap (λ (r : Answer). outcome r (slice t)) (c .answered3 .ensures)
     ∙ sym (restore-short (words t) (slice t) (places t) (formed t) (sym (n .stored-number .ensures) ∙ c .before .before .if1 .left) (c .before .if2 .taken))
-
-put-book-requires : tie.Need-put-book-requires
-put-book-requires c κs = search needs
-
-answered-requires-4 : tie.Need-answered-requires-4
-answered-requires-4 c κs = search needs
-
-same-length : tie.Need-same-length
-same-length c = search needs
 
 returns-4 : tie.Need-returns-4
 returns-4 c =
@@ -92,17 +68,17 @@ pub read-words-spec : {M : Type 1} → statement M
 read-words-spec =
     tie.close
     (tie.spec
-    in-form-requires
-    enum-known-places
+    (λ c κs. search needs)
+    (λ c. search needs)
     enum-told
-    answered-requires
+    (λ c κs. search needs)
     returns
     stored-number-requires
-    answered-requires-2
+    (λ c κs. search needs)
     returns-2
-    answered-requires-3
+    (λ c κs. search needs)
     returns-3
-    put-book-requires
-    answered-requires-4
-    same-length
+    (λ c κs. search needs)
+    (λ c κs. search needs)
+    (λ c. search needs)
     returns-4)

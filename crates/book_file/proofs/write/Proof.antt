@@ -16,12 +16,6 @@ agreed c = checked-agreed _ (sym (ap (λ (a : Answer). a .number) (c .before .ch
 told : (c : tie.Else1) → Telling (c .before .before .before .before .args .book .now) (agreed c .held)
 told c = telling _ _ (agreed c .isBook)
 
-check-requires : tie.Need-check-requires
-check-requires c κs = search needs
-
-wrote-requires : tie.Need-wrote-requires
-wrote-requires c κs = search needs
-
 returns : tie.Need-returns
 returns c = refused-file _ _ _ _ (ap (λ (a : Answer). a .number) (c .before .before .check .ensures)) (c .before .if1 .taken) (c .wrote .ensures)
 
@@ -37,52 +31,13 @@ mul-count c = omega (arith, c .shared-slice-known2 .given 1)
 add-count : tie.Need-add-count
 add-count c = omega (arith, c .shared-slice-known2 .given 1)
 
-wrote-requires-2 : tie.Need-wrote-requires-2
-wrote-requires-2 c κs = search needs
-
 returns-2 : tie.Need-returns-2
 returns-2 c =
     let e = c .before .before .before in
     no-output-room _ _ _ (c .wrote2 .ensures) (omega (arith, told e .size)) ∙ sym (agreed-file _ _ (agreed e))
 
-sub-put-front : tie.Need-sub-put-front
-sub-put-front c = search needs
-
-part-put-front-start : tie.Need-part-put-front-start
-part-put-front-start c = search needs
-
-part-put-front-end : tie.Need-part-put-front-end
-part-put-front-end c = search needs
-
-put-front-requires : tie.Need-put-front-requires
-put-front-requires c κs = search needs
-
-sub-put-words : tie.Need-sub-put-words
-sub-put-words c = search needs
-
-part-put-words-start : tie.Need-part-put-words-start
-part-put-words-start c = search needs
-
 part-put-words-end : tie.Need-part-put-words-end
 part-put-words-end c = told (c .before .before .before .before .before .before) .fits
-
-sub-put-words-2 : tie.Need-sub-put-words-2
-sub-put-words-2 c = search needs
-
-part-put-words-start-2 : tie.Need-part-put-words-start-2
-part-put-words-start-2 c = search needs
-
-part-put-words-end-2 : tie.Need-part-put-words-end-2
-part-put-words-end-2 c = search needs
-
-put-words-requires : tie.Need-put-words-requires
-put-words-requires c κs = search needs
-
-wrote-requires-3 : tie.Need-wrote-requires-3
-wrote-requires-3 c κs = search needs
-
-same-length : tie.Need-same-length
-same-length c = search needs
 
 returns-3 : tie.Need-returns-3
 returns-3 c =
@@ -95,26 +50,26 @@ pub write-spec : {M : Type 1} → statement M
 write-spec =
     tie.close
     (tie.spec
-    check-requires
-    wrote-requires
+    (λ c κs. search needs)
+    (λ c κs. search needs)
     returns
     shared-slice-read-used
     cast-used
     mul-count
     add-count
-    wrote-requires-2
+    (λ c κs. search needs)
     returns-2
-    sub-put-front
-    part-put-front-start
-    part-put-front-end
-    put-front-requires
-    sub-put-words
-    part-put-words-start
+    (λ c. search needs)
+    (λ c. search needs)
+    (λ c. search needs)
+    (λ c κs. search needs)
+    (λ c. search needs)
+    (λ c. search needs)
     part-put-words-end
-    sub-put-words-2
-    part-put-words-start-2
-    part-put-words-end-2
-    put-words-requires
-    wrote-requires-3
-    same-length
+    (λ c. search needs)
+    (λ c. search needs)
+    (λ c. search needs)
+    (λ c κs. search needs)
+    (λ c κs. search needs)
+    (λ c. search needs)
     returns-3)

@@ -6,14 +6,8 @@ use Rattle.book.proofs.Runs.{head-live, head-used, head-zeros}
 use Rattle.book_form.proofs.head_right.Statement.{statement}
 use Rattle.book_form.proofs.head_right.Tie as tie
 
-shared-slice-read-says-live : tie.Need-shared-slice-read-says-live
-shared-slice-read-says-live c = search needs
-
 cast-says-live : tie.Need-cast-says-live
 cast-says-live c = omega (arith, c .shared-slice-known2 .given 2)
-
-shared-slice-read-says-used : tie.Need-shared-slice-read-says-used
-shared-slice-read-says-used c = search needs
 
 cast-says-used : tie.Need-cast-says-used
 cast-says-used c = omega (arith, c .shared-slice-known3 .given 1)
@@ -24,9 +18,6 @@ returns c = sym (head-live _ _ _ (c .if1 .taken))
 returns-2 : tie.Need-returns-2
 returns-2 c = sym (head-used _ _ _ (c .before .if1 .left) (c .if2 .taken))
 
-zeros-from-requires : tie.Need-zeros-from-requires
-zeros-from-requires c κs = search needs
-
 returns-3 : tie.Need-returns-3
 returns-3 c = c .zeros-from .ensures ∙ sym (head-zeros _ _ _ (c .before .before .if1 .left) (c .before .if2 .left))
 
@@ -34,11 +25,11 @@ pub head-right-spec : {M : Type 1} → statement M
 head-right-spec =
     tie.close
     (tie.spec
-    shared-slice-read-says-live
+    (λ c. search needs)
     cast-says-live
-    shared-slice-read-says-used
+    (λ c. search needs)
     cast-says-used
     returns
     returns-2
-    zeros-from-requires
+    (λ c κs. search needs)
     returns-3)

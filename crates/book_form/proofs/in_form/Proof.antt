@@ -108,20 +108,11 @@ sections c =
       of-middles = at-end c;
     }
 
-is-book-size-requires : tie.Need-is-book-size-requires
-is-book-size-requires c κs = search needs
-
 returns : tie.Need-returns
 returns c = sym (form-unsized _ (sized-by _ _ (sym (c .before .is-book-size .ensures) ∙ not-true _ (c .if1 .taken))))
 
 shared-slice-read-new : tie.Need-shared-slice-read-new
 shared-slice-read-new c = omega (arith, size (c .before) .0)
-
-new-requires : tie.Need-new-requires
-new-requires c κs = search needs
-
-enum-known-k : tie.Need-enum-known-k
-enum-known-k c = search needs
 
 enum-told : tie.Need-enum-told
 enum-told c = search needs
@@ -129,26 +120,8 @@ enum-told c = search needs
 returns-2 : tie.Need-returns-2
 returns-2 c = sym (no-k _ (sized-by _ _ (sym (c .before .before .before .before .before .is-book-size .ensures) ∙ not-false _ (c .before .before .before .before .if1 .left))) (outside _ _ (c .before .before .new .ensures) (c .enum-told .given .1)))
 
-of-tops-requires : tie.Need-of-tops-requires
-of-tops-requires c κs = search needs
-
-of-middles-requires : tie.Need-of-middles-requires
-of-middles-requires c κs = search needs
-
 shared-slice-read-pass : tie.Need-shared-slice-read-pass
 shared-slice-read-pass c = omega (arith, head (c .before .before .before) .long)
-
-slice-aggregate-pass : tie.Need-slice-aggregate-pass
-slice-aggregate-pass c = search needs
-
-pass-requires : tie.Need-pass-requires
-pass-requires c κs = search needs
-
-enum-known-tops : tie.Need-enum-known-tops
-enum-known-tops c = search needs
-
-enum-told-2 : tie.Need-enum-told-2
-enum-told-2 c = search needs
 
 returns-3 : tie.Need-returns-3
 returns-3 c = sym (no-section _ _ (head (c .before .before .before .before .before .before .before .before)) Taught _ _ _ refl refl refl _ (c .before .before .before .pass .ensures .0) (c .enum-told2 .given .1))
@@ -156,19 +129,10 @@ returns-3 c = sym (no-section _ _ (head (c .before .before .before .before .befo
 shared-slice-read-pass-2 : tie.Need-shared-slice-read-pass-2
 shared-slice-read-pass-2 c = omega (arith, head (to-k (c .before)) .long)
 
-slice-aggregate-pass-2 : tie.Need-slice-aggregate-pass-2
-slice-aggregate-pass-2 c = search needs
-
 pass-requires-2 : tie.Need-pass-requires-2
 pass-requires-2 c κs =
     let t = c .before .before in
     (omega (arith, shallow (to-k t), t .before .before .before .before .before .before .before .before .of-tops .ensures), omega (arith, t .before .before .before .before .pass .ensures .1))
-
-enum-known-lows : tie.Need-enum-known-lows
-enum-known-lows c = search needs
-
-enum-told-3 : tie.Need-enum-told-3
-enum-told-3 c = search needs
 
 returns-4 : tie.Need-returns-4
 returns-4 c =
@@ -178,20 +142,11 @@ returns-4 c =
 shared-slice-read-pass-3 : tie.Need-shared-slice-read-pass-3
 shared-slice-read-pass-3 c = omega (arith, head (to-k (to-tops (c .before))) .long)
 
-slice-aggregate-pass-3 : tie.Need-slice-aggregate-pass-3
-slice-aggregate-pass-3 c = search needs
-
 pass-requires-3 : tie.Need-pass-requires-3
 pass-requires-3 c κs =
     let l = c .before .before in
     let t = to-tops l in
     (omega (arith, shallow (to-k t), t .before .before .before .before .before .before .before .before .of-tops .ensures), omega (arith, l .before .before .before .before .pass2 .ensures .1, t .before .before .before .before .pass .ensures .1))
-
-enum-known-middles : tie.Need-enum-known-middles
-enum-known-middles c = search needs
-
-enum-told-4 : tie.Need-enum-told-4
-enum-told-4 c = search needs
 
 returns-5 : tie.Need-returns-5
 returns-5 c =
@@ -202,20 +157,11 @@ returns-5 c =
 shared-slice-read-pass-4 : tie.Need-shared-slice-read-pass-4
 shared-slice-read-pass-4 c = omega (arith, head (to-k (to-tops (to-lows (c .before)))) .long)
 
-slice-aggregate-pass-4 : tie.Need-slice-aggregate-pass-4
-slice-aggregate-pass-4 c = search needs
-
 pass-requires-4 : tie.Need-pass-requires-4
 pass-requires-4 c κs =
     let m = c .before .before in
     let t = to-tops (to-lows m) in
     (omega (arith, shallow (to-k t), t .before .before .before .before .before .before .before .of-middles .ensures), omega (arith, m .before .before .before .before .pass3 .ensures .1, to-lows m .before .before .before .before .pass2 .ensures .1, t .before .before .before .before .pass .ensures .1))
-
-enum-known-used : tie.Need-enum-known-used
-enum-known-used c = search needs
-
-enum-told-5 : tie.Need-enum-told-5
-enum-told-5 c = search needs
 
 returns-6 : tie.Need-returns-6
 returns-6 c =
@@ -240,38 +186,38 @@ pub in-form-spec : {M : Type 1} → statement M
 in-form-spec =
     tie.close
     (tie.spec
-    is-book-size-requires
+    (λ c κs. search needs)
     returns
     shared-slice-read-new
-    new-requires
-    enum-known-k
+    (λ c κs. search needs)
+    (λ c. search needs)
     enum-told
     returns-2
-    of-tops-requires
-    of-middles-requires
+    (λ c κs. search needs)
+    (λ c κs. search needs)
     shared-slice-read-pass
-    slice-aggregate-pass
-    pass-requires
-    enum-known-tops
-    enum-told-2
+    (λ c. search needs)
+    (λ c κs. search needs)
+    (λ c. search needs)
+    (λ c. search needs)
     returns-3
     shared-slice-read-pass-2
-    slice-aggregate-pass-2
+    (λ c. search needs)
     pass-requires-2
-    enum-known-lows
-    enum-told-3
+    (λ c. search needs)
+    (λ c. search needs)
     returns-4
     shared-slice-read-pass-3
-    slice-aggregate-pass-3
+    (λ c. search needs)
     pass-requires-3
-    enum-known-middles
-    enum-told-4
+    (λ c. search needs)
+    (λ c. search needs)
     returns-5
     shared-slice-read-pass-4
-    slice-aggregate-pass-4
+    (λ c. search needs)
     pass-requires-4
-    enum-known-used
-    enum-told-5
+    (λ c. search needs)
+    (λ c. search needs)
     returns-6
     head-right-requires
     returns-7

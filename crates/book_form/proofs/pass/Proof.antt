@@ -68,17 +68,8 @@ loop-holds : tie.Need-loop-holds Inv-loop μ-loop
 unfolding stretchOf
 loop-holds c = (omega arith, omega arith, omega arith, omega arith, refl, refl)
 
-whole-at-requires : tie.Need-whole-at-requires Inv-loop μ-loop
-whole-at-requires c κs = search needs
-
-enum-known-end : tie.Need-enum-known-end Inv-loop μ-loop
-enum-known-end c = search needs
-
 enum-told : tie.Need-enum-told Inv-loop μ-loop
 enum-told c = search needs
-
-same-length : tie.Need-same-length Inv-loop μ-loop
-same-length c = search needs
 
 returns : tie.Need-returns Inv-loop μ-loop
 returns c =
@@ -88,26 +79,11 @@ returns c =
 add-start : tie.Need-add-start Inv-loop μ-loop
 add-start c = let i = there c in omega (arith, i .ends, i .fits)
 
-same-length-2 : tie.Need-same-length-2 Inv-loop μ-loop
-same-length-2 c = search needs
-
 returns-2 : tie.Need-returns-2 Inv-loop μ-loop
 returns-2 c =
     let e = c .before in
     let k = top e in
     (sym (k .loop .inv .4 ∙ uncounted (book k) (least k) (greatest k) (last-key k) (k .loop .at) (k .loop .sum) (k .loop .left) (e .before .before .before .before .loop-test .taken) (end e) (count e) (there e) (c .if1 .taken)), k .loop .inv .5)
-
-mul-precedes : tie.Need-mul-precedes Inv-loop μ-loop
-mul-precedes c = search needs
-
-sub-precedes : tie.Need-sub-precedes Inv-loop μ-loop
-sub-precedes c = search needs
-
-part-precedes-start : tie.Need-part-precedes-start Inv-loop μ-loop
-part-precedes-start c = search needs
-
-part-precedes-end : tie.Need-part-precedes-end Inv-loop μ-loop
-part-precedes-end c = search needs
 
 mul-precedes-2 : tie.Need-mul-precedes-2 Inv-loop μ-loop
 mul-precedes-2 c = let i = there (c .before .before) in omega (arith, i .ends, i .fits)
@@ -120,12 +96,6 @@ part-precedes-start-2 c = let i = there (c .before .before) in omega (arith, i .
 
 part-precedes-end-2 : tie.Need-part-precedes-end-2 Inv-loop μ-loop
 part-precedes-end-2 c = let i = there (c .before .before) in omega (arith, i .ends, i .fits)
-
-precedes-requires : tie.Need-precedes-requires Inv-loop μ-loop
-precedes-requires c κs = search needs
-
-same-length-3 : tie.Need-same-length-3 Inv-loop μ-loop
-same-length-3 c = search needs
 
 returns-3 : tie.Need-returns-3 Inv-loop μ-loop
 returns-3 c =
@@ -152,9 +122,6 @@ fits-requires c κs =
     let p = k .before .before .before .pre in
     (even _ _ _ _ (there e), p .0, omega (arith, p .1, k .loop .inv .5))
 
-same-length-4 : tie.Need-same-length-4 Inv-loop μ-loop
-same-length-4 c = search needs
-
 returns-4 : tie.Need-returns-4 Inv-loop μ-loop
 returns-4 c =
     let f = c .before .before .before in
@@ -165,12 +132,6 @@ returns-4 c =
 
 add-sum : tie.Need-add-sum Inv-loop μ-loop
 add-sum c = let s = small (c .before .before .before .before .before .before .before .before .before .before .before) in omega arith
-
-sub-left : tie.Need-sub-left Inv-loop μ-loop
-sub-left c = search needs
-
-loop-less : tie.Need-loop-less Inv-loop μ-loop
-loop-less c = search needs
 
 loop-again : tie.Need-loop-again Inv-loop μ-loop
 loop-again c =
@@ -188,9 +149,6 @@ loop-again c =
       f .fits2 .ensures .1 ∙ k .loop .inv .5,
     )
 
-same-length-5 : tie.Need-same-length-5 Inv-loop μ-loop
-same-length-5 c = search needs
-
 returns-5 : tie.Need-returns-5 Inv-loop μ-loop
 returns-5 c =
     let k = c .before in
@@ -203,35 +161,35 @@ pass-spec =
     Inv-loop
     μ-loop
     loop-holds
-    whole-at-requires
-    enum-known-end
+    (λ c κs. search needs)
+    (λ c. search needs)
     enum-told
-    same-length
+    (λ c. search needs)
     returns
     add-start
-    same-length-2
+    (λ c. search needs)
     returns-2
-    mul-precedes
-    sub-precedes
-    part-precedes-start
-    part-precedes-end
+    (λ c. search needs)
+    (λ c. search needs)
+    (λ c. search needs)
+    (λ c. search needs)
     mul-precedes-2
     sub-precedes-2
     part-precedes-start-2
     part-precedes-end-2
-    precedes-requires
-    same-length-3
+    (λ c κs. search needs)
+    (λ c. search needs)
     returns-3
     mul-fits
     sub-fits
     part-fits-start
     part-fits-end
     fits-requires
-    same-length-4
+    (λ c. search needs)
     returns-4
     add-sum
-    sub-left
-    loop-less
+    (λ c. search needs)
+    (λ c. search needs)
     loop-again
-    same-length-5
+    (λ c. search needs)
     returns-5)

@@ -6,18 +6,6 @@ use Rattle.book_judging.proofs.Judgements.{judgement-unheld}
 use Rattle.book_judge.proofs.judge.Statement.{statement}
 use Rattle.book_judge.proofs.judge.Tie as tie
 
-in-form-requires : tie.Need-in-form-requires
-in-form-requires c κs = search needs
-
-enum-known-number : tie.Need-enum-known-number
-enum-known-number c = search needs
-
-plainly-requires : tie.Need-plainly-requires
-plainly-requires c κs = search needs
-
-enum-known-places : tie.Need-enum-known-places
-enum-known-places c = search needs
-
 judge-order-requires : tie.Need-judge-order-requires
 judge-order-requires c κs = holds _ _ (sym (c .before .before .before .in-form .ensures) ∙ c .before .places .given .1)
 
@@ -31,10 +19,10 @@ pub judge-spec : {M : Type 1} → statement M
 judge-spec =
     tie.close
     (tie.spec
-    in-form-requires
-    enum-known-number
-    plainly-requires
-    enum-known-places
+    (λ c κs. search needs)
+    (λ c. search needs)
+    (λ c κs. search needs)
+    (λ c. search needs)
     judge-order-requires
     returns
     returns-2)

@@ -21,34 +21,13 @@ ordered c = sym (c .before .before .cause-into .ensures .0) ∙ c .if1 .left
 gone-over : (c : tie.Else1) → GoneOver (c .before .before .before .before .before .before .args .order .now) (c .before .before .cause-into .last .1 .0)
 gone-over c = c .before .before .cause-into .ensures .1 .0 (ordered c)
 
-slice-aggregate-cause-into : tie.Need-slice-aggregate-cause-into
-slice-aggregate-cause-into c = search needs
-
-cause-into-requires : tie.Need-cause-into-requires
-cause-into-requires c κs = search needs
-
-plainly-requires : tie.Need-plainly-requires
-plainly-requires c κs = search needs
-
 returns : tie.Need-returns
 returns c =
     let a = c .before .before .before .cause-into in
     c .plainly .ensures ∙ ap plainlyOf (a .ensures .0) ∙ sym (judge-refused _ _ _ (c .before .before .before .before .before .before .before .pre) (λ e. c .before .if1 .taken (a .ensures .0 ∙ e)))
 
-slice-aggregate-level-lines : tie.Need-slice-aggregate-level-lines
-slice-aggregate-level-lines c = search needs
-
-slice-aggregate-level-lines-2 : tie.Need-slice-aggregate-level-lines-2
-slice-aggregate-level-lines-2 c = search needs
-
 level-lines-requires : tie.Need-level-lines-requires
 level-lines-requires c κs = let o = c .before .before in (gone-over o, omega (arith, passed-short _ (ordered o)))
-
-slice-aggregate-line-to-fix : tie.Need-slice-aggregate-line-to-fix
-slice-aggregate-line-to-fix c = search needs
-
-slice-aggregate-line-to-fix-2 : tie.Need-slice-aggregate-line-to-fix-2
-slice-aggregate-line-to-fix-2 c = search needs
 
 line-to-fix-requires : tie.Need-line-to-fix-requires
 line-to-fix-requires c κs =
@@ -62,20 +41,11 @@ returns-2 c =
     let f = c .before .before .line-to-fix .ensures in
     f .is ∙ sym (judge-line _ _ _ (o .before .before .before .before .before .before .pre) (ordered o) (λ z. c .if2 .taken (f .at ∙ z)))
 
-slice-aggregate-top-near : tie.Need-slice-aggregate-top-near
-slice-aggregate-top-near c = search needs
-
-slice-aggregate-top-near-2 : tie.Need-slice-aggregate-top-near-2
-slice-aggregate-top-near-2 c = search needs
-
 top-near-requires : tie.Need-top-near-requires
 top-near-requires c κs =
     let l = c .before .before .before .before .before .before .before .before in
     let o = l .before .before .before in
     (o .before .before .before .before .before .before .pre, (gone-over o, l .level-lines .ensures .0))
-
-plainly-requires-2 : tie.Need-plainly-requires-2
-plainly-requires-2 c κs = search needs
 
 -- No line is to be fixed.
 none : (c : tie.After-top-near) → let s = c .before .before .before .before .before .before .before .before .before .before .before .before .before .before .before .before .before .before .args in lineToFix (bookIn (s .book .now)) (s .order .now) ≡ 0
@@ -102,20 +72,20 @@ pub judge-order-spec : {M : Type 1} → statement M
 judge-order-spec =
     tie.close
     (tie.spec
-    slice-aggregate-cause-into
-    cause-into-requires
-    plainly-requires
+    (λ c. search needs)
+    (λ c κs. search needs)
+    (λ c κs. search needs)
     returns
-    slice-aggregate-level-lines
-    slice-aggregate-level-lines-2
+    (λ c. search needs)
+    (λ c. search needs)
     level-lines-requires
-    slice-aggregate-line-to-fix
-    slice-aggregate-line-to-fix-2
+    (λ c. search needs)
+    (λ c. search needs)
     line-to-fix-requires
     returns-2
-    slice-aggregate-top-near
-    slice-aggregate-top-near-2
+    (λ c. search needs)
+    (λ c. search needs)
     top-near-requires
-    plainly-requires-2
+    (λ c κs. search needs)
     returns-3
     returns-4)

@@ -21,9 +21,6 @@ Inv-loop book places order spans levels found₀ from₀ to₀ found from to =
 abbrev μ-loop : tie.MeasureT-loop
 μ-loop book places order spans levels found₀ from₀ to₀ found from to = to - from
 
-plainly-requires : tie.Need-plainly-requires Inv-loop μ-loop
-plainly-requires c κs = search needs
-
 loop-holds : tie.Need-loop-holds Inv-loop μ-loop
 loop-holds c =
     let s = c .before .before .before .before .before in
@@ -43,9 +40,6 @@ returns c =
     let l = c .before .before in
     let s = l .before .before .before .before .before .before in
     subst (λ (n : ℕ). JudgedAt (bookIn (s .args .book .now)) (s .args .order .now) n (l .loop .found)) (down-last _ _ _ _ _ _ (l .loop .inv .0) (c .before .first-unknown .ensures .at) (c .if1 .taken)) (l .loop .inv .1)
-
-sub-line-end : tie.Need-sub-line-end Inv-loop μ-loop
-sub-line-end c = search needs
 
 -- The lines to be gone over next, where one is unknown.
 next : (c : tie.Else1 Inv-loop μ-loop) → let l = c .before .before in let s = l .before .before .before .before .before .before .args in let f = c .before .first-unknown in
@@ -74,11 +68,11 @@ line-to-fix-spec =
     (tie.spec
     Inv-loop
     μ-loop
-    plainly-requires
+    (λ c κs. search needs)
     loop-holds
     first-unknown-requires
     returns
-    sub-line-end
+    (λ c. search needs)
     line-end-requires
     loop-less
     loop-again)

@@ -32,12 +32,6 @@ key c =
     let w = c .before .put-cut in
     top-key _ _ (tree s .passes) (m .result) _ _ _ _ (m .ensures) (w .ensures .0) (w .ensures .1)
 
-of-tops-requires : tie.Need-of-tops-requires
-of-tops-requires c κs = search needs
-
-slice-aggregate-put-cut : tie.Need-slice-aggregate-put-cut
-slice-aggregate-put-cut c = search needs
-
 put-cut-requires : tie.Need-put-cut-requires
 put-cut-requires c κs =
     let s = c .before .before .before .before .before .before in
@@ -49,12 +43,6 @@ shared-slice-read-many c = omega (arith, c .before .before .before .before .befo
 cast-many : tie.Need-cast-many
 cast-many c = omega (arith, c .shared-slice-known5 .given 4)
 
-sub-find : tie.Need-sub-find
-sub-find c = search needs
-
-part-find-start : tie.Need-part-find-start
-part-find-start c = search needs
-
 part-find-end : tie.Need-part-find-end
 part-find-end c =
     let p = c .before .before .before in
@@ -62,9 +50,6 @@ part-find-end c =
 
 find-requires : tie.Need-find-requires
 find-requires c κs = c .before .before .before .before .before .before .before .before .before .before .before .pre .0 .section Tops .within
-
-around-requires : tie.Need-around-requires
-around-requires c κs = search needs
 
 returns : tie.Need-returns
 returns c =
@@ -76,14 +61,14 @@ pub top-near-spec : {M : Type 1} → statement M
 top-near-spec =
     tie.close
     (tie.spec
-    of-tops-requires
-    slice-aggregate-put-cut
+    (λ c κs. search needs)
+    (λ c. search needs)
     put-cut-requires
     shared-slice-read-many
     cast-many
-    sub-find
-    part-find-start
+    (λ c. search needs)
+    (λ c. search needs)
     part-find-end
     find-requires
-    around-requires
+    (λ c κs. search needs)
     returns)

@@ -135,17 +135,11 @@ head-within c = stage-head _ _ _ _ _ (stage₄ c)
 
 -- ---- at each place
 
-mul-part : tie.Need-mul-part
-mul-part c = search needs
-
 sub-part : tie.Need-sub-part
 sub-part c = stage-within _ _ _ _ _ (stage₀ (c .before .before .before .before))
 
 part-part-start : tie.Need-part-part-start
 part-part-start c = stage-within _ _ _ _ _ (stage₀ (c .before .before .before .before))
-
-part-part-end : tie.Need-part-part-end
-part-part-end c = search needs
 
 list-section-requires : tie.Need-list-section-requires
 list-section-requires c κs =
@@ -164,9 +158,6 @@ sub-part-2 c = stage-within _ _ _ _ _ (stage₁ (c .before .before .before))
 
 part-part-start-2 : tie.Need-part-part-start-2
 part-part-start-2 c = stage-within _ _ _ _ _ (stage₁ (c .before .before .before))
-
-part-part-end-2 : tie.Need-part-part-end-2
-part-part-end-2 c = search needs
 
 list-section-requires-2 : tie.Need-list-section-requires-2
 list-section-requires-2 c κs =
@@ -187,9 +178,6 @@ sub-part-3 c = stage-within _ _ _ _ _ (stage₂ (c .before .before .before))
 part-part-start-3 : tie.Need-part-part-start-3
 part-part-start-3 c = stage-within _ _ _ _ _ (stage₂ (c .before .before .before))
 
-part-part-end-3 : tie.Need-part-part-end-3
-part-part-end-3 c = search needs
-
 list-section-requires-3 : tie.Need-list-section-requires-3
 list-section-requires-3 c κs =
     let p = c .before .before .before .before in
@@ -209,9 +197,6 @@ sub-part-4 c = stage-within _ _ _ _ _ (stage₃ (c .before .before .before))
 part-part-start-4 : tie.Need-part-part-start-4
 part-part-start-4 c = stage-within _ _ _ _ _ (stage₃ (c .before .before .before))
 
-part-part-end-4 : tie.Need-part-part-end-4
-part-part-end-4 c = search needs
-
 list-section-requires-4 : tie.Need-list-section-requires-4
 list-section-requires-4 c κs =
     let p = c .before .before .before .before in
@@ -221,9 +206,6 @@ list-section-requires-4 c κs =
 
 add-used : tie.Need-add-used
 add-used c = omega (arith, used-room (c .before .before .before))
-
-value-requires : tie.Need-value-requires
-value-requires c κs = search needs
 
 slice-write-own : tie.Need-slice-write-own
 slice-write-own c = head-within (c .before .before .before .before) 0 (omega arith)
@@ -289,31 +271,31 @@ pub list-own-spec : {M : Type 1} → statement M
 list-own-spec =
     tie.close
     (tie.spec
-    mul-part
+    (λ c. search needs)
     sub-part
     part-part-start
-    part-part-end
+    (λ c. search needs)
     list-section-requires
     add-tops
     mul-part-2
     sub-part-2
     part-part-start-2
-    part-part-end-2
+    (λ c. search needs)
     list-section-requires-2
     add-lows
     mul-part-3
     sub-part-3
     part-part-start-3
-    part-part-end-3
+    (λ c. search needs)
     list-section-requires-3
     add-middles
     mul-part-4
     sub-part-4
     part-part-start-4
-    part-part-end-4
+    (λ c. search needs)
     list-section-requires-4
     add-used
-    value-requires
+    (λ c κs. search needs)
     slice-write-own
     cast-own
     slice-write-own-2

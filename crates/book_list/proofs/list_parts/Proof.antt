@@ -40,23 +40,11 @@ loop-holds c = let b = c .before .before .before .before in list-start _ _ _ _ _
 is-low-requires : tie.Need-is-low-requires Inv-loop μ-loop
 is-low-requires c κs = omega (arith, c .loop-test .taken, spans-room _ _ (called c .pre .1 .0))
 
-of-middles-requires : tie.Need-of-middles-requires Inv-loop μ-loop
-of-middles-requires c κs = search needs
-
-slice-aggregate-write-entry : tie.Need-slice-aggregate-write-entry Inv-loop μ-loop
-slice-aggregate-write-entry c = search needs
-
 write-entry-requires : tie.Need-write-entry-requires Inv-loop μ-loop
 write-entry-requires c κs =
     let l = c .before .before .before .before in
     let b = called l in
     (b .pre .1 .0, (b .pre .1 .1 .0, (l .loop-test .taken, omega (arith, l .before .loop .inv .spare, line-short _ _ (c .before .of-middles .result) (b .pre .1 .0 .sound) (l .loop-test .taken)))))
-
-sub-enter-once : tie.Need-sub-enter-once Inv-loop μ-loop
-sub-enter-once c = search needs
-
-part-enter-once-start : tie.Need-part-enter-once-start Inv-loop μ-loop
-part-enter-once-start c = search needs
 
 part-enter-once-end : tie.Need-part-enter-once-end Inv-loop μ-loop
 part-enter-once-end c =
@@ -71,12 +59,6 @@ enter-once-requires c κs =
     let l = i .before in
     enter-ready _ _ _ _ _ _ _ _ _ _ (l .before .loop .inv) (l .loop-test .taken) _ (called l .pre .0) (tells i) (w .before .before .before .if1 .taken) _ _ _ (w .before .before .of-middles .ensures) (w .write-entry .ensures .0) (w .write-entry .ensures .1)
 
-add-line : tie.Need-add-line Inv-loop μ-loop
-add-line c = search needs
-
-loop-less : tie.Need-loop-less Inv-loop μ-loop
-loop-less c = search needs
-
 loop-again : tie.Need-loop-again Inv-loop μ-loop
 loop-again c =
     let i = c .before in
@@ -89,9 +71,6 @@ loop-again c =
     (line-entered _ _ _ _ _ _ _ _ _ _ st (l .loop-test .taken) _ least (tells i) (w .0 .taken) _ _ _ (w .1 .ensures) (w .3 .ensures .0) (w .3 .ensures .1) _ _ (w .8 .ensures)))
     (λ w. listing-named _ _ _ _ _ _ _ _ _ _ _ _ _ _ (w .1) (w .2) (w .3) (w .4) (line-passed _ _ _ _ _ _ _ _ _ _ st (l .loop-test .taken) _ least (tells i) (w .0 .left)))
     (c .if1 .came)
-
-same-length : tie.Need-same-length Inv-loop μ-loop
-same-length c = search needs
 
 -- The size of a list by another name.
 sized : (used many : ℕ) (es fs : List Entry) → used ≡ length (sectionWords es) → many ≡ length es → es ≡ fs → _≡_ {A = Size} (record { used = used; many = many }) (extentOf fs)
@@ -111,15 +90,15 @@ list-parts-spec =
     μ-loop
     loop-holds
     is-low-requires
-    of-middles-requires
-    slice-aggregate-write-entry
+    (λ c κs. search needs)
+    (λ c. search needs)
     write-entry-requires
-    sub-enter-once
-    part-enter-once-start
+    (λ c. search needs)
+    (λ c. search needs)
     part-enter-once-end
     enter-once-requires
-    add-line
-    loop-less
+    (λ c. search needs)
+    (λ c. search needs)
     loop-again
-    same-length
+    (λ c. search needs)
     returns)

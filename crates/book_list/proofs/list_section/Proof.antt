@@ -54,35 +54,20 @@ write-entry-requires c κs =
     let b = c .before .before .before .before .before .before .before in
     (b .pre .1 .0, (b .pre .1 .1 .0, (first-line _ (b .pre .1 .0 .sound), whole-room b (c .before .enum-told .given .1))))
 
-enum-told-2 : tie.Need-enum-told-2
-enum-told-2 c = search needs
-
-of-tops-requires : tie.Need-of-tops-requires
-of-tops-requires c κs = search needs
-
 write-entry-requires-2 : tie.Need-write-entry-requires-2
 write-entry-requires-2 c κs =
     let b = c .before .before .before .before .before .before .before .before in
     (b .pre .1 .0, (b .pre .1 .1 .0, (first-line _ (b .pre .1 .0 .sound), top-room b _ (c .before .of-tops .ensures) (c .before .before .enum-told2 .given .1))))
-
-enum-told-3 : tie.Need-enum-told-3
-enum-told-3 c = search needs
 
 list-parts-requires : tie.Need-list-parts-requires
 list-parts-requires c κs =
     let b = c .before .before .before .before .before .before .before in
     (b .pre .0, (b .pre .1 .0, (b .pre .1 .1 .0, (b .pre .1 .1 .1 .0, (b .pre .1 .1 .1 .1 .0, room b Lows (c .before .enum-told3 .given .1))))))
 
-enum-told-4 : tie.Need-enum-told-4
-enum-told-4 c = search needs
-
 list-parts-requires-2 : tie.Need-list-parts-requires-2
 list-parts-requires-2 c κs =
     let b = c .before .before .before .before .before .before .before in
     (b .pre .0, (b .pre .1 .0, (b .pre .1 .1 .0, (b .pre .1 .1 .1 .0, (b .pre .1 .1 .1 .1 .0, room b Middles (c .before .enum-told4 .given .1))))))
-
-same-length : tie.Need-same-length
-same-length c = search needs
 
 returns : tie.Need-returns
 returns c =
@@ -92,9 +77,6 @@ returns c =
     let told = e .enum-told .given .1 in
     asked b Taught told _ _ (written b greatest-depth _ _ _ refl (whole-room b told) (w .write-entry .ensures .0) (w .write-entry .ensures .1))
 
-same-length-2 : tie.Need-same-length-2
-same-length-2 c = search needs
-
 returns-2 : tie.Need-returns-2
 returns-2 c =
     let w = c .before .before in
@@ -103,17 +85,11 @@ returns-2 c =
     let told = o .before .enum-told2 .given .1 in
     asked b Tops told _ _ (written b _ _ _ _ (o .of-tops .ensures) (top-room b _ (o .of-tops .ensures) told) (w .write-entry2 .ensures .0) (w .write-entry2 .ensures .1))
 
-same-length-3 : tie.Need-same-length-3
-same-length-3 c = search needs
-
 returns-3 : tie.Need-returns-3
 returns-3 c =
     let p = c .before .before in
     let e = p .before .before in
     asked (e .before .before .before .before .before .before) Lows (e .enum-told3 .given .1) _ _ (p .list-parts .ensures)
-
-same-length-4 : tie.Need-same-length-4
-same-length-4 c = search needs
 
 returns-4 : tie.Need-returns-4
 returns-4 c =
@@ -127,18 +103,18 @@ list-section-spec =
     (tie.spec
     enum-told
     write-entry-requires
-    enum-told-2
-    of-tops-requires
+    (λ c. search needs)
+    (λ c κs. search needs)
     write-entry-requires-2
-    enum-told-3
+    (λ c. search needs)
     list-parts-requires
-    enum-told-4
+    (λ c. search needs)
     list-parts-requires-2
-    same-length
+    (λ c. search needs)
     returns
-    same-length-2
+    (λ c. search needs)
     returns-2
-    same-length-3
+    (λ c. search needs)
     returns-3
-    same-length-4
+    (λ c. search needs)
     returns-4)

@@ -35,15 +35,6 @@ called c = c .before .before .before .before .before .before
 count-short : (c : tie.After-put-cut) → c .put-cut .result ≤ most-words
 count-short c = let b = called c in omega (arith, c .put-cut .ensures .0, line-short _ _ (b .args .d) (b .pre .0 .sound) (b .pre .1 .1 .0))
 
-sub-put-cut : tie.Need-sub-put-cut
-sub-put-cut c = search needs
-
-part-put-cut-start : tie.Need-part-put-cut-start
-part-put-cut-start c = search needs
-
-part-put-cut-end : tie.Need-part-put-cut-end
-part-put-cut-end c = search needs
-
 put-cut-requires : tie.Need-put-cut-requires
 put-cut-requires c κs =
     let b = c .before .before .before .before .before in
@@ -51,9 +42,6 @@ put-cut-requires c κs =
 
 cast-out : tie.Need-cast-out
 cast-out c = omega (arith, count-short (c .before .before))
-
-slice-write-out : tie.Need-slice-write-out
-slice-write-out c = search needs
 
 same-length : tie.Need-same-length
 same-length c = search needs
@@ -76,12 +64,12 @@ pub write-entry-spec : {M : Type 1} → statement M
 write-entry-spec =
     tie.close
     (tie.spec
-    sub-put-cut
-    part-put-cut-start
-    part-put-cut-end
+    (λ c. search needs)
+    (λ c. search needs)
+    (λ c. search needs)
     put-cut-requires
     cast-out
-    slice-write-out
+    (λ c. search needs)
     slice-write-out-2
     add-result
     same-length

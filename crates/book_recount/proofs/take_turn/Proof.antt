@@ -10,9 +10,6 @@ use Rattle.book_recount.proofs.take_turn.Tie as tie
 gone : (c : tie.After-cause-into) → GoneOver (c .before .before .before .before .before .before .before .before .before .before .args .order .now) (c .cause-into .last .1 .0)
 gone c = c .cause-into .ensures .1 .0 (c .before .before .before .before .before .before .before .before .before .before .pre .0)
 
-cause-into-requires : tie.Need-cause-into-requires
-cause-into-requires c κs = search needs
-
 level-lines-requires : tie.Need-level-lines-requires
 level-lines-requires c κs = let g = c .before .before .before .before in let p = g .before .before .before .before .before .before .before .before .before .before .pre in (gone g, omega (arith, passed-short _ (p .0), p .1 .1 .0 .1))
 
@@ -22,21 +19,6 @@ tally-section-requires c κs =
     let p = g .before .before .before .before .before .before .before .before .before .before .pre in
     (p .1 .0, (gone g, (c .before .before .before .before .before .before .before .level-lines .ensures .0, (p .1 .1 .0 .2, (p .1 .1 .1 .0, p .1 .1 .1 .1)))))
 
-same-length : tie.Need-same-length
-same-length c = search needs
-
-same-length-2 : tie.Need-same-length-2
-same-length-2 c = search needs
-
-same-length-3 : tie.Need-same-length-3
-same-length-3 c = search needs
-
-same-length-4 : tie.Need-same-length-4
-same-length-4 c = search needs
-
-same-length-5 : tie.Need-same-length-5
-same-length-5 c = search needs
-
 returns : tie.Need-returns
 returns c = c .before .before .before .before .before .before .tally-section .ensures
 
@@ -44,12 +26,12 @@ pub take-turn-spec : {M : Type 1} → statement M
 take-turn-spec =
     tie.close
     (tie.spec
-    cause-into-requires
+    (λ c κs. search needs)
     level-lines-requires
     tally-section-requires
-    same-length
-    same-length-2
-    same-length-3
-    same-length-4
-    same-length-5
+    (λ c. search needs)
+    (λ c. search needs)
+    (λ c. search needs)
+    (λ c. search needs)
+    (λ c. search needs)
     returns)

@@ -35,12 +35,6 @@ put-cut-requires c κs =
     let b = c .before .before .before .before .before .before .before .before .before in
     (b .pre .0, (b .pre .1 .0, (b .pre .1 .1 .0, omega (arith, line-short _ _ (b .args .d) (b .pre .0 .sound) (b .pre .1 .1 .0), b .pre .1 .1 .1 .0))))
 
-sub-tally-once : tie.Need-sub-tally-once
-sub-tally-once c = search needs
-
-part-tally-once-start : tie.Need-part-tally-once-start
-part-tally-once-start c = search needs
-
 part-tally-once-end : tie.Need-part-tally-once-end
 part-tally-once-end c = count-fits (c .before .before .before .before .before)
 
@@ -52,15 +46,6 @@ tally-once-requires c κs =
     let few : Few (talliedOnce (x .turn .by) (x .turn .number) (soughtIn (take (w .put-cut .result - 0) (drop 0 (scratch w))) (listed (x .starts .now) (x .book .now))) (x .marks .now) (x .counts .now)) =
     subst (λ (z : List ℕ). Few (talliedOnce (x .turn .by) (x .turn .number) (soughtIn z (listed (x .starts .now) (x .book .now))) (x .marks .now) (x .counts .now))) (sym (lent w)) (b .pre .1 .1 .1 .1 .1 .1) in
     (b .pre .1 .1 .1 .1 .0, (b .pre .1 .1 .1 .1 .1 .0, few))
-
-same-length : tie.Need-same-length
-same-length c = search needs
-
-same-length-2 : tie.Need-same-length-2
-same-length-2 c = search needs
-
-same-length-3 : tie.Need-same-length-3
-same-length-3 c = search needs
 
 returns : tie.Need-returns
 returns c =
@@ -80,11 +65,11 @@ tally-cut-spec =
     tie.close
     (tie.spec
     put-cut-requires
-    sub-tally-once
-    part-tally-once-start
+    (λ c. search needs)
+    (λ c. search needs)
     part-tally-once-end
     tally-once-requires
-    same-length
-    same-length-2
-    same-length-3
+    (λ c. search needs)
+    (λ c. search needs)
+    (λ c. search needs)
     returns)

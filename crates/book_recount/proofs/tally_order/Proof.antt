@@ -82,29 +82,8 @@ lent-entry Q p q =
     subst (λ (n : ℕ). Q n (e .key)) (count-at (b .args .book .now) (b .args .at))
     (subst (Q (getD (b .args .book .now) (b .args .at + 1) 0)) (key-at (b .args .book .now) (b .args .at) _ (p .past .ensures)) q)
 
-add-start : tie.Need-add-start
-add-start c = search needs
-
 past-requires : tie.Need-past-requires
 past-requires c κs = room (c .before .before .before .before .before .before .before)
-
-add-by : tie.Need-add-by
-add-by c = search needs
-
-mul-by : tie.Need-mul-by
-mul-by c = search needs
-
-shared-slice-read-by : tie.Need-shared-slice-read-by
-shared-slice-read-by c = search needs
-
-mul-take-turn : tie.Need-mul-take-turn
-mul-take-turn c = search needs
-
-sub-take-turn : tie.Need-sub-take-turn
-sub-take-turn c = search needs
-
-part-take-turn-start : tie.Need-part-take-turn-start
-part-take-turn-start c = search needs
 
 part-take-turn-end : tie.Need-part-take-turn-end
 part-take-turn-end c = lent-within (c .before)
@@ -114,21 +93,6 @@ take-turn-requires c κs =
     let p = c .before .before .before .before .before .before .before in
     let b = called p in
     (ordered p, (b .pre .1 .0, (b .pre .1 .1 .0, (b .pre .1 .1 .1 .0, entry-lent (ReadyFor b) p (b .pre .1 .1 .1 .1)))))
-
-same-length : tie.Need-same-length
-same-length c = search needs
-
-same-length-2 : tie.Need-same-length-2
-same-length-2 c = search needs
-
-same-length-3 : tie.Need-same-length-3
-same-length-3 c = search needs
-
-same-length-4 : tie.Need-same-length-4
-same-length-4 c = search needs
-
-same-length-5 : tie.Need-same-length-5
-same-length-5 c = search needs
 
 returns : tie.Need-returns
 returns c =
@@ -140,19 +104,19 @@ pub tally-order-spec : {M : Type 1} → statement M
 tally-order-spec =
     tie.close
     (tie.spec
-    add-start
+    (λ c. search needs)
     past-requires
-    add-by
-    mul-by
-    shared-slice-read-by
-    mul-take-turn
-    sub-take-turn
-    part-take-turn-start
+    (λ c. search needs)
+    (λ c. search needs)
+    (λ c. search needs)
+    (λ c. search needs)
+    (λ c. search needs)
+    (λ c. search needs)
     part-take-turn-end
     take-turn-requires
-    same-length
-    same-length-2
-    same-length-3
-    same-length-4
-    same-length-5
+    (λ c. search needs)
+    (λ c. search needs)
+    (λ c. search needs)
+    (λ c. search needs)
+    (λ c. search needs)
     returns)

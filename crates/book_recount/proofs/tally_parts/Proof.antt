@@ -53,9 +53,6 @@ loop-holds c = let b = c .before .before .before .before .before .before .before
 is-low-requires : tie.Need-is-low-requires Inv-loop μ-loop
 is-low-requires c κs = omega (arith, c .loop-test .taken, spans-room _ _ (called c .pre .1 .0))
 
-of-middles-requires : tie.Need-of-middles-requires Inv-loop μ-loop
-of-middles-requires c κs = search needs
-
 tally-cut-requires : tie.Need-tally-cut-requires Inv-loop μ-loop
 tally-cut-requires c κs =
     let m = c .before .before .before in
@@ -92,12 +89,6 @@ returns c =
     let i = t .before .before .before .before .before .before in
     let unknown = sym (not-true _ (c .if2 .taken)) ∙ t .tally-cut .ensures .0 in
     refused-taken _ _ _ _ _ _ _ _ (turn-unknown _ _ _ _ _ _ _ _ _ _ _ (l .before .loop .inv .0) (l .loop-test .taken) _ (called l .pre .0) (tells i) (t .before .before .before .before .before .if1 .taken) _ (t .before .before .before .before .of-middles .ensures) unknown)
-
-add-line : tie.Need-add-line Inv-loop μ-loop
-add-line c = search needs
-
-loop-less : tie.Need-loop-less Inv-loop μ-loop
-loop-less c = search needs
 
 loop-again : tie.Need-loop-again Inv-loop μ-loop
 loop-again c =
@@ -137,14 +128,14 @@ tally-parts-spec =
     μ-loop
     loop-holds
     is-low-requires
-    of-middles-requires
+    (λ c κs. search needs)
     tally-cut-requires
     same-length
     same-length-2
     same-length-3
     returns
-    add-line
-    loop-less
+    (λ c. search needs)
+    (λ c. search needs)
     loop-again
     same-length-4
     same-length-5

@@ -67,12 +67,6 @@ tally-cut-requires c κs =
     let few = key-few _ _ _ _ _ _ (b .pre .1 .1 .1 .1 .0 .sorted) (ready-in b Taught (e .enum-told .given .1)) in
     (b .pre .1 .0, (b .pre .1 .1 .0, (first-line _ (b .pre .1 .0 .sound), (b .pre .1 .1 .1 .0, (b .pre .1 .1 .1 .1 .0, (long b, few))))))
 
-enum-told-2 : tie.Need-enum-told-2
-enum-told-2 c = search needs
-
-of-tops-requires : tie.Need-of-tops-requires
-of-tops-requires c κs = search needs
-
 tally-cut-requires-2 : tie.Need-tally-cut-requires-2
 tally-cut-requires-2 c κs =
     let o = c .before .before .before in
@@ -81,32 +75,17 @@ tally-cut-requires-2 c κs =
     let ready = subst (ReadyFor b) (sym (top-is b _ (o .of-tops .ensures))) (ready-in b Tops (e .enum-told2 .given .1)) in
     (b .pre .1 .0, (b .pre .1 .1 .0, (first-line _ (b .pre .1 .0 .sound), (b .pre .1 .1 .1 .0, (b .pre .1 .1 .1 .1 .0, (long b, key-few _ _ _ _ _ _ (b .pre .1 .1 .1 .1 .0 .sorted) ready))))))
 
-enum-told-3 : tie.Need-enum-told-3
-enum-told-3 c = search needs
-
 tally-parts-requires : tie.Need-tally-parts-requires
 tally-parts-requires c κs =
     let e = c .before .before .before in
     let b = e .before .before .before .before .before .before .before .before .before .before in
     (b .pre .0, (b .pre .1 .0, (b .pre .1 .1 .0, (b .pre .1 .1 .1 .0, (b .pre .1 .1 .1 .1 .0, ready-in b Lows (e .enum-told3 .given .1))))))
 
-enum-told-4 : tie.Need-enum-told-4
-enum-told-4 c = search needs
-
 tally-parts-requires-2 : tie.Need-tally-parts-requires-2
 tally-parts-requires-2 c κs =
     let e = c .before .before .before in
     let b = e .before .before .before .before .before .before .before .before .before .before in
     (b .pre .0, (b .pre .1 .0, (b .pre .1 .1 .0, (b .pre .1 .1 .1 .0, (b .pre .1 .1 .1 .1 .0, ready-in b Middles (e .enum-told4 .given .1))))))
-
-same-length : tie.Need-same-length
-same-length c = search needs
-
-same-length-2 : tie.Need-same-length-2
-same-length-2 c = search needs
-
-same-length-3 : tie.Need-same-length-3
-same-length-3 c = search needs
 
 returns : tie.Need-returns
 returns c =
@@ -117,15 +96,6 @@ returns c =
     let a = t .tally-cut .ensures in
     subst (TakenFor b _ _ _) (counted-is b Taught told)
     (key-taken _ _ _ _ _ _ (b .pre .1 .1 .1 .1 .0 .sorted) (ready-in b Taught told) _ _ _ (a .0) (a .1 .0) (a .1 .1))
-
-same-length-4 : tie.Need-same-length-4
-same-length-4 c = search needs
-
-same-length-5 : tie.Need-same-length-5
-same-length-5 c = search needs
-
-same-length-6 : tie.Need-same-length-6
-same-length-6 c = search needs
 
 returns-2 : tie.Need-returns-2
 returns-2 c =
@@ -139,30 +109,12 @@ returns-2 c =
     subst (TakenFor b _ _ _) (one ∙ counted-is b Tops told)
     (key-taken _ _ _ _ _ _ (b .pre .1 .1 .1 .1 .0 .sorted) (subst (ReadyFor b) (sym one) (ready-in b Tops told)) _ _ _ (a .0) (a .1 .0) (a .1 .1))
 
-same-length-7 : tie.Need-same-length-7
-same-length-7 c = search needs
-
-same-length-8 : tie.Need-same-length-8
-same-length-8 c = search needs
-
-same-length-9 : tie.Need-same-length-9
-same-length-9 c = search needs
-
 returns-3 : tie.Need-returns-3
 returns-3 c =
     let t = c .before .before .before .before .before .before in
     let e = t .before .before .before .before in
     let b = e .before .before .before .before .before .before .before .before .before .before in
     subst (TakenFor b _ _ _) (counted-is b Lows (e .enum-told3 .given .1)) (t .tally-parts .ensures)
-
-same-length-10 : tie.Need-same-length-10
-same-length-10 c = search needs
-
-same-length-11 : tie.Need-same-length-11
-same-length-11 c = search needs
-
-same-length-12 : tie.Need-same-length-12
-same-length-12 c = search needs
 
 returns-4 : tie.Need-returns-4
 returns-4 c =
@@ -177,26 +129,26 @@ tally-section-spec =
     (tie.spec
     enum-told
     tally-cut-requires
-    enum-told-2
-    of-tops-requires
+    (λ c. search needs)
+    (λ c κs. search needs)
     tally-cut-requires-2
-    enum-told-3
+    (λ c. search needs)
     tally-parts-requires
-    enum-told-4
+    (λ c. search needs)
     tally-parts-requires-2
-    same-length
-    same-length-2
-    same-length-3
+    (λ c. search needs)
+    (λ c. search needs)
+    (λ c. search needs)
     returns
-    same-length-4
-    same-length-5
-    same-length-6
+    (λ c. search needs)
+    (λ c. search needs)
+    (λ c. search needs)
     returns-2
-    same-length-7
-    same-length-8
-    same-length-9
+    (λ c. search needs)
+    (λ c. search needs)
+    (λ c. search needs)
     returns-3
-    same-length-10
-    same-length-11
-    same-length-12
+    (λ c. search needs)
+    (λ c. search needs)
+    (λ c. search needs)
     returns-4)

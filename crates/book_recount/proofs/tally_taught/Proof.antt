@@ -223,15 +223,6 @@ loop-holds c =
     let b = c .before .before .before .before .before in
     (left-first (b .args .book .now) (b .args .starts .now) _ (b .args .section) (b .args .counts .now) _ (b .pre .0) (b .pre .1 .1 .0 .0) (b .pre .1 .1 .1), refl, refl, refl)
 
-slice-aggregate-tally-order : tie.Need-slice-aggregate-tally-order Inv-loop μ-loop
-slice-aggregate-tally-order c = search needs
-
-slice-aggregate-tally-order-2 : tie.Need-slice-aggregate-tally-order-2 Inv-loop μ-loop
-slice-aggregate-tally-order-2 c = search needs
-
-slice-aggregate-tally-order-3 : tie.Need-slice-aggregate-tally-order-3 Inv-loop μ-loop
-slice-aggregate-tally-order-3 c = search needs
-
 tally-order-requires : tie.Need-tally-order-requires Inv-loop μ-loop
 tally-order-requires c κs =
     let t = c .before .before .before .before .before in
@@ -263,12 +254,6 @@ returns c =
 
 past-requires : tie.Need-past-requires Inv-loop μ-loop
 past-requires c κs = turn-ends (reached (c .before .before .before .before .before .before .before .before))
-
-sub-left : tie.Need-sub-left Inv-loop μ-loop
-sub-left c = search needs
-
-loop-less : tie.Need-loop-less Inv-loop μ-loop
-loop-less c = search needs
 
 loop-again : tie.Need-loop-again Inv-loop μ-loop
 loop-again c =
@@ -304,16 +289,16 @@ tally-taught-spec =
     μ-loop
     shared-slice-read-left
     loop-holds
-    slice-aggregate-tally-order
-    slice-aggregate-tally-order-2
-    slice-aggregate-tally-order-3
+    (λ c. search needs)
+    (λ c. search needs)
+    (λ c. search needs)
     tally-order-requires
     same-length
     same-length-2
     returns
     past-requires
-    sub-left
-    loop-less
+    (λ c. search needs)
+    (λ c. search needs)
     loop-again
     same-length-3
     same-length-4

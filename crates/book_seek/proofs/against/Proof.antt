@@ -21,17 +21,8 @@ middle-lies c = let s = c .before .before .before .before in cut-lies _ (s .args
 mul-standing : tie.Need-mul-standing
 mul-standing c = omega (arith, low-lies c, c .before .before .before .before .pre .0)
 
-sub-standing : tie.Need-sub-standing
-sub-standing c = search needs
-
-part-standing-start : tie.Need-part-standing-start
-part-standing-start c = search needs
-
 part-standing-end : tie.Need-part-standing-end
 part-standing-end c = omega (arith, low-lies c)
-
-standing-requires : tie.Need-standing-requires
-standing-requires c κs = search needs
 
 returns : tie.Need-returns
 returns c =
@@ -41,17 +32,8 @@ returns c =
 mul-standing-2 : tie.Need-mul-standing-2
 mul-standing-2 c = omega (arith, middle-lies c, c .before .before .before .before .pre .0)
 
-sub-standing-2 : tie.Need-sub-standing-2
-sub-standing-2 c = search needs
-
-part-standing-start-2 : tie.Need-part-standing-start-2
-part-standing-start-2 c = search needs
-
 part-standing-end-2 : tie.Need-part-standing-end-2
 part-standing-end-2 c = omega (arith, middle-lies c)
-
-standing-requires-2 : tie.Need-standing-requires-2
-standing-requires-2 c κs = search needs
 
 returns-2 : tie.Need-returns-2
 returns-2 c =
@@ -63,14 +45,14 @@ against-spec =
     tie.close
     (tie.spec
     mul-standing
-    sub-standing
-    part-standing-start
+    (λ c. search needs)
+    (λ c. search needs)
     part-standing-end
-    standing-requires
+    (λ c κs. search needs)
     returns
     mul-standing-2
-    sub-standing-2
-    part-standing-start-2
+    (λ c. search needs)
+    (λ c. search needs)
     part-standing-end-2
-    standing-requires-2
+    (λ c κs. search needs)
     returns-2)

@@ -80,9 +80,6 @@ judged k w told is =
 lines-holds : tie.Need-lines-holds Inv-loop μ-loop Inv-lines μ-lines
 lines-holds c = (omega (arith, c .before .before .before .before .pre .1 .1 .0 .0), refl, refl)
 
-plainly-requires : tie.Need-plainly-requires Inv-loop μ-loop Inv-lines μ-lines
-plainly-requires c κs = search needs
-
 slice-aggregate-seek : tie.Need-slice-aggregate-seek Inv-loop μ-loop Inv-lines μ-lines
 slice-aggregate-seek c = sym (c .before .before .lines .inv .1)
 
@@ -103,15 +100,6 @@ add-start c = omega (arith, room c)
 past-requires : tie.Need-past-requires Inv-loop μ-loop Inv-lines μ-lines
 past-requires c κs = omega (arith, room c)
 
-mul-against : tie.Need-mul-against Inv-loop μ-loop Inv-lines μ-lines
-mul-against c = search needs
-
-sub-against : tie.Need-sub-against Inv-loop μ-loop Inv-lines μ-lines
-sub-against c = search needs
-
-part-against-start : tie.Need-part-against-start Inv-loop μ-loop Inv-lines μ-lines
-part-against-start c = search needs
-
 part-against-end : tie.Need-part-against-end Inv-loop μ-loop Inv-lines μ-lines
 part-against-end c = rw (c .past .ensures) (omega (arith, room (c .before)))
 
@@ -124,12 +112,6 @@ against-requires c κs = let S = c .before .before .before .before .before .befo
 enum-told : tie.Need-enum-told Inv-loop μ-loop Inv-lines μ-lines
 enum-told c = search needs
 
-sub-left : tie.Need-sub-left Inv-loop μ-loop Inv-lines μ-lines
-sub-left c = search needs
-
-loop-less : tie.Need-loop-less Inv-loop μ-loop Inv-lines μ-lines
-loop-less c = search needs
-
 loop-again : tie.Need-loop-again Inv-loop μ-loop Inv-lines μ-lines
 loop-again c =
     let a = c .before .before in
@@ -137,9 +119,6 @@ loop-again c =
     let k = i .before in
     let p = a .before .before .before .past in
     searched-past _ _ _ _ _ _ _ (k .loop .inv) (p .result) (i .loop-test .taken) (p .ensures) (sym (a .against .ensures) ∙ c .enum-told .given .1)
-
-enum-told-2 : tie.Need-enum-told-2 Inv-loop μ-loop Inv-lines μ-lines
-enum-told-2 c = search needs
 
 lines-less : tie.Need-lines-less Inv-loop μ-loop Inv-lines μ-lines
 lines-less c = omega (arith, c .before .before .before .before .before .before .before .before .before .before .before .if1 .left)
@@ -157,9 +136,6 @@ lines-again c =
       l .lines .inv .2 ∙ within-known _ _ _ _ _ _ (l .before .before .before .before .before .pre .1 .0 .sound) (omega (arith, sk .before .before .if1 .left, l .before .before .before .before .before .pre .1 .1 .0 .1)) (sk .seek .ensures) _ (sk .before .before .if1 .left)
           (there-told _ _ _ (sk .seek .ensures .sorted) _ (searched-here _ _ _ _ _ _ _ (k .loop .inv) (p .result) (i .loop-test .taken) (p .ensures) (sym (a .against .ensures) ∙ c .enum-told2 .given .1))),
     )
-
-enum-told-3 : tie.Need-enum-told-3 Inv-loop μ-loop Inv-lines μ-lines
-enum-told-3 c = search needs
 
 slice-aggregate-unknown : tie.Need-slice-aggregate-unknown Inv-loop μ-loop Inv-lines μ-lines
 slice-aggregate-unknown c = let sk = c .before .before .before .before .before .before .before .before .before .before in sym (sk .seek .kept .1 .1 .1 .1 .1 .1 .0 ∙ sk .before .before .before .lines .inv .1)
@@ -208,27 +184,27 @@ first-unknown-spec =
     Inv-lines
     μ-lines
     lines-holds
-    plainly-requires
+    (λ c κs. search needs)
     slice-aggregate-seek
     seek-requires
     add-line
     loop-holds
     add-start
     past-requires
-    mul-against
-    sub-against
-    part-against-start
+    (λ c. search needs)
+    (λ c. search needs)
+    (λ c. search needs)
     part-against-end
     slice-aggregate-against
     against-requires
     enum-told
-    sub-left
-    loop-less
+    (λ c. search needs)
+    (λ c. search needs)
     loop-again
-    enum-told-2
+    (λ c. search needs)
     lines-less
     lines-again
-    enum-told-3
+    (λ c. search needs)
     slice-aggregate-unknown
     unknown-requires
     slice-aggregate-unknown-2

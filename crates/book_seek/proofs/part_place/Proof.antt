@@ -21,17 +21,8 @@ middle-lies c = let s = c .before .before .before .before in cut-lies _ (s .args
 mul-place-at : tie.Need-mul-place-at
 mul-place-at c = omega (arith, low-lies c, c .before .before .before .before .pre .0 .0)
 
-sub-place-at : tie.Need-sub-place-at
-sub-place-at c = search needs
-
-part-place-at-start : tie.Need-part-place-at-start
-part-place-at-start c = search needs
-
 part-place-at-end : tie.Need-part-place-at-end
 part-place-at-end c = omega (arith, low-lies c)
-
-place-at-requires : tie.Need-place-at-requires
-place-at-requires c κs = search needs
 
 returns : tie.Need-returns
 returns c =
@@ -41,17 +32,8 @@ returns c =
 mul-place-at-2 : tie.Need-mul-place-at-2
 mul-place-at-2 c = omega (arith, middle-lies c, c .before .before .before .before .pre .0 .0)
 
-sub-place-at-2 : tie.Need-sub-place-at-2
-sub-place-at-2 c = search needs
-
-part-place-at-start-2 : tie.Need-part-place-at-start-2
-part-place-at-start-2 c = search needs
-
 part-place-at-end-2 : tie.Need-part-place-at-end-2
 part-place-at-end-2 c = omega (arith, middle-lies c)
-
-place-at-requires-2 : tie.Need-place-at-requires-2
-place-at-requires-2 c κs = search needs
 
 returns-2 : tie.Need-returns-2
 returns-2 c =
@@ -63,14 +45,14 @@ part-place-spec =
     tie.close
     (tie.spec
     mul-place-at
-    sub-place-at
-    part-place-at-start
+    (λ c. search needs)
+    (λ c. search needs)
     part-place-at-end
-    place-at-requires
+    (λ c κs. search needs)
     returns
     mul-place-at-2
-    sub-place-at-2
-    part-place-at-start-2
+    (λ c. search needs)
+    (λ c. search needs)
     part-place-at-end-2
-    place-at-requires-2
+    (λ c κs. search needs)
     returns-2)

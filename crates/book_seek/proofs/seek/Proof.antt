@@ -47,9 +47,6 @@ returns c =
     let t = c .before .before in
     seeks-low _ _ _ _ _ (s .pre .0) (s .pre .1 .0) (line-here s) _ _ _ (sym (t .before .is-low .ensures) ∙ t .if1 .taken) (ap (λ (n : ℕ). n * 2) (c .line-end .ensures)) refl
 
-of-middles-requires : tie.Need-of-middles-requires
-of-middles-requires c κs = search needs
-
 put-cut-requires : tie.Need-put-cut-requires
 put-cut-requires c κs =
     let s = c .before .before .before .before .before .before .before .before .before in
@@ -61,9 +58,6 @@ shared-slice-read-many-2 c = omega (arith, c .before .before .before .before .be
 
 cast-many-2 : tie.Need-cast-many-2
 cast-many-2 c = omega (arith, c .shared-slice-known6 .given 6)
-
-same-length : tie.Need-same-length
-same-length c = search needs
 
 returns-2 : tie.Need-returns-2
 returns-2 c =
@@ -84,9 +78,9 @@ seek-spec =
     line-end-requires
     mul-to
     returns
-    of-middles-requires
+    (λ c κs. search needs)
     put-cut-requires
     shared-slice-read-many-2
     cast-many-2
-    same-length
+    (λ c. search needs)
     returns-2)

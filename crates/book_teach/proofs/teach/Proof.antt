@@ -7,29 +7,11 @@ use Rattle.book_teaching.proofs.Outcomes.{teach-unheld}
 use Rattle.book_teach.proofs.teach.Statement.{statement}
 use Rattle.book_teach.proofs.teach.Tie as tie
 
-in-form-requires : tie.Need-in-form-requires
-in-form-requires c κs = search needs
-
-enum-known-number : tie.Need-enum-known-number
-enum-known-number c = search needs
-
-answered-requires : tie.Need-answered-requires
-answered-requires c κs = search needs
-
-enum-known-places : tie.Need-enum-known-places
-enum-known-places c = search needs
-
 teach-order-requires : tie.Need-teach-order-requires
 teach-order-requires c κs = holds _ _ (sym (c .before .before .before .before .in-form .ensures) ∙ c .before .before .places .given .1)
 
-same-length : tie.Need-same-length
-same-length c = search needs
-
 returns : tie.Need-returns
 returns c = told _ _ _ (c .answered .ensures) ∙ teach-unheld _ _ _ (sym (c .before .before .before .before .in-form .ensures) ∙ c .before .before .number .given .1)
-
-same-length-2 : tie.Need-same-length-2
-same-length-2 c = search needs
 
 returns-2 : tie.Need-returns-2
 returns-2 c = search needs
@@ -38,12 +20,12 @@ pub teach-spec : {M : Type 1} → statement M
 teach-spec =
     tie.close
     (tie.spec
-    in-form-requires
-    enum-known-number
-    answered-requires
-    enum-known-places
+    (λ c κs. search needs)
+    (λ c. search needs)
+    (λ c κs. search needs)
+    (λ c. search needs)
     teach-order-requires
-    same-length
+    (λ c. search needs)
     returns
-    same-length-2
+    (λ c. search needs)
     returns-2)

@@ -29,48 +29,18 @@ listed c =
     let o = c .before .before .before .before .before .before .before .before .before .before in
     own-holds _ _ _ (o .before .before .before .before .before .before .pre) (ordered o) _ _ (c .list-own .ensures .0) (c .list-own .ensures .1)
 
-slice-aggregate-cause-into : tie.Need-slice-aggregate-cause-into
-slice-aggregate-cause-into c = search needs
-
-cause-into-requires : tie.Need-cause-into-requires
-cause-into-requires c κs = search needs
-
-answered-requires : tie.Need-answered-requires
-answered-requires c κs = search needs
-
 returns : tie.Need-returns
 returns c =
     let s = c .before .before .before .before .before .before .before in
     told _ _ _ (c .answered .ensures) ∙ teach-refused _ _ _ (s .pre) _ (c .before .before .before .cause-into .ensures .0) (c .before .if1 .taken)
-
-slice-read-if2 : tie.Need-slice-read-if2
-slice-read-if2 c = search needs
-
-answered-requires-2 : tie.Need-answered-requires-2
-answered-requires-2 c κs = search needs
 
 returns-2 : tie.Need-returns-2
 returns-2 c =
     let o = c .before .before .before in
     told _ _ _ (c .answered2 .ensures) ∙ teach-full _ _ _ (o .before .before .before .before .before .before .pre) (ordered o) (c .before .if2 .taken)
 
-slice-aggregate-level-lines : tie.Need-slice-aggregate-level-lines
-slice-aggregate-level-lines c = search needs
-
-slice-aggregate-level-lines-2 : tie.Need-slice-aggregate-level-lines-2
-slice-aggregate-level-lines-2 c = search needs
-
 level-lines-requires : tie.Need-level-lines-requires
 level-lines-requires c κs = let o = c .before .before .before .before in (gone o, omega (arith, passed-short _ (ordered o)))
-
-slice-aggregate-list-own : tie.Need-slice-aggregate-list-own
-slice-aggregate-list-own c = search needs
-
-slice-aggregate-list-own-2 : tie.Need-slice-aggregate-list-own-2
-slice-aggregate-list-own-2 c = search needs
-
-slice-aggregate-list-own-3 : tie.Need-slice-aggregate-list-own-3
-slice-aggregate-list-own-3 c = search needs
 
 list-own-requires : tie.Need-list-own-requires
 list-own-requires c κs =
@@ -78,19 +48,10 @@ list-own-requires c κs =
     let s = o .before .before .before .before .before .before in
     (allowed _ _ (s .pre), (gone o, (c .before .before .before .before .level-lines .ensures .0, (omega arith, (all-zeros own-words, refl)))))
 
-slice-aggregate-weigh-book : tie.Need-slice-aggregate-weigh-book
-slice-aggregate-weigh-book c = search needs
-
 weigh-book-requires : tie.Need-weigh-book-requires
 weigh-book-requires c κs =
     let l = c .before .before .before in
     (l .before .before .before .before .before .before .before .before .before .before .before .before .before .before .before .before .pre, listed l)
-
-answered-requires-3 : tie.Need-answered-requires-3
-answered-requires-3 c κs = search needs
-
-same-length : tie.Need-same-length
-same-length c = search needs
 
 returns-3 : tie.Need-returns-3
 returns-3 c =
@@ -106,12 +67,6 @@ sub-if4 c =
     let s = c .before .before .before .before .before .before .before .before .before .before .before .before .before .before .before .before .before .before .before .before .before .before in
     used-room _ _ (s .pre)
 
-answered-requires-4 : tie.Need-answered-requires-4
-answered-requires-4 c κs = search needs
-
-same-length-2 : tie.Need-same-length-2
-same-length-2 c = search needs
-
 returns-4 : tie.Need-returns-4
 returns-4 c =
     let r = c .before .before .before .before in
@@ -122,9 +77,6 @@ returns-4 c =
     told _ _ _ (c .answered4 .ensures)
     ∙ teach-crowded _ _ _ (s .pre) (ordered o) _ _ (l .list-own .ensures .0) (l .list-own .ensures .1) _ (w .weigh-book .ensures) (l .before .before .before .before .before .before .before .before .if2 .left) (r .if3 .left) (c .before .if4 .taken)
 
-slice-aggregate-change-book : tie.Need-slice-aggregate-change-book
-slice-aggregate-change-book c = search needs
-
 change-book-requires : tie.Need-change-book-requires
 change-book-requires c κs =
     let r = c .before .before .before .before .before in
@@ -134,12 +86,6 @@ change-book-requires c κs =
     let s = o .before .before .before .before .before .before in
     let ready = teach-ready _ _ _ (s .pre) (ordered o) _ _ (l .list-own .ensures .0) (l .list-own .ensures .1) _ (w .weigh-book .ensures) (l .before .before .before .before .before .before .before .before .if2 .left) (r .if3 .left) (c .before .before .if4 .left) in
     (s .pre, (listed l, (ready, ap (λ (x : BookWeighed). x .each) (w .weigh-book .ensures))))
-
-answered-requires-5 : tie.Need-answered-requires-5
-answered-requires-5 c κs = search needs
-
-same-length-3 : tie.Need-same-length-3
-same-length-3 c = search needs
 
 returns-5 : tie.Need-returns-5
 returns-5 c =
@@ -157,31 +103,31 @@ pub teach-order-spec : {M : Type 1} → statement M
 teach-order-spec =
     tie.close
     (tie.spec
-    slice-aggregate-cause-into
-    cause-into-requires
-    answered-requires
+    (λ c. search needs)
+    (λ c κs. search needs)
+    (λ c κs. search needs)
     returns
-    slice-read-if2
-    answered-requires-2
+    (λ c. search needs)
+    (λ c κs. search needs)
     returns-2
-    slice-aggregate-level-lines
-    slice-aggregate-level-lines-2
+    (λ c. search needs)
+    (λ c. search needs)
     level-lines-requires
-    slice-aggregate-list-own
-    slice-aggregate-list-own-2
-    slice-aggregate-list-own-3
+    (λ c. search needs)
+    (λ c. search needs)
+    (λ c. search needs)
     list-own-requires
-    slice-aggregate-weigh-book
+    (λ c. search needs)
     weigh-book-requires
-    answered-requires-3
-    same-length
+    (λ c κs. search needs)
+    (λ c. search needs)
     returns-3
     sub-if4
-    answered-requires-4
-    same-length-2
+    (λ c κs. search needs)
+    (λ c. search needs)
     returns-4
-    slice-aggregate-change-book
+    (λ c. search needs)
     change-book-requires
-    answered-requires-5
-    same-length-3
+    (λ c κs. search needs)
+    (λ c. search needs)
     returns-5)

@@ -28,37 +28,13 @@ listed c =
     let o = c .before .before .before .before .before .before .before .before in
     own-holds _ _ _ (o .before .before .before .before .before .before .pre) (ordered o) _ _ (c .list-own .ensures .0) (c .list-own .ensures .1)
 
-slice-aggregate-cause-into : tie.Need-slice-aggregate-cause-into
-slice-aggregate-cause-into c = search needs
-
-cause-into-requires : tie.Need-cause-into-requires
-cause-into-requires c κs = search needs
-
-answered-requires : tie.Need-answered-requires
-answered-requires c κs = search needs
-
 returns : tie.Need-returns
 returns c =
     let s = c .before .before .before .before .before .before .before in
     told _ _ _ (c .answered .ensures) ∙ withdraw-refused _ _ _ (s .pre) _ (c .before .before .before .cause-into .ensures .0) (c .before .if1 .taken)
 
-slice-aggregate-level-lines : tie.Need-slice-aggregate-level-lines
-slice-aggregate-level-lines c = search needs
-
-slice-aggregate-level-lines-2 : tie.Need-slice-aggregate-level-lines-2
-slice-aggregate-level-lines-2 c = search needs
-
 level-lines-requires : tie.Need-level-lines-requires
 level-lines-requires c κs = let o = c .before .before in (gone o, omega (arith, passed-short _ (ordered o)))
-
-slice-aggregate-list-own : tie.Need-slice-aggregate-list-own
-slice-aggregate-list-own c = search needs
-
-slice-aggregate-list-own-2 : tie.Need-slice-aggregate-list-own-2
-slice-aggregate-list-own-2 c = search needs
-
-slice-aggregate-list-own-3 : tie.Need-slice-aggregate-list-own-3
-slice-aggregate-list-own-3 c = search needs
 
 list-own-requires : tie.Need-list-own-requires
 list-own-requires c κs =
@@ -66,19 +42,10 @@ list-own-requires c κs =
     let s = o .before .before .before .before .before .before in
     (allowed _ _ (s .pre), (gone o, (c .before .before .before .before .level-lines .ensures .0, (omega arith, (all-zeros own-words, refl)))))
 
-slice-aggregate-weigh-section : tie.Need-slice-aggregate-weigh-section
-slice-aggregate-weigh-section c = search needs
-
 weigh-section-requires : tie.Need-weigh-section-requires
 weigh-section-requires c κs =
     let l = c .before .before .before in
     (l .before .before .before .before .before .before .before .before .before .before .before .before .before .before .pre, listed l)
-
-answered-requires-2 : tie.Need-answered-requires-2
-answered-requires-2 c κs = search needs
-
-same-length : tie.Need-same-length
-same-length c = search needs
 
 returns-2 : tie.Need-returns-2
 returns-2 c =
@@ -89,19 +56,10 @@ returns-2 c =
     told _ _ _ (c .answered2 .ensures)
     ∙ withdraw-untaught _ _ _ (s .pre) (ordered o) _ _ (l .list-own .ensures .0) (l .list-own .ensures .1) _ (w .weigh-section .ensures) (c .before .if2 .taken)
 
-slice-aggregate-lacking-parts : tie.Need-slice-aggregate-lacking-parts
-slice-aggregate-lacking-parts c = search needs
-
 lacking-parts-requires : tie.Need-lacking-parts-requires
 lacking-parts-requires c κs =
     let l = c .before .before .before .before .before .before .before .before in
     (l .before .before .before .before .before .before .before .before .before .before .before .before .before .before .pre, listed l)
-
-answered-requires-3 : tie.Need-answered-requires-3
-answered-requires-3 c κs = search needs
-
-same-length-2 : tie.Need-same-length-2
-same-length-2 c = search needs
 
 returns-3 : tie.Need-returns-3
 returns-3 c =
@@ -114,9 +72,6 @@ returns-3 c =
     told _ _ _ (c .answered3 .ensures)
     ∙ withdraw-disagrees _ _ _ (s .pre) (ordered o) _ _ (l .list-own .ensures .0) (l .list-own .ensures .1) _ (w .weigh-section .ensures) (r .if2 .left) _ (q .lacking-parts .ensures) (c .before .if3 .taken)
 
-slice-aggregate-change-book : tie.Need-slice-aggregate-change-book
-slice-aggregate-change-book c = search needs
-
 change-book-requires : tie.Need-change-book-requires
 change-book-requires c κs =
     let r = c .before .before .before .before .before .before in
@@ -126,12 +81,6 @@ change-book-requires c κs =
     let s = o .before .before .before .before .before .before in
     let ready = withdraw-ready _ _ _ (s .pre) (ordered o) _ _ (l .list-own .ensures .0) (l .list-own .ensures .1) _ (w .weigh-section .ensures) (r .if2 .left) in
     (s .pre, (listed l, (ready, tt)))
-
-answered-requires-4 : tie.Need-answered-requires-4
-answered-requires-4 c κs = search needs
-
-same-length-3 : tie.Need-same-length-3
-same-length-3 c = search needs
 
 returns-4 : tie.Need-returns-4
 returns-4 c =
@@ -150,29 +99,29 @@ pub withdraw-order-spec : {M : Type 1} → statement M
 withdraw-order-spec =
     tie.close
     (tie.spec
-    slice-aggregate-cause-into
-    cause-into-requires
-    answered-requires
+    (λ c. search needs)
+    (λ c κs. search needs)
+    (λ c κs. search needs)
     returns
-    slice-aggregate-level-lines
-    slice-aggregate-level-lines-2
+    (λ c. search needs)
+    (λ c. search needs)
     level-lines-requires
-    slice-aggregate-list-own
-    slice-aggregate-list-own-2
-    slice-aggregate-list-own-3
+    (λ c. search needs)
+    (λ c. search needs)
+    (λ c. search needs)
     list-own-requires
-    slice-aggregate-weigh-section
+    (λ c. search needs)
     weigh-section-requires
-    answered-requires-2
-    same-length
+    (λ c κs. search needs)
+    (λ c. search needs)
     returns-2
-    slice-aggregate-lacking-parts
+    (λ c. search needs)
     lacking-parts-requires
-    answered-requires-3
-    same-length-2
+    (λ c κs. search needs)
+    (λ c. search needs)
     returns-3
-    slice-aggregate-change-book
+    (λ c. search needs)
     change-book-requires
-    answered-requires-4
-    same-length-3
+    (λ c κs. search needs)
+    (λ c. search needs)
     returns-4)

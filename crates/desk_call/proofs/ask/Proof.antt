@@ -10,35 +10,11 @@ use Rattle.desk_call.proofs.ask.Tie as tie
 enum-told : tie.Need-enum-told
 enum-told c = search needs
 
-teach-requires : tie.Need-teach-requires
-teach-requires c κs = search needs
-
-enum-told-2 : tie.Need-enum-told-2
-enum-told-2 c = search needs
-
-withdraw-requires : tie.Need-withdraw-requires
-withdraw-requires c κs = search needs
-
-enum-told-3 : tie.Need-enum-told-3
-enum-told-3 c = search needs
-
-judge-requires : tie.Need-judge-requires
-judge-requires c κs = search needs
-
-same-length : tie.Need-same-length
-same-length c = search needs
-
 returns : tie.Need-returns
 returns c = c .before .before .teach .ensures ∙ sym (asks-teaching _ _ _ (c .before .before .before .before .enum-told .given .1))
 
-same-length-2 : tie.Need-same-length-2
-same-length-2 c = search needs
-
 returns-2 : tie.Need-returns-2
 returns-2 c = c .before .before .withdraw .ensures ∙ sym (asks-withdrawing _ _ _ (c .before .before .before .before .enum-told2 .given .1))
-
-same-length-3 : tie.Need-same-length-3
-same-length-3 c = search needs
 
 returns-3 : tie.Need-returns-3
 returns-3 c =
@@ -50,14 +26,14 @@ ask-spec =
     tie.close
     (tie.spec
     enum-told
-    teach-requires
-    enum-told-2
-    withdraw-requires
-    enum-told-3
-    judge-requires
-    same-length
+    (λ c κs. search needs)
+    (λ c. search needs)
+    (λ c κs. search needs)
+    (λ c. search needs)
+    (λ c κs. search needs)
+    (λ c. search needs)
     returns
-    same-length-2
+    (λ c. search needs)
     returns-2
-    same-length-3
+    (λ c. search needs)
     returns-3)

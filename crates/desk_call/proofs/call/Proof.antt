@@ -5,29 +5,11 @@ use borrow.Author.Needs.{needs}
 use Rattle.desk_call.proofs.call.Statement.{statement}
 use Rattle.desk_call.proofs.call.Tie as tie
 
-slice-aggregate-read : tie.Need-slice-aggregate-read
-slice-aggregate-read c = search needs
-
-read-requires : tie.Need-read-requires
-read-requires c κs = search needs
-
 returns : tie.Need-returns
 returns c = call-refused _ _ _ _ _ _ refl (c .before .before .before .read .ensures) (c .if1 .taken)
 
-sub-ask : tie.Need-sub-ask
-sub-ask c = search needs
-
-part-ask-start : tie.Need-part-ask-start
-part-ask-start c = search needs
-
 part-ask-end : tie.Need-part-ask-end
 part-ask-end c = read-room _ _ _ _ refl (c .before .before .before .before .before .read .ensures) (c .before .before .if1 .left)
-
-ask-requires : tie.Need-ask-requires
-ask-requires c κs = search needs
-
-same-length : tie.Need-same-length
-same-length c = search needs
 
 returns-2 : tie.Need-returns-2
 returns-2 c =
@@ -38,12 +20,12 @@ pub call-spec : {M : Type 1} → statement M
 call-spec =
     tie.close
     (tie.spec
-    slice-aggregate-read
-    read-requires
+    (λ c. search needs)
+    (λ c κs. search needs)
     returns
-    sub-ask
-    part-ask-start
+    (λ c. search needs)
+    (λ c. search needs)
     part-ask-end
-    ask-requires
-    same-length
+    (λ c κs. search needs)
+    (λ c. search needs)
     returns-2)

@@ -32,9 +32,6 @@ returns c =
     let l = c .before .before .before .before .before in
     sym (l .loop .inv .1 ∙ stops _ _ _ _ (c .before .before .before .if1 .taken) (sym (c .before .before .letter-at .ensures) ∙ c .enum-told .given .1))
 
-enum-told-2 : tie.Need-enum-told-2 Inv-loop μ-loop
-enum-told-2 c = search needs
-
 shared-slice-read-starts : tie.Need-shared-slice-read-starts Inv-loop μ-loop
 shared-slice-read-starts c = omega arith
 
@@ -69,7 +66,7 @@ form-end-spec =
     letter-at-requires
     enum-told
     returns
-    enum-told-2
+    (λ c. search needs)
     shared-slice-read-starts
     add-at
     loop-less

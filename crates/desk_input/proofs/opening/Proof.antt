@@ -6,31 +6,16 @@ use Rattle.desk_input.proofs.Found.{begins, front-large, front-outside,
 use Rattle.desk_input.proofs.opening.Statement.{statement}
 use Rattle.desk_input.proofs.opening.Tie as tie
 
-answered-requires : tie.Need-answered-requires
-answered-requires c κs = search needs
-
 returns : tie.Need-returns
 returns c = ap Fault (c .answered .ensures) ∙ sym (front-large _ (c .before .if1 .taken))
 
-depth-on-requires : tie.Need-depth-on-requires
-depth-on-requires c κs = search needs
-
-enum-known-depth : tie.Need-enum-known-depth
-enum-known-depth c = search needs
-
 enum-told : tie.Need-enum-told
 enum-told c = search needs
-
-answered-requires-2 : tie.Need-answered-requires-2
-answered-requires-2 c κs = search needs
 
 returns-2 : tie.Need-returns-2
 returns-2 c =
     let d = c .before .before .before in
     ap Fault (c .answered2 .ensures) ∙ sym (front-outside _ (d .before .if1 .left) (sym (d .depth-on .ensures) ∙ c .before .enum-told .given .1))
-
-value-requires : tie.Need-value-requires
-value-requires c κs = search needs
 
 returns-3 : tie.Need-returns-3
 returns-3 c =
@@ -40,15 +25,6 @@ returns-3 c =
 
 letter-at-requires : tie.Need-letter-at-requires
 letter-at-requires c κs = begins _ _ (sym (c .before .before .before .before .depth-on .ensures) ∙ c .before .before .depth .given .1) .enough
-
-enum-told-2 : tie.Need-enum-told-2
-enum-told-2 c = search needs
-
-value-requires-2 : tie.Need-value-requires-2
-value-requires-2 c κs = search needs
-
-enum-told-3 : tie.Need-enum-told-3
-enum-told-3 c = search needs
 
 returns-4 : tie.Need-returns-4
 returns-4 c =
@@ -70,18 +46,18 @@ pub opening-spec : {M : Type 1} → statement M
 opening-spec =
     tie.close
     (tie.spec
-    answered-requires
+    (λ c κs. search needs)
     returns
-    depth-on-requires
-    enum-known-depth
+    (λ c κs. search needs)
+    (λ c. search needs)
     enum-told
-    answered-requires-2
+    (λ c κs. search needs)
     returns-2
-    value-requires
+    (λ c κs. search needs)
     returns-3
     letter-at-requires
-    enum-told-2
-    value-requires-2
-    enum-told-3
+    (λ c. search needs)
+    (λ c κs. search needs)
+    (λ c. search needs)
     returns-4
     returns-5)

@@ -12,9 +12,6 @@ use Rattle.desk_line.proofs.Printed.{Written, field-bytes, put-field}
 use Rattle.desk_line.proofs.put_field.Statement.{statement}
 use Rattle.desk_line.proofs.put_field.Tie as tie
 
-digits-in-requires : tie.Need-digits-in-requires
-digits-in-requires c κs = search needs
-
 slice-write-out : tie.Need-slice-write-out
 slice-write-out c = omega (arith, field-bytes (c .before .before .args .n))
 
@@ -23,9 +20,6 @@ sub-put-digits c = simp length-set (omega (arith, field-bytes (c .before .before
 
 part-put-digits-start : tie.Need-part-put-digits-start
 part-put-digits-start c = simp length-set (omega (arith, field-bytes (c .before .before .args .n)))
-
-part-put-digits-end : tie.Need-part-put-digits-end
-part-put-digits-end c = search needs
 
 put-digits-requires : tie.Need-put-digits-requires
 put-digits-requires c κs =
@@ -55,11 +49,11 @@ pub put-field-spec : {M : Type 1} → statement M
 put-field-spec =
     tie.close
     (tie.spec
-    digits-in-requires
+    (λ c κs. search needs)
     slice-write-out
     sub-put-digits
     part-put-digits-start
-    part-put-digits-end
+    (λ c. search needs)
     put-digits-requires
     add-result
     same-length

@@ -130,12 +130,6 @@ sub-put-field c = simp length-set (omega (arith, c .before .pre))
 part-put-field-start : tie.Need-part-put-field-start
 part-put-field-start c = simp length-set (omega (arith, c .before .pre))
 
-part-put-field-end : tie.Need-part-put-field-end
-part-put-field-end c = search needs
-
-cast-put-field : tie.Need-cast-put-field
-cast-put-field c = search needs
-
 put-field-requires : tie.Need-put-field-requires
 put-field-requires c κs =
     let k = c .before .before .before in
@@ -149,9 +143,6 @@ sub-put-field-2 c = omega (arith, to-number c .same, line-soon c, start-2 c .pre
 
 part-put-field-start-2 : tie.Need-part-put-field-start-2
 part-put-field-start-2 c = omega (arith, to-number c .same, line-soon c, start-2 c .pre)
-
-part-put-field-end-2 : tie.Need-part-put-field-end-2
-part-put-field-end-2 c = search needs
 
 put-field-requires-2 : tie.Need-put-field-requires-2
 put-field-requires-2 c κs =
@@ -167,9 +158,6 @@ sub-put-field-3 c = omega (arith, to-line c .same, used-soon c, start-3 c .pre)
 
 part-put-field-start-3 : tie.Need-part-put-field-start-3
 part-put-field-start-3 c = omega (arith, to-line c .same, used-soon c, start-3 c .pre)
-
-part-put-field-end-3 : tie.Need-part-put-field-end-3
-part-put-field-end-3 c = search needs
 
 put-field-requires-3 : tie.Need-put-field-requires-3
 put-field-requires-3 c κs =
@@ -202,18 +190,18 @@ put-reply-spec =
     slice-write-out
     sub-put-field
     part-put-field-start
-    part-put-field-end
-    cast-put-field
+    (λ c. search needs)
+    (λ c. search needs)
     put-field-requires
     add-line-at
     sub-put-field-2
     part-put-field-start-2
-    part-put-field-end-2
+    (λ c. search needs)
     put-field-requires-2
     add-used-at
     sub-put-field-3
     part-put-field-start-3
-    part-put-field-end-3
+    (λ c. search needs)
     put-field-requires-3
     add-end
     slice-write-out-2

@@ -17,15 +17,6 @@ Inv-loop input book₀ line₀ at₀ count₀ book line n count = (length book �
 abbrev μ-loop : tie.MeasureT-loop
 μ-loop input book₀ line₀ at₀ count₀ book line n count = length input - n
 
-slice-aggregate-begin : tie.Need-slice-aggregate-begin Inv-loop μ-loop
-slice-aggregate-begin c = search needs
-
-slice-aggregate-begin-2 : tie.Need-slice-aggregate-begin-2 Inv-loop μ-loop
-slice-aggregate-begin-2 c = search needs
-
-begin-requires : tie.Need-begin-requires Inv-loop μ-loop
-begin-requires c κs = search needs
-
 loop-holds : tie.Need-loop-holds Inv-loop μ-loop
 loop-holds c =
     let b = c .before .before .begin in
@@ -37,32 +28,11 @@ array-share-prefix-line c = omega (arith, reached-fits (c .loop .inv .2), c .loo
 slice-aggregate-write-all : tie.Need-slice-aggregate-write-all Inv-loop μ-loop
 slice-aggregate-write-all c = sym (length-take-le _ _ (reached-fits (c .before .loop .inv .2)))
 
-write-all-requires : tie.Need-write-all-requires Inv-loop μ-loop
-write-all-requires c κs = search needs
-
-returns : tie.Need-returns Inv-loop μ-loop
-returns c = search needs
-
-returns-2 : tie.Need-returns-2 Inv-loop μ-loop
-returns-2 c = search needs
-
-sub-step : tie.Need-sub-step Inv-loop μ-loop
-sub-step c = search needs
-
-part-step-start : tie.Need-part-step-start Inv-loop μ-loop
-part-step-start c = search needs
-
-part-step-end : tie.Need-part-step-end Inv-loop μ-loop
-part-step-end c = search needs
-
 slice-aggregate-step : tie.Need-slice-aggregate-step Inv-loop μ-loop
 slice-aggregate-step c = sym (c .before .before .before .before .before .before .loop .inv .0)
 
 slice-aggregate-step-2 : tie.Need-slice-aggregate-step-2 Inv-loop μ-loop
 slice-aggregate-step-2 c = sym (c .before .before .before .before .before .before .before .loop .inv .1)
-
-step-requires : tie.Need-step-requires Inv-loop μ-loop
-step-requires c κs = search needs
 
 -- A step took some of the input, and no more than there is.
 took : (c : tie.After-struct-known Inv-loop μ-loop) → let s = c .before .before .before in let l = s .before .before .before .before .before .before .before .before in
@@ -92,21 +62,21 @@ run-spec =
     (tie.spec
     Inv-loop
     μ-loop
-    slice-aggregate-begin
-    slice-aggregate-begin-2
-    begin-requires
+    (λ c. search needs)
+    (λ c. search needs)
+    (λ c κs. search needs)
     loop-holds
     array-share-prefix-line
     slice-aggregate-write-all
-    write-all-requires
-    returns
-    returns-2
-    sub-step
-    part-step-start
-    part-step-end
+    (λ c κs. search needs)
+    (λ c. search needs)
+    (λ c. search needs)
+    (λ c. search needs)
+    (λ c. search needs)
+    (λ c. search needs)
     slice-aggregate-step
     slice-aggregate-step-2
-    step-requires
+    (λ c κs. search needs)
     add-at
     loop-less
     loop-again)

@@ -8,40 +8,10 @@ use Rattle.desk_step.proofs.begin.Tie as tie
 returns : tie.Need-returns
 returns c = begin-short _ _ _ (c .if1 .taken)
 
-opening-requires : tie.Need-opening-requires
-opening-requires c κs = search needs
-
-enum-known-answer : tie.Need-enum-known-answer
-enum-known-answer c = search needs
-
-put-reply-requires : tie.Need-put-reply-requires
-put-reply-requires c κs = search needs
-
-enum-known-k : tie.Need-enum-known-k
-enum-known-k c = search needs
-
-open-requires : tie.Need-open-requires
-open-requires c κs = search needs
-
-used-words-requires : tie.Need-used-words-requires
-used-words-requires c κs = search needs
-
-put-reply-requires-2 : tie.Need-put-reply-requires-2
-put-reply-requires-2 c κs = search needs
-
-same-length : tie.Need-same-length
-same-length c = search needs
-
 returns-2 : tie.Need-returns-2
 returns-2 c =
     let f = c .before .before .before .before .before .before .before in
     begin-fault _ _ _ (f .before .if1 .left) _ _ _ (sym (c .before .before .before .before .before .answer .given .1) ∙ f .opening .ensures) (c .before .before .put-reply .ensures .0) (c .before .before .put-reply .ensures .1)
-
-same-length-2 : tie.Need-same-length-2
-same-length-2 c = search needs
-
-same-length-3 : tie.Need-same-length-3
-same-length-3 c = search needs
 
 returns-3 : tie.Need-returns-3
 returns-3 c =
@@ -55,15 +25,15 @@ begin-spec =
     tie.close
     (tie.spec
     returns
-    opening-requires
-    enum-known-answer
-    put-reply-requires
-    enum-known-k
-    open-requires
-    used-words-requires
-    put-reply-requires-2
-    same-length
+    (λ c κs. search needs)
+    (λ c. search needs)
+    (λ c κs. search needs)
+    (λ c. search needs)
+    (λ c κs. search needs)
+    (λ c κs. search needs)
+    (λ c κs. search needs)
+    (λ c. search needs)
     returns-2
-    same-length-2
-    same-length-3
+    (λ c. search needs)
+    (λ c. search needs)
     returns-3)

@@ -9,12 +9,6 @@ use Rattle.desk_step.proofs.step.Tie as tie
 returns : tie.Need-returns
 returns c = step-short _ _ _ (c .if1 .taken)
 
-letter-at-requires : tie.Need-letter-at-requires
-letter-at-requires c κs = search needs
-
-enum-known-letter : tie.Need-enum-known-letter
-enum-known-letter c = search needs
-
 enum-told : tie.Need-enum-told
 enum-told c = search needs
 
@@ -24,32 +18,8 @@ returns-2 c = step-other _ _ _ (c .before .before .before .if1 .left) (sym (c .b
 form-end-requires : tie.Need-form-end-requires
 form-end-requires c κs = letter-long _ _ (sym (c .before .before .before .letter-at .ensures) ∙ c .before .letter .given .1)
 
-sub-call : tie.Need-sub-call
-sub-call c = search needs
-
-part-call-start : tie.Need-part-call-start
-part-call-start c = search needs
-
 part-call-end : tie.Need-part-call-end
 part-call-end c = end-inside _ _ _ (sym (c .before .before .before .before .letter-at .ensures) ∙ c .before .before .letter .given .1) (c .form-end .ensures)
-
-call-requires : tie.Need-call-requires
-call-requires c κs = search needs
-
-used-words-requires : tie.Need-used-words-requires
-used-words-requires c κs = search needs
-
-byte-requires : tie.Need-byte-requires
-byte-requires c κs = search needs
-
-put-reply-requires : tie.Need-put-reply-requires
-put-reply-requires c κs = search needs
-
-same-length : tie.Need-same-length
-same-length c = search needs
-
-same-length-2 : tie.Need-same-length-2
-same-length-2 c = search needs
 
 returns-3 : tie.Need-returns-3
 returns-3 c =
@@ -65,18 +35,18 @@ step-spec =
     tie.close
     (tie.spec
     returns
-    letter-at-requires
-    enum-known-letter
+    (λ c κs. search needs)
+    (λ c. search needs)
     enum-told
     returns-2
     form-end-requires
-    sub-call
-    part-call-start
+    (λ c. search needs)
+    (λ c. search needs)
     part-call-end
-    call-requires
-    used-words-requires
-    byte-requires
-    put-reply-requires
-    same-length
-    same-length-2
+    (λ c κs. search needs)
+    (λ c κs. search needs)
+    (λ c κs. search needs)
+    (λ c κs. search needs)
+    (λ c. search needs)
+    (λ c. search needs)
     returns-3)

@@ -15,15 +15,6 @@ parent c = c .before .before .pre .3 (let n = c .before .if1 .left in omega arit
 returns : tie.Need-returns
 returns c = let a = c .before .args in adopt-first (a .words .now) (a .latest .now) (a .level) (c .if1 .taken)
 
-sub-above : tie.Need-sub-above
-sub-above c = search needs
-
-mul-place : tie.Need-mul-place
-mul-place c = search needs
-
-element-copy-out-place : tie.Need-element-copy-out-place
-element-copy-out-place c = search needs
-
 mul-place-2 : tie.Need-mul-place-2
 mul-place-2 c = let p = parent c in omega arith
 
@@ -39,9 +30,6 @@ element-copy-out-children c = let p = parent c in omega arith
 returns-2 : tie.Need-returns-2
 returns-2 c = let a = c .before .before .before .before .args in adopt-full (a .words .now) (a .latest .now) (a .level) (c .before .before .before .if1 .left) (c .if2 .taken)
 
-add-words : tie.Need-add-words
-add-words c = search needs
-
 mul-words : tie.Need-mul-words
 mul-words c = let p = parent (c .before .before) in omega arith
 
@@ -56,15 +44,15 @@ adopt-spec =
     tie.close
     (tie.spec
     returns
-    sub-above
-    mul-place
-    element-copy-out-place
+    (λ c. search needs)
+    (λ c. search needs)
+    (λ c. search needs)
     mul-place-2
     add-place
     mul-children
     element-copy-out-children
     returns-2
-    add-words
+    (λ c. search needs)
     mul-words
     element-write-words
     returns-3)

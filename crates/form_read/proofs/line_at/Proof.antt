@@ -6,12 +6,6 @@ use borrow.Author.Needs.{needs}
 use Rattle.form_read.proofs.line_at.Statement.{statement}
 use Rattle.form_read.proofs.line_at.Tie as tie
 
-next-line-requires : tie.Need-next-line-requires
-next-line-requires c κs = search needs
-
-enum-known-read : tie.Need-enum-known-read
-enum-known-read c = search needs
-
 enum-told : tie.Need-enum-told
 enum-told c = search needs
 
@@ -31,8 +25,8 @@ pub line-at-spec : {M : Type 1} → statement M
 line-at-spec =
     tie.close
     (tie.spec
-    next-line-requires
-    enum-known-read
+    (λ c κs. search needs)
+    (λ c. search needs)
     enum-told
     returns
     adopt-requires

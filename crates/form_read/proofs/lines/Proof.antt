@@ -24,50 +24,23 @@ bytes : (c : tie.After-known-told Inv-loop μ-loop) →
     (0 < size) × (c .before .before .before .before .before .before .before .loop .at + size ≤ length (c .before .before .before .before .before .before .before .before .before .before .args .text .now))
 bytes c = bytes-of (c .before .before .before .before .before .before .before .loop .inv) (c .before .before .before .line-at .ensures .0) (c .before .read .given .1)
 
-refused-requires : tie.Need-refused-requires Inv-loop μ-loop
-refused-requires c κs = search needs
-
 returns : tie.Need-returns Inv-loop μ-loop
 returns c = empty-text _ _ _ (c .before .if1 .taken) (c .refused .ensures)
 
 loop-holds : tie.Need-loop-holds Inv-loop μ-loop
 loop-holds c = start _ _ (c .if1 .left) (c .before .before .pre)
 
-add-line : tie.Need-add-line Inv-loop μ-loop
-add-line c = search needs
-
 line-at-requires : tie.Need-line-at-requires Inv-loop μ-loop
 line-at-requires c κs = let s = c .before .before .before .loop .inv in (s .inside, parents s)
-
-enum-known-read : tie.Need-enum-known-read Inv-loop μ-loop
-enum-known-read c = search needs
 
 enum-told : tie.Need-enum-told Inv-loop μ-loop
 enum-told c = search needs
 
-number-requires : tie.Need-number-requires Inv-loop μ-loop
-number-requires c κs = search needs
-
-refused-requires-2 : tie.Need-refused-requires-2 Inv-loop μ-loop
-refused-requires-2 c κs = search needs
-
 returns-2 : tie.Need-returns-2 Inv-loop μ-loop
 returns-2 c = bad-line (c .before .before .before .before .before .before .before .before .loop .inv) _ _ _ (c .before .before .before .before .before .before .before .loop-test .taken) (c .before .before .before .before .line-at .ensures .0) (c .before .before .enum-told .given .1) (c .refused2 .ensures) (c .before .number .ensures)
 
-mul-here : tie.Need-mul-here Inv-loop μ-loop
-mul-here c = search needs
-
-mul-words : tie.Need-mul-words Inv-loop μ-loop
-mul-words c = search needs
-
 element-write-words : tie.Need-element-write-words Inv-loop μ-loop
 element-write-words c = omega (arith, room c)
-
-add-children : tie.Need-add-children Inv-loop μ-loop
-add-children c = search needs
-
-mul-words-2 : tie.Need-mul-words-2 Inv-loop μ-loop
-mul-words-2 c = search needs
 
 element-write-words-2 : tie.Need-element-write-words-2 Inv-loop μ-loop
 element-write-words-2 c = omega (arith, room c)
@@ -90,12 +63,6 @@ loop-less c = omega (arith, bytes c)
 loop-again : tie.Need-loop-again Inv-loop μ-loop
 loop-again c = turn (c .before .before .before .before .before .before .before .loop .inv) (c .before .before .before .line-at .ensures .0) (c .before .read .given .1) _ (c .before .before .before .line-at .ensures .1)
 
-mul-count : tie.Need-mul-count Inv-loop μ-loop
-mul-count c = search needs
-
-wrote-requires : tie.Need-wrote-requires Inv-loop μ-loop
-wrote-requires c κs = search needs
-
 returns-3 : tie.Need-returns-3 Inv-loop μ-loop
 returns-3 c = all-read (c .before .before .loop .inv) _ (c .before .loop-test .left) (c .wrote .ensures)
 
@@ -105,21 +72,21 @@ lines-spec =
     (tie.spec
     Inv-loop
     μ-loop
-    refused-requires
+    (λ c κs. search needs)
     returns
     loop-holds
-    add-line
+    (λ c. search needs)
     line-at-requires
-    enum-known-read
+    (λ c. search needs)
     enum-told
-    number-requires
-    refused-requires-2
+    (λ c κs. search needs)
+    (λ c κs. search needs)
     returns-2
-    mul-here
-    mul-words
+    (λ c. search needs)
+    (λ c. search needs)
     element-write-words
-    add-children
-    mul-words-2
+    (λ c. search needs)
+    (λ c. search needs)
     element-write-words-2
     mul-latest
     array-write-latest
@@ -127,6 +94,6 @@ lines-spec =
     add-at
     loop-less
     loop-again
-    mul-count
-    wrote-requires
+    (λ c. search needs)
+    (λ c κs. search needs)
     returns-3)

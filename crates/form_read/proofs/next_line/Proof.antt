@@ -10,12 +10,6 @@ use Rattle.form_read.proofs.next_line.Tie as tie
 returns : tie.Need-returns
 returns c = let a = c .before .before .args in next-past (a .n) (a .greatest) (drop (a .at) (a .text .now)) (c .if1 .taken)
 
-spelt-at-requires : tie.Need-spelt-at-requires
-spelt-at-requires c κs = search needs
-
-enum-known-read : tie.Need-enum-known-read
-enum-known-read c = search needs
-
 enum-told : tie.Need-enum-told
 enum-told c = search needs
 
@@ -24,9 +18,6 @@ returns-2 c = let a = c .before .before .before .before .before .args in next-mi
 
 returns-3 : tie.Need-returns-3
 returns-3 c = let a = c .before .before .before .before .before .before .before .args in next-zero (a .n) (a .greatest) (drop (a .at) (a .text .now)) (c .before .before .before .before .before .if1 .left) (c .before .before .before .before .spelt-at .ensures) (c .before .before .read .given .1) (c .if2 .taken)
-
-may-follow-requires : tie.Need-may-follow-requires
-may-follow-requires c κs = search needs
 
 returns-4 : tie.Need-returns-4
 returns-4 c = let a = c .before .before .before .before .before .before .before .before .before .args in next-level (a .n) (a .greatest) (drop (a .at) (a .text .now)) (c .before .before .before .before .before .before .before .if1 .left) (c .before .before .before .before .before .before .spelt-at .ensures) (c .before .before .before .before .read .given .1) (c .before .before .if2 .left) (sym (c .before .may-follow .ensures) ∙ not-true _ (c .if3 .taken))
@@ -42,12 +33,12 @@ next-line-spec =
     tie.close
     (tie.spec
     returns
-    spelt-at-requires
-    enum-known-read
+    (λ c κs. search needs)
+    (λ c. search needs)
     enum-told
     returns-2
     returns-3
-    may-follow-requires
+    (λ c κs. search needs)
     returns-4
     returns-5
     returns-6)

@@ -11,29 +11,17 @@ returns : tie.Need-returns
 unfolding isCode _and_
 returns c = rw (ne-eqb _ _ (c .if1 .taken))
 
-is-digit-requires : tie.Need-is-digit-requires
-is-digit-requires c κs = search needs
-
 returns-2 : tie.Need-returns-2
 unfolding isCode _and_
 returns-2 c = rw (eq-eqb _ _ (c .before .before .if1 .left), sym (c .before .is-digit .ensures) ∙ not-true _ (c .if2 .taken))
-
-is-digit-requires-2 : tie.Need-is-digit-requires-2
-is-digit-requires-2 c κs = search needs
 
 returns-3 : tie.Need-returns-3
 unfolding isCode _and_
 returns-3 c = rw (eq-eqb _ _ (c .before .before .before .before .if1 .left), sym (c .before .before .before .is-digit .ensures) ∙ not-false _ (c .before .before .if2 .left), sym (c .before .is-digit2 .ensures) ∙ not-true _ (c .if3 .taken))
 
-is-digit-requires-3 : tie.Need-is-digit-requires-3
-is-digit-requires-3 c κs = search needs
-
 returns-4 : tie.Need-returns-4
 unfolding isCode _and_
 returns-4 c = rw (eq-eqb _ _ (c .before .before .before .before .before .before .if1 .left), sym (c .before .before .before .before .before .is-digit .ensures) ∙ not-false _ (c .before .before .before .before .if2 .left), sym (c .before .before .before .is-digit2 .ensures) ∙ not-false _ (c .before .before .if3 .left), sym (c .before .is-digit3 .ensures) ∙ not-true _ (c .if4 .taken))
-
-is-digit-requires-4 : tie.Need-is-digit-requires-4
-is-digit-requires-4 c κs = search needs
 
 returns-5 : tie.Need-returns-5
 unfolding isCode _and_
@@ -48,12 +36,12 @@ is-code-spec =
     tie.close
     (tie.spec
     returns
-    is-digit-requires
+    (λ c κs. search needs)
     returns-2
-    is-digit-requires-2
+    (λ c κs. search needs)
     returns-3
-    is-digit-requires-3
+    (λ c κs. search needs)
     returns-4
-    is-digit-requires-4
+    (λ c κs. search needs)
     returns-5
     returns-6)

@@ -7,23 +7,8 @@ use borrow.Author.Needs.{needs}
 use Rattle.form_read_line.proofs.spelt_at.Statement.{statement}
 use Rattle.form_read_line.proofs.spelt_at.Tie as tie
 
-sub-if1 : tie.Need-sub-if1
-sub-if1 c = search needs
-
 returns : tie.Need-returns
 returns c = let a = c .before .before .args in line-short (a .at) (a .text .now) (omega arith)
-
-shared-slice-read-x : tie.Need-shared-slice-read-x
-shared-slice-read-x c = search needs
-
-add-y : tie.Need-add-y
-add-y c = search needs
-
-shared-slice-read-y : tie.Need-shared-slice-read-y
-shared-slice-read-y c = search needs
-
-is-digit-requires : tie.Need-is-digit-requires
-is-digit-requires c κs = search needs
 
 returns-2 : tie.Need-returns-2
 returns-2 c = let a = c .before .before .before .before .before .before .args in line-bad (a .at) (a .text .now) (omega arith) (sym (c .before .is-digit .ensures) ∙ not-true _ (c .if2 .taken))
@@ -31,35 +16,14 @@ returns-2 c = let a = c .before .before .before .before .before .before .args in
 figure-of-requires : tie.Need-figure-of-requires
 figure-of-requires c κs = sym (c .before .is-digit .ensures) ∙ not-false _ (c .if2 .left)
 
-is-digit-requires-2 : tie.Need-is-digit-requires-2
-is-digit-requires-2 c κs = search needs
-
-cast-code-at : tie.Need-cast-code-at
-cast-code-at c = search needs
-
-code-at-requires : tie.Need-code-at-requires
-code-at-requires c κs = search needs
-
 returns-3 : tie.Need-returns-3
 returns-3 c = let a = c .before .before .before .before .before .before .before .before .before .before .args in c .code-at .ensures ∙ rw (c .before .before .before .figure-of .ensures .0) (line-one (a .at) (a .text .now) (omega arith) (sym (c .before .before .before .before .before .is-digit .ensures) ∙ not-false _ (c .before .before .before .before .if2 .left)) (sym (c .before .before .is-digit2 .ensures) ∙ not-true _ (c .before .if3 .taken)))
 
 returns-4 : tie.Need-returns-4
 returns-4 c = let a = c .before .before .before .before .before .before .before .before .before .before .args in line-zero (a .at) (a .text .now) (omega arith) (sym (c .before .before .before .before .before .is-digit .ensures) ∙ not-false _ (c .before .before .before .before .if2 .left)) (sym (c .before .before .is-digit2 .ensures) ∙ not-false _ (c .before .if3 .left)) (c .if4 .taken)
 
-mul-level : tie.Need-mul-level
-mul-level c = search needs
-
 figure-of-requires-2 : tie.Need-figure-of-requires-2
 figure-of-requires-2 c κs = sym (c .before .before .is-digit2 .ensures) ∙ not-false _ (c .before .if3 .left)
-
-add-level : tie.Need-add-level
-add-level c = search needs
-
-cast-code-at-2 : tie.Need-cast-code-at-2
-cast-code-at-2 c = search needs
-
-code-at-requires-2 : tie.Need-code-at-requires-2
-code-at-requires-2 c κs = search needs
 
 returns-5 : tie.Need-returns-5
 returns-5 c = let a = c .before .before .before .before .before .before .before .before .before .before .before .before .args in c .code-at2 .ensures ∙ rw (c .before .before .before .before .before .figure-of .ensures .0, c .before .figure-of2 .ensures .0) (line-two (a .at) (a .text .now) (omega arith) (sym (c .before .before .before .before .before .before .before .is-digit .ensures) ∙ not-false _ (c .before .before .before .before .before .before .if2 .left)) (sym (c .before .before .before .before .is-digit2 .ensures) ∙ not-false _ (c .before .before .before .if3 .left)) (c .before .before .if4 .left))
@@ -68,22 +32,22 @@ pub spelt-at-spec : {M : Type 1} → statement M
 spelt-at-spec =
     tie.close
     (tie.spec
-    sub-if1
+    (λ c. search needs)
     returns
-    shared-slice-read-x
-    add-y
-    shared-slice-read-y
-    is-digit-requires
+    (λ c. search needs)
+    (λ c. search needs)
+    (λ c. search needs)
+    (λ c κs. search needs)
     returns-2
     figure-of-requires
-    is-digit-requires-2
-    cast-code-at
-    code-at-requires
+    (λ c κs. search needs)
+    (λ c. search needs)
+    (λ c κs. search needs)
     returns-3
     returns-4
-    mul-level
+    (λ c. search needs)
     figure-of-requires-2
-    add-level
-    cast-code-at-2
-    code-at-requires-2
+    (λ c. search needs)
+    (λ c. search needs)
+    (λ c κs. search needs)
     returns-5)

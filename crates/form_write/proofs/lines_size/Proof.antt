@@ -41,9 +41,6 @@ cast-level c =
     let p = c .before .before .before .before .before .pre in
     omega (arith, level-small _ _ (p .0) (p .1) _ (c .before .loop-test .taken))
 
-level-size-requires : tie.Need-level-size-requires Inv-loop μ-loop
-level-size-requires c κs = search needs
-
 add-bytes : tie.Need-add-bytes Inv-loop μ-loop
 add-bytes c = omega (arith, short c)
 
@@ -52,9 +49,6 @@ add-bytes-2 c = let k = asked (c .before .before) in omega (arith, few (c .befor
 
 add-line : tie.Need-add-line Inv-loop μ-loop
 add-line c = let k = asked (c .before .before) in omega arith
-
-loop-less : tie.Need-loop-less Inv-loop μ-loop
-loop-less c = search needs
 
 loop-again : tie.Need-loop-again Inv-loop μ-loop
 loop-again c =
@@ -73,10 +67,10 @@ lines-size-spec =
     loop-holds
     shared-slice-read-level
     cast-level
-    level-size-requires
+    (λ c κs. search needs)
     add-bytes
     add-bytes-2
     add-line
-    loop-less
+    (λ c. search needs)
     loop-again
     returns)

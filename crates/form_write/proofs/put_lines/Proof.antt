@@ -54,9 +54,6 @@ sub-put-line c = let t = found (c .before .before) in omega (arith, t .room)
 part-put-line-start : tie.Need-part-put-line-start Inv-loop μ-loop
 part-put-line-start c = let t = found (c .before .before) in omega (arith, t .room)
 
-part-put-line-end : tie.Need-part-put-line-end Inv-loop μ-loop
-part-put-line-end c = search needs
-
 put-line-requires : tie.Need-put-line-requires Inv-loop μ-loop
 put-line-requires c κs = let t = found (c .before .before .before) in let l = c .before .before .before .before .loop in omega (arith, t .room, part-size (l .at) (l .out))
 
@@ -65,9 +62,6 @@ add-at c = let t = found (c .before .before .before .before .before .before) in 
 
 add-line : tie.Need-add-line Inv-loop μ-loop
 add-line c = let k = lines (c .before .before .before .before .before .before) in omega arith
-
-loop-less : tie.Need-loop-less Inv-loop μ-loop
-loop-less c = search needs
 
 loop-again : tie.Need-loop-again Inv-loop μ-loop
 loop-again c = (c .before .out .given .1 ∙ c .before .before .before .before .before .before .before .loop .inv .0, found (c .before .before .before .before .before .before) .turn _ _ (c .before .before .put-line .ensures .0) (c .before .before .put-line .ensures .1))
@@ -92,11 +86,11 @@ put-lines-spec =
     shared-slice-read-code
     sub-put-line
     part-put-line-start
-    part-put-line-end
+    (λ c. search needs)
     put-line-requires
     add-at
     add-line
-    loop-less
+    (λ c. search needs)
     loop-again
     same-length
     returns)

@@ -58,26 +58,17 @@ sub-put-short-line c = let t = found (c .before .before) in omega (arith, t .roo
 part-put-short-line-start : tie.Need-part-put-short-line-start Inv-loop μ-loop
 part-put-short-line-start c = let t = found (c .before .before) in omega (arith, t .room)
 
-part-put-short-line-end : tie.Need-part-put-short-line-end Inv-loop μ-loop
-part-put-short-line-end c = search needs
-
 put-short-line-requires : tie.Need-put-short-line-requires Inv-loop μ-loop
 put-short-line-requires c κs =
     let i = c .before .before .before in
     let l = i .before .loop in
     (short i, omega (arith, found i .room, short-size (this i) (short i), part-size (l .at) (l .out)))
 
-add-at : tie.Need-add-at Inv-loop μ-loop
-add-at c = search needs
-
 add-at-2 : tie.Need-add-at-2 Inv-loop μ-loop
 add-at-2 c = let i = c .before .before .before .before .before .before in omega (arith, found i .room, short-size (this i) (short i), i .before .before .before .before .before .good)
 
 add-line : tie.Need-add-line Inv-loop μ-loop
 add-line c = let k = lines (c .before .before .before .before .before .before) in omega arith
-
-loop-less : tie.Need-loop-less Inv-loop μ-loop
-loop-less c = search needs
 
 loop-again : tie.Need-loop-again Inv-loop μ-loop
 loop-again c =
@@ -103,12 +94,12 @@ put-short-lines-spec =
     shared-slice-read-code
     sub-put-short-line
     part-put-short-line-start
-    part-put-short-line-end
+    (λ c. search needs)
     put-short-line-requires
-    add-at
+    (λ c. search needs)
     add-at-2
     add-line
-    loop-less
+    (λ c. search needs)
     loop-again
     same-length
     returns)

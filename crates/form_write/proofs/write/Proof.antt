@@ -18,56 +18,20 @@ fine c = sym (c .before .before .cause-into .ensures .0) ∙ c .if1 .left
 gone-over : (c : tie.Else1) → GoneOver (c .before .before .before .before .before .before .args .order .now) (c .before .before .cause-into .last .1 .0)
 gone-over c = c .before .before .cause-into .ensures .1 .0 (fine c)
 
-slice-aggregate-cause-into : tie.Need-slice-aggregate-cause-into
-slice-aggregate-cause-into c = search needs
-
-cause-into-requires : tie.Need-cause-into-requires
-cause-into-requires c κs = search needs
-
-wrote-requires : tie.Need-wrote-requires
-wrote-requires c κs = search needs
-
 returns : tie.Need-returns
 returns c = write-refused _ _ _ _ (c .before .before .before .cause-into .ensures .0) (c .before .if1 .taken) (c .wrote .ensures)
-
-slice-aggregate-level-lines : tie.Need-slice-aggregate-level-lines
-slice-aggregate-level-lines c = search needs
-
-slice-aggregate-level-lines-2 : tie.Need-slice-aggregate-level-lines-2
-slice-aggregate-level-lines-2 c = search needs
 
 level-lines-requires : tie.Need-level-lines-requires
 level-lines-requires c κs = let k = known _ (fine (c .before .before)) in (gone-over (c .before .before), omega (arith, k .twice, k .few))
 
-slice-aggregate-text-size : tie.Need-slice-aggregate-text-size
-slice-aggregate-text-size c = search needs
-
-slice-aggregate-text-size-2 : tie.Need-slice-aggregate-text-size-2
-slice-aggregate-text-size-2 c = search needs
-
 text-size-requires : tie.Need-text-size-requires
 text-size-requires c κs = (gone-over (c .before .before .before .before .before .before), c .before .before .before .level-lines .ensures .0)
-
-wrote-requires-2 : tie.Need-wrote-requires-2
-wrote-requires-2 c κs = search needs
 
 returns-2 : tie.Need-returns-2
 returns-2 c = no-output-room _ _ _ (c .wrote2 .ensures) (omega arith) ∙ sym (write-lines _ _ (fine (c .before .before .before .before .before .before .before .before .before)))
 
-slice-aggregate-put-text : tie.Need-slice-aggregate-put-text
-slice-aggregate-put-text c = search needs
-
-slice-aggregate-put-text-2 : tie.Need-slice-aggregate-put-text-2
-slice-aggregate-put-text-2 c = search needs
-
 put-text-requires : tie.Need-put-text-requires
 put-text-requires c κs = (gone-over (c .before .before .before .before .before .before .before .before .before .before .before), c .before .before .before .before .before .before .before .before .level-lines .ensures .0, omega arith)
-
-wrote-requires-3 : tie.Need-wrote-requires-3
-wrote-requires-3 c κs = search needs
-
-same-length : tie.Need-same-length
-same-length c = search needs
 
 returns-3 : tie.Need-returns-3
 returns-3 c =
@@ -79,21 +43,21 @@ pub write-spec : {M : Type 1} → statement M
 write-spec =
     tie.close
     (tie.spec
-    slice-aggregate-cause-into
-    cause-into-requires
-    wrote-requires
+    (λ c. search needs)
+    (λ c κs. search needs)
+    (λ c κs. search needs)
     returns
-    slice-aggregate-level-lines
-    slice-aggregate-level-lines-2
+    (λ c. search needs)
+    (λ c. search needs)
     level-lines-requires
-    slice-aggregate-text-size
-    slice-aggregate-text-size-2
+    (λ c. search needs)
+    (λ c. search needs)
     text-size-requires
-    wrote-requires-2
+    (λ c κs. search needs)
     returns-2
-    slice-aggregate-put-text
-    slice-aggregate-put-text-2
+    (λ c. search needs)
+    (λ c. search needs)
     put-text-requires
-    wrote-requires-3
-    same-length
+    (λ c κs. search needs)
+    (λ c. search needs)
     returns-3)

@@ -6,29 +6,14 @@ use Rattle.form.proofs.LineBytes.{first-digit, third-digit, last-digit, six-sto
 use Rattle.form_write_line.proofs.put_code.Statement.{statement}
 use Rattle.form_write_line.proofs.put_code.Tie as tie
 
-slice-write-out : tie.Need-slice-write-out
-slice-write-out c = search needs
-
-digit-of-requires : tie.Need-digit-of-requires
-digit-of-requires c κs = search needs
-
 slice-write-out-2 : tie.Need-slice-write-out-2
 slice-write-out-2 c = simp length-set (omega arith)
-
-digit-of-requires-2 : tie.Need-digit-of-requires-2
-digit-of-requires-2 c κs = search needs
 
 slice-write-out-3 : tie.Need-slice-write-out-3
 slice-write-out-3 c = simp length-set (omega arith)
 
-digit-of-requires-3 : tie.Need-digit-of-requires-3
-digit-of-requires-3 c κs = search needs
-
 slice-write-out-4 : tie.Need-slice-write-out-4
 slice-write-out-4 c = simp length-set (omega arith)
-
-digit-of-requires-4 : tie.Need-digit-of-requires-4
-digit-of-requires-4 c κs = search needs
 
 slice-write-out-5 : tie.Need-slice-write-out-5
 slice-write-out-5 c = simp length-set (omega arith)
@@ -48,14 +33,14 @@ pub put-code-spec : {M : Type 1} → statement M
 put-code-spec =
     tie.close
     (tie.spec
-    slice-write-out
-    digit-of-requires
+    (λ c. search needs)
+    (λ c κs. search needs)
     slice-write-out-2
-    digit-of-requires-2
+    (λ c κs. search needs)
     slice-write-out-3
-    digit-of-requires-3
+    (λ c κs. search needs)
     slice-write-out-4
-    digit-of-requires-4
+    (λ c κs. search needs)
     slice-write-out-5
     slice-write-out-6
     same-length

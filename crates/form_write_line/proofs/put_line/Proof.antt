@@ -14,9 +14,6 @@ sub-put-code c = let a = c .before .before .before .before .before .args in omeg
 part-put-code-start : tie.Need-part-put-code-start
 part-put-code-start c = let a = c .before .before .before .before .before .args in omega (arith, line-size (record { level = a .level; code = a .code }))
 
-part-put-code-end : tie.Need-part-put-code-end
-part-put-code-end c = search needs
-
 put-code-requires : tie.Need-put-code-requires
 put-code-requires c κs =
     let a = c .before .before .before .before .before .before .args in
@@ -25,9 +22,6 @@ put-code-requires c κs =
 
 add-result : tie.Need-add-result
 add-result c = let a = c .before .before .before .before .before .before .before .before .before .args in omega (arith, line-size (record { level = a .level; code = a .code }), c .before .before .before .before .before .before .before .before .before .good)
-
-same-length : tie.Need-same-length
-same-length c = search needs
 
 returns : tie.Need-returns
 returns c =
@@ -42,8 +36,8 @@ put-line-spec =
     put-level-requires
     sub-put-code
     part-put-code-start
-    part-put-code-end
+    (λ c. search needs)
     put-code-requires
     add-result
-    same-length
+    (λ c. search needs)
     returns)

@@ -9,20 +9,11 @@ use Rattle.form.proofs.LineBytes.{short-line, part-size}
 use Rattle.form_write_line.proofs.put_short_line.Statement.{statement}
 use Rattle.form_write_line.proofs.put_short_line.Tie as tie
 
-add-out : tie.Need-add-out
-add-out c = search needs
-
-slice-write-out : tie.Need-slice-write-out
-slice-write-out c = search needs
-
 sub-put-code : tie.Need-sub-put-code
 sub-put-code c = simp length-set (omega arith)
 
 part-put-code-start : tie.Need-part-put-code-start
 part-put-code-start c = simp length-set (omega arith)
-
-part-put-code-end : tie.Need-part-put-code-end
-part-put-code-end c = search needs
 
 put-code-requires : tie.Need-put-code-requires
 put-code-requires c κs =
@@ -41,11 +32,11 @@ pub put-short-line-spec : {M : Type 1} → statement M
 put-short-line-spec =
     tie.close
     (tie.spec
-    add-out
-    slice-write-out
+    (λ c. search needs)
+    (λ c. search needs)
     sub-put-code
     part-put-code-start
-    part-put-code-end
+    (λ c. search needs)
     put-code-requires
     same-length
     returns)

@@ -5,17 +5,8 @@ use borrow.Author.Needs.{needs}
 use Rattle.octets.proofs.word_at.Statement.{statement}
 use Rattle.octets.proofs.word_at.Tie as tie
 
-shared-slice-read-high : tie.Need-shared-slice-read-high
-shared-slice-read-high c = search needs
-
 cast-high : tie.Need-cast-high
 cast-high c = omega (arith, c .shared-slice-known .given (c .before .args .at))
-
-add-low : tie.Need-add-low
-add-low c = search needs
-
-shared-slice-read-low : tie.Need-shared-slice-read-low
-shared-slice-read-low c = search needs
 
 cast-low : tie.Need-cast-low
 cast-low c = omega (arith, c .shared-slice-known2 .given (c .before .before .args .at + 1))
@@ -33,10 +24,10 @@ pub word-at-spec : {M : Type 1} → statement M
 word-at-spec =
     tie.close
     (tie.spec
-    shared-slice-read-high
+    (λ c. search needs)
     cast-high
-    add-low
-    shared-slice-read-low
+    (λ c. search needs)
+    (λ c. search needs)
     cast-low
     mul-result
     add-result

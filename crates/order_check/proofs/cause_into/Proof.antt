@@ -20,17 +20,8 @@ returns-2 c = let e = cause-odd _ (c .before .if1 .left) (c .if2 .taken) in (sym
 returns-3 : tie.Need-returns-3
 returns-3 c = let e = cause-long _ (c .before .before .if1 .left) (c .before .if2 .left) (c .if3 .taken) in (sym e, (λ d. absurd (omega arith), refl))
 
-measure-requires : tie.Need-measure-requires
-measure-requires c κs = search needs
-
-enum-known-depth : tie.Need-enum-known-depth
-enum-known-depth c = search needs
-
 enum-told : tie.Need-enum-told
 enum-told c = search needs
-
-same-length : tie.Need-same-length
-same-length c = search needs
 
 returns-4 : tie.Need-returns-4
 returns-4 c =
@@ -39,18 +30,12 @@ returns-4 c =
     let e = broken-missing _ (sym (m .0) ∙ c .enum-told .given .1) in
     (sym (cause-missing _ (sized (k .before .before)) e), (gone-over _ _ (m .1 .0), m .1 .1))
 
-same-length-2 : tie.Need-same-length-2
-same-length-2 c = search needs
-
 returns-5 : tie.Need-returns-5
 returns-5 c =
     let k = c .before .before .before .before .before .before in
     let m = k .measure .ensures in
     let f = measured-found _ _ (sym (m .0) ∙ c .before .before .depth .given .1) in
     (sym (cause-deep _ (sized (k .before .before)) _ f (c .if4 .taken)), (gone-over _ _ (m .1 .0), m .1 .1))
-
-same-length-3 : tie.Need-same-length-3
-same-length-3 c = search needs
 
 returns-6 : tie.Need-returns-6
 returns-6 c =
@@ -66,12 +51,12 @@ cause-into-spec =
     returns
     returns-2
     returns-3
-    measure-requires
-    enum-known-depth
+    (λ c κs. search needs)
+    (λ c. search needs)
     enum-told
-    same-length
+    (λ c. search needs)
     returns-4
-    same-length-2
+    (λ c. search needs)
     returns-5
-    same-length-3
+    (λ c. search needs)
     returns-6)

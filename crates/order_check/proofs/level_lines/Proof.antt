@@ -21,35 +21,14 @@ slice-write-levels c = let p = c .before .before .before .pre in omega (arith, h
 loop-holds : tie.Need-loop-holds Inv-loop μ-loop
 loop-holds c = let s = c .before .before .before in (levelled-first _ _ (s .args .levels .now) (s .pre .0) (s .pre .1), refl)
 
-mul-children : tie.Need-mul-children Inv-loop μ-loop
-mul-children c = search needs
-
-add-children : tie.Need-add-children Inv-loop μ-loop
-add-children c = search needs
-
-mul-children-2 : tie.Need-mul-children-2 Inv-loop μ-loop
-mul-children-2 c = search needs
-
-shared-slice-read-children : tie.Need-shared-slice-read-children Inv-loop μ-loop
-shared-slice-read-children c = search needs
-
 slice-read-below : tie.Need-slice-read-below Inv-loop μ-loop
 slice-read-below c = omega (arith, c .before .before .before .loop .inv .0 .room, c .before .before .loop-test .taken)
 
 add-below : tie.Need-add-below Inv-loop μ-loop
 add-below c = omega (arith, level-small _ _ _ _ (c .before .before .before .loop .inv .0) (c .before .before .loop-test .taken))
 
-add-level-row : tie.Need-add-level-row Inv-loop μ-loop
-add-level-row c = search needs
-
 level-row-requires : tie.Need-level-row-requires Inv-loop μ-loop
 level-row-requires c κs = row-below _ _ _ _ (c .before .before .before .before .loop .inv .0) (c .before .before .before .loop-test .taken)
-
-add-line : tie.Need-add-line Inv-loop μ-loop
-add-line c = search needs
-
-loop-less : tie.Need-loop-less Inv-loop μ-loop
-loop-less c = search needs
 
 loop-again : tie.Need-loop-again Inv-loop μ-loop
 loop-again c =
@@ -75,16 +54,16 @@ level-lines-spec =
     μ-loop
     slice-write-levels
     loop-holds
-    mul-children
-    add-children
-    mul-children-2
-    shared-slice-read-children
+    (λ c. search needs)
+    (λ c. search needs)
+    (λ c. search needs)
+    (λ c. search needs)
     slice-read-below
     add-below
-    add-level-row
+    (λ c. search needs)
     level-row-requires
-    add-line
-    loop-less
+    (λ c. search needs)
+    (λ c. search needs)
     loop-again
     same-length
     returns)

@@ -19,29 +19,8 @@ stands c = stands-at _ _ _ (sym (c .before .before .before .find-line .ensures .
 has : (c : tie.After-at) → HasLine (c .before .before .before .before .before .before .before .args .order .now) (c .before .before .before .before .before .before .before .args .line) (c .at .given .0 .0)
 has c = placed _ _ _ _ (c .before .before .before .find-line .ensures .0) (c .at .given .1)
 
-slice-aggregate-find-line : tie.Need-slice-aggregate-find-line
-slice-aggregate-find-line c = search needs
-
-find-line-requires : tie.Need-find-line-requires
-find-line-requires c κs = search needs
-
-enum-known-number : tie.Need-enum-known-number
-enum-known-number c = search needs
-
-wrote-requires : tie.Need-wrote-requires
-wrote-requires c κs = search needs
-
 enum-told : tie.Need-enum-told
 enum-told c = search needs
-
-wrote-requires-2 : tie.Need-wrote-requires-2
-wrote-requires-2 c κs = search needs
-
-enum-known-at : tie.Need-enum-known-at
-enum-known-at c = search needs
-
-slice-aggregate-cut-line : tie.Need-slice-aggregate-cut-line
-slice-aggregate-cut-line c = search needs
 
 cut-line-requires : tie.Need-cut-line-requires
 cut-line-requires c κs =
@@ -54,9 +33,6 @@ returns c = ap (λ (r : Written). writing r (c .before .before .before .before .
 
 returns-2 : tie.Need-returns-2
 returns-2 c = ap (λ (r : Written). writing r (c .before .before .before .before .before .before .before .before .args .out .now)) (c .wrote2 .ensures) ∙ sym (cut-lacks _ _ (placed _ _ _ _ (c .before .before .before .before .find-line .ensures .0) (c .before .enum-told .given .1)) _ _)
-
-same-length : tie.Need-same-length
-same-length c = search needs
 
 returns-3 : tie.Need-returns-3
 returns-3 c =
@@ -71,16 +47,16 @@ pub cut-into-spec : {M : Type 1} → statement M
 cut-into-spec =
     tie.close
     (tie.spec
-    slice-aggregate-find-line
-    find-line-requires
-    enum-known-number
-    wrote-requires
+    (λ c. search needs)
+    (λ c κs. search needs)
+    (λ c. search needs)
+    (λ c κs. search needs)
     enum-told
-    wrote-requires-2
-    enum-known-at
-    slice-aggregate-cut-line
+    (λ c κs. search needs)
+    (λ c. search needs)
+    (λ c. search needs)
     cut-line-requires
     returns
     returns-2
-    same-length
+    (λ c. search needs)
     returns-3)

@@ -8,42 +8,21 @@ use Rattle.order.proofs.Writing.{no-output-room, has-room}
 use Rattle.order_cuts.proofs.cut_line.Statement.{statement}
 use Rattle.order_cuts.proofs.cut_line.Tie as tie
 
-slice-aggregate-level-lines : tie.Need-slice-aggregate-level-lines
-slice-aggregate-level-lines c = search needs
-
 level-lines-requires : tie.Need-level-lines-requires
 level-lines-requires c κs = let p = c .before .before .before .before .pre in (p .0, omega (arith, passed-short _ (p .0 .sound)))
-
-slice-aggregate-put-cut : tie.Need-slice-aggregate-put-cut
-slice-aggregate-put-cut c = search needs
-
-slice-aggregate-put-cut-2 : tie.Need-slice-aggregate-put-cut-2
-slice-aggregate-put-cut-2 c = search needs
 
 put-cut-requires : tie.Need-put-cut-requires
 put-cut-requires c κs =
     let s = c .before .before .before .before .before .before .before .before in
     (s .pre .0, (c .before .before .before .level-lines .ensures .0, (s .pre .1, omega (arith, line-short _ _ (s .args .d) (s .pre .0 .sound) (s .pre .1)))))
 
-wrote-requires : tie.Need-wrote-requires
-wrote-requires c κs = search needs
-
 returns : tie.Need-returns
 returns c = no-output-room _ _ _ (c .wrote .ensures) (omega (arith, c .before .before .before .put-cut .ensures .0, c .before .if1 .taken))
-
-slice-aggregate-put-cut-3 : tie.Need-slice-aggregate-put-cut-3
-slice-aggregate-put-cut-3 c = search needs
 
 put-cut-requires-2 : tie.Need-put-cut-requires-2
 put-cut-requires-2 c κs =
     let p = c .before .before .before .before .before .before .before .before .before .before .before .before .before .pre in
     (p .0, (c .before .before .before .before .before .before .before .before .level-lines .ensures .0, (p .1, omega (arith, c .before .before .before .before .put-cut .ensures .0, c .before .before .if1 .left))))
-
-wrote-requires-2 : tie.Need-wrote-requires-2
-wrote-requires-2 c κs = search needs
-
-same-length : tie.Need-same-length
-same-length c = search needs
 
 returns-2 : tie.Need-returns-2
 returns-2 c =
@@ -54,15 +33,15 @@ pub cut-line-spec : {M : Type 1} → statement M
 cut-line-spec =
     tie.close
     (tie.spec
-    slice-aggregate-level-lines
+    (λ c. search needs)
     level-lines-requires
-    slice-aggregate-put-cut
-    slice-aggregate-put-cut-2
+    (λ c. search needs)
+    (λ c. search needs)
     put-cut-requires
-    wrote-requires
+    (λ c κs. search needs)
     returns
-    slice-aggregate-put-cut-3
+    (λ c. search needs)
     put-cut-requires-2
-    wrote-requires-2
-    same-length
+    (λ c κs. search needs)
+    (λ c. search needs)
     returns-2)

@@ -12,35 +12,14 @@ use Rattle.order_cuts.proofs.find_line.Tie as tie
 fine : (c : tie.Else1) → causeOf (c .before .before .before .before .before .before .before .args .order .now) ≡ done
 fine c = sym (c .before .before .before .cause-into .ensures .0) ∙ c .if1 .left
 
-cause-into-requires : tie.Need-cause-into-requires
-cause-into-requires c κs = search needs
-
-same-length : tie.Need-same-length
-same-length c = search needs
-
 returns : tie.Need-returns
 returns c = let e = c .before .before .before .cause-into .ensures in (ap Refused (e .0) ∙ sym (place-refused _ _ (λ h. c .if1 .taken (e .0 ∙ h))), e .1)
-
-same-length-2 : tie.Need-same-length-2
-same-length-2 c = search needs
 
 returns-2 : tie.Need-returns-2
 returns-2 c = (sym (place-none _ _ (fine (c .before)) (c .if2 .taken)), c .before .before .before .before .cause-into .ensures .1)
 
-same-length-3 : tie.Need-same-length-3
-same-length-3 c = search needs
-
 returns-3 : tie.Need-returns-3
 returns-3 c = (sym (place-past _ _ (fine (c .before .before)) (c .if3 .taken)), c .before .before .before .before .before .cause-into .ensures .1)
-
-sub-at : tie.Need-sub-at
-sub-at c = search needs
-
-mul-at : tie.Need-mul-at
-mul-at c = search needs
-
-same-length-4 : tie.Need-same-length-4
-same-length-4 c = search needs
 
 returns-4 : tie.Need-returns-4
 returns-4 c = (sym (place-at _ _ (fine (c .before .before)) (c .before .if2 .left) (c .if3 .left)), c .before .before .before .before .before .cause-into .ensures .1)
@@ -49,14 +28,14 @@ pub find-line-spec : {M : Type 1} → statement M
 find-line-spec =
     tie.close
     (tie.spec
-    cause-into-requires
-    same-length
+    (λ c κs. search needs)
+    (λ c. search needs)
     returns
-    same-length-2
+    (λ c. search needs)
     returns-2
-    same-length-3
+    (λ c. search needs)
     returns-3
-    sub-at
-    mul-at
-    same-length-4
+    (λ c. search needs)
+    (λ c. search needs)
+    (λ c. search needs)
     returns-4)

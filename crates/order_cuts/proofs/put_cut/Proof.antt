@@ -78,9 +78,6 @@ mul-kept-children-2 c = omega (arith, here (c .before) .lies)
 shared-slice-read-kept-children : tie.Need-shared-slice-read-kept-children Inv-loop μ-loop
 shared-slice-read-kept-children c = omega (arith, here (c .before .before) .lies)
 
-kept-children-requires : tie.Need-kept-children-requires Inv-loop μ-loop
-kept-children-requires c κs = search needs
-
 add-out : tie.Need-add-out Inv-loop μ-loop
 add-out c = omega (arith, here (c .before .before .before) .room)
 
@@ -132,7 +129,7 @@ put-cut-spec =
     add-kept-children
     mul-kept-children-2
     shared-slice-read-kept-children
-    kept-children-requires
+    (λ c κs. search needs)
     add-out
     mul-out-4
     slice-write-out-2

@@ -33,41 +33,8 @@ within : (c : tie.After-line-end) →
     × (c .line-end .result * 2 ≤ length (c .before .before .before .before .before .before .before .before .before .args .order .now))
 within c = let k = stands (c .before .before .before) in subtree-within _ _ _ (has (c .before .before .before)) _ (omega arith) (ends c)
 
-slice-aggregate-find-line : tie.Need-slice-aggregate-find-line
-slice-aggregate-find-line c = search needs
-
-find-line-requires : tie.Need-find-line-requires
-find-line-requires c κs = search needs
-
 enum-told : tie.Need-enum-told
 enum-told c = search needs
-
-sub-result : tie.Need-sub-result
-sub-result c = search needs
-
-part-result-start : tie.Need-part-result-start
-part-result-start c = search needs
-
-part-result-end : tie.Need-part-result-end
-part-result-end c = search needs
-
-enum-told-2 : tie.Need-enum-told-2
-enum-told-2 c = search needs
-
-sub-result-2 : tie.Need-sub-result-2
-sub-result-2 c = search needs
-
-part-result-start-2 : tie.Need-part-result-start-2
-part-result-start-2 c = search needs
-
-part-result-end-2 : tie.Need-part-result-end-2
-part-result-end-2 c = search needs
-
-enum-known-at : tie.Need-enum-known-at
-enum-known-at c = search needs
-
-slice-aggregate-line-end : tie.Need-slice-aggregate-line-end
-slice-aggregate-line-end c = search needs
 
 line-end-requires : tie.Need-line-end-requires
 line-end-requires c κs =
@@ -105,18 +72,18 @@ pub subtree-spec : {M : Type 1} → statement M
 subtree-spec =
     tie.close
     (tie.spec
-    slice-aggregate-find-line
-    find-line-requires
+    (λ c. search needs)
+    (λ c κs. search needs)
     enum-told
-    sub-result
-    part-result-start
-    part-result-end
-    enum-told-2
-    sub-result-2
-    part-result-start-2
-    part-result-end-2
-    enum-known-at
-    slice-aggregate-line-end
+    (λ c. search needs)
+    (λ c. search needs)
+    (λ c. search needs)
+    (λ c. search needs)
+    (λ c. search needs)
+    (λ c. search needs)
+    (λ c. search needs)
+    (λ c. search needs)
+    (λ c. search needs)
     line-end-requires
     mul-end
     mul-result

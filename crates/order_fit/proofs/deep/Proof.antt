@@ -35,23 +35,11 @@ sub-here c = let l = c .before .loop in omega (arith, l .inv .paired, c .loop-te
 add-children : tie.Need-add-children Inv-loop μ-loop
 add-children c = let l = c .before .loop in omega (arith, l .inv .low, l .inv .short)
 
-mul-children : tie.Need-mul-children Inv-loop μ-loop
-mul-children c = search needs
-
 shared-slice-read-children : tie.Need-shared-slice-read-children Inv-loop μ-loop
 shared-slice-read-children c = let l = c .before .before .loop in omega (arith, l .inv .paired, l .inv .low, c .before .loop-test .taken)
 
-mul-node-ok : tie.Need-mul-node-ok Inv-loop μ-loop
-mul-node-ok c = search needs
-
 shared-slice-read-node-ok : tie.Need-shared-slice-read-node-ok Inv-loop μ-loop
 shared-slice-read-node-ok c = let l = c .before .before .before .loop in omega (arith, l .inv .paired, l .inv .low, c .before .before .loop-test .taken)
-
-node-ok-requires : tie.Need-node-ok-requires Inv-loop μ-loop
-node-ok-requires c κs = search needs
-
-same-length : tie.Need-same-length Inv-loop μ-loop
-same-length c = search needs
 
 returns : tie.Need-returns Inv-loop μ-loop
 returns c =
@@ -79,14 +67,8 @@ pop-requires c κs =
     let few = stacked-few _ _ _ _ _ _ _ (l .inv) in
     (few .0, few .1, omega (arith, c .before .if2 .left), l .inv .shallow)
 
-enum-known-rest : tie.Need-enum-known-rest Inv-loop μ-loop
-enum-known-rest c = search needs
-
 enum-told : tie.Need-enum-told Inv-loop μ-loop
 enum-told c = search needs
-
-same-length-2 : tie.Need-same-length-2 Inv-loop μ-loop
-same-length-2 c = search needs
 
 returns-2 : tie.Need-returns-2 Inv-loop μ-loop
 returns-2 c =
@@ -109,16 +91,10 @@ loop-again-2 c =
     let l = c .before .before .before .before .before .before .before .before .before .before .before .loop in
     stacked-next _ _ _ _ _ _ _ (l .inv) (c .before .before .before .before .before .before .before .before .before .before .loop-test .taken) _ _ _ refl refl refl _ _ (sym (c .before .before .before .before .before .before .before .node-ok .ensures) ∙ not-false _ (c .before .before .before .before .before .before .if1 .left)) (omega (arith, c .before .before .before .before .before .if2 .left)) (sym (c .before .rest .given .1) ∙ c .before .before .before .pop .ensures (l .inv .row) (l .inv .stands))
 
-same-length-3 : tie.Need-same-length-3 Inv-loop μ-loop
-same-length-3 c = search needs
-
 returns-3 : tie.Need-returns-3 Inv-loop μ-loop
 returns-3 c =
     let l = c .before .before .loop in
     (stacked-other _ _ _ _ _ _ _ (l .inv) (omega (arith, c .before .loop-test .left)) (c .if3 .taken), l .inv .kept)
-
-same-length-4 : tie.Need-same-length-4 Inv-loop μ-loop
-same-length-4 c = search needs
 
 returns-4 : tie.Need-returns-4 Inv-loop μ-loop
 returns-4 c =
@@ -134,12 +110,12 @@ deep-spec =
     loop-holds
     sub-here
     add-children
-    mul-children
+    (λ c. search needs)
     shared-slice-read-children
-    mul-node-ok
+    (λ c. search needs)
     shared-slice-read-node-ok
-    node-ok-requires
-    same-length
+    (λ c κs. search needs)
+    (λ c. search needs)
     returns
     cast-stack
     mul-stack
@@ -147,15 +123,15 @@ deep-spec =
     add-many
     add-run
     pop-requires
-    enum-known-rest
+    (λ c. search needs)
     enum-told
-    same-length-2
+    (λ c. search needs)
     returns-2
     loop-less
     loop-again
     loop-less-2
     loop-again-2
-    same-length-3
+    (λ c. search needs)
     returns-3
-    same-length-4
+    (λ c. search needs)
     returns-4)

@@ -24,27 +24,15 @@ deep-requires c κs = let p = c .before .before .before .before .pre in (p .0, c
 enum-told : tie.Need-enum-told
 enum-told c = search needs
 
-enum-known-depth : tie.Need-enum-known-depth
-enum-known-depth c = search needs
-
-same-length : tie.Need-same-length
-same-length c = search needs
-
 returns-2 : tie.Need-returns-2
 returns-2 c =
     let d = c .before .before .before .before .before .before in
     (sym (fits-deep _ _ _ _ (d .before .before .if1 .left) (d .before .before .before .before .before .pre .1) (sym (d .deep .ensures .0) ∙ c .before .before .depth .given .1) ∙ fails-left _ _ (lt-leb _ _ (c .if2 .taken))), d .deep .ensures .1)
 
-same-length-2 : tie.Need-same-length-2
-same-length-2 c = search needs
-
 returns-3 : tie.Need-returns-3
 returns-3 c =
     let d = c .before .before .before .before in
     (sym (fits-broken _ _ _ (sym (d .deep .ensures .0) ∙ c .enum-told .given .1)), d .deep .ensures .1)
-
-same-length-3 : tie.Need-same-length-3
-same-length-3 c = search needs
 
 returns-4 : tie.Need-returns-4
 returns-4 c =
@@ -58,10 +46,10 @@ fits-spec =
     returns
     deep-requires
     enum-told
-    enum-known-depth
-    same-length
+    (λ c. search needs)
+    (λ c. search needs)
     returns-2
-    same-length-2
+    (λ c. search needs)
     returns-3
-    same-length-3
+    (λ c. search needs)
     returns-4)

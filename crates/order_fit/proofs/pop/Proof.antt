@@ -18,15 +18,6 @@ Inv-loop stack many top run children taken rest at₀ depth₀ at depth = ((rest
 abbrev μ-loop : tie.MeasureT-loop
 μ-loop stack many top run children taken rest at₀ depth₀ at depth = at
 
-wide-requires : tie.Need-wide-requires Inv-loop μ-loop
-wide-requires c κs = search needs
-
-add-rest : tie.Need-add-rest Inv-loop μ-loop
-add-rest c = search needs
-
-sub-rest : tie.Need-sub-rest Inv-loop μ-loop
-sub-rest c = search needs
-
 returns : tie.Need-returns Inv-loop μ-loop
 returns c f b =
     let p = c .before .before .before .pre in
@@ -35,15 +26,6 @@ returns c f b =
 returns-2 : tie.Need-returns-2 Inv-loop μ-loop
 returns-2 c f b = none-popped _ _ _ _ _ b _ (omega (arith, c .if2 .taken, c .before .before .wide .ensures))
 
-add-rest-2 : tie.Need-add-rest-2 Inv-loop μ-loop
-add-rest-2 c = search needs
-
-sub-rest-2 : tie.Need-sub-rest-2 Inv-loop μ-loop
-sub-rest-2 c = search needs
-
-add-depth : tie.Need-add-depth Inv-loop μ-loop
-add-depth c = search needs
-
 loop-holds : tie.Need-loop-holds Inv-loop μ-loop
 loop-holds c =
     let a = c .before .before .before .before in
@@ -51,21 +33,6 @@ loop-holds c =
       (omega (arith, w, a .pre .2), omega arith),
       λ f b. first-popped _ _ _ _ _ b (a .pre .0) (omega (arith, w, a .pre .2, c .if2 .left)) ∙ ap (λ (n : ℕ). depthF (firstTrees (suc n) f)) (omega arith),
     )
-
-sub-at : tie.Need-sub-at Inv-loop μ-loop
-sub-at c = search needs
-
-mul-deeper : tie.Need-mul-deeper Inv-loop μ-loop
-mul-deeper c = search needs
-
-shared-slice-read-deeper : tie.Need-shared-slice-read-deeper Inv-loop μ-loop
-shared-slice-read-deeper c = search needs
-
-deeper-requires : tie.Need-deeper-requires Inv-loop μ-loop
-deeper-requires c κs = search needs
-
-loop-less : tie.Need-loop-less Inv-loop μ-loop
-loop-less c = search needs
 
 loop-again : tie.Need-loop-again Inv-loop μ-loop
 loop-again c =
@@ -88,19 +55,19 @@ pop-spec =
     (tie.spec
     Inv-loop
     μ-loop
-    wide-requires
-    add-rest
-    sub-rest
+    (λ c κs. search needs)
+    (λ c. search needs)
+    (λ c. search needs)
     returns
     returns-2
-    add-rest-2
-    sub-rest-2
-    add-depth
+    (λ c. search needs)
+    (λ c. search needs)
+    (λ c. search needs)
     loop-holds
-    sub-at
-    mul-deeper
-    shared-slice-read-deeper
-    deeper-requires
-    loop-less
+    (λ c. search needs)
+    (λ c. search needs)
+    (λ c. search needs)
+    (λ c κs. search needs)
+    (λ c. search needs)
     loop-again
     returns-3)

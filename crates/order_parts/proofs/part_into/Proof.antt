@@ -25,44 +25,14 @@ stands c = stands-at _ _ _ (sym (c .before .before .before .find-line .ensures .
 has : (c : tie.After-at) → HasLine (c .before .before .before .before .before .before .before .args .order .now) (c .before .before .before .before .before .before .before .args .line) (c .at .given .0 .0)
 has c = placed _ _ _ _ (c .before .before .before .find-line .ensures .0) (c .at .given .1)
 
-slice-aggregate-find-line : tie.Need-slice-aggregate-find-line
-slice-aggregate-find-line c = search needs
-
-find-line-requires : tie.Need-find-line-requires
-find-line-requires c κs = search needs
-
-enum-known-number : tie.Need-enum-known-number
-enum-known-number c = search needs
-
-no-part-requires : tie.Need-no-part-requires
-no-part-requires c κs = search needs
-
 enum-told : tie.Need-enum-told
 enum-told c = search needs
-
-no-part-requires-2 : tie.Need-no-part-requires-2
-no-part-requires-2 c κs = search needs
-
-enum-known-at : tie.Need-enum-known-at
-enum-known-at c = search needs
-
-slice-aggregate-is-low : tie.Need-slice-aggregate-is-low
-slice-aggregate-is-low c = search needs
 
 is-low-requires : tie.Need-is-low-requires
 is-low-requires c κs =
     let a = c .before .before in
     let over = a .before .before .before .find-line .ensures .1 .0 (stands a .passes) in
     omega (arith, stands-span _ _ over _ _ (has a) (stands a) .0, spans-room _ _ over)
-
-kind-of-requires : tie.Need-kind-of-requires
-kind-of-requires c κs = search needs
-
-slice-aggregate-cut-line : tie.Need-slice-aggregate-cut-line
-slice-aggregate-cut-line c = search needs
-
-of-middles-requires : tie.Need-of-middles-requires
-of-middles-requires c κs = search needs
 
 cut-line-requires : tie.Need-cut-line-requires
 cut-line-requires c κs =
@@ -75,9 +45,6 @@ returns c = ap (λ (r : PartWritten). partWriting r (c .before .before .before .
 
 returns-2 : tie.Need-returns-2
 returns-2 c = ap (λ (r : PartWritten). partWriting r (c .before .before .before .before .before .before .before .before .args .out .now)) (c .no-part2 .ensures) ∙ sym (part-lacks _ _ (placed _ _ _ _ (c .before .before .before .before .find-line .ensures .0) (c .before .enum-told .given .1)) _ _)
-
-same-length : tie.Need-same-length
-same-length c = search needs
 
 returns-3 : tie.Need-returns-3
 unfolding isLow
@@ -97,20 +64,20 @@ pub part-into-spec : {M : Type 1} → statement M
 part-into-spec =
     tie.close
     (tie.spec
-    slice-aggregate-find-line
-    find-line-requires
-    enum-known-number
-    no-part-requires
+    (λ c. search needs)
+    (λ c κs. search needs)
+    (λ c. search needs)
+    (λ c κs. search needs)
     enum-told
-    no-part-requires-2
-    enum-known-at
-    slice-aggregate-is-low
+    (λ c κs. search needs)
+    (λ c. search needs)
+    (λ c. search needs)
     is-low-requires
-    kind-of-requires
-    slice-aggregate-cut-line
-    of-middles-requires
+    (λ c κs. search needs)
+    (λ c. search needs)
+    (λ c κs. search needs)
     cut-line-requires
     returns
     returns-2
-    same-length
+    (λ c. search needs)
     returns-3)

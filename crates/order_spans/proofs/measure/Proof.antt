@@ -23,36 +23,6 @@ loop-holds c =
     let p = c .before .before .pre in
     (back-start _ _ (p .1) (p .2) (p .0), front-start _ _ (p .1))
 
-mul-children : tie.Need-mul-children Inv-loop μ-loop
-mul-children c = search needs
-
-sub-children : tie.Need-sub-children Inv-loop μ-loop
-sub-children c = search needs
-
-mul-children-2 : tie.Need-mul-children-2 Inv-loop μ-loop
-mul-children-2 c = search needs
-
-shared-slice-read-children : tie.Need-shared-slice-read-children Inv-loop μ-loop
-shared-slice-read-children c = search needs
-
-mul-code : tie.Need-mul-code Inv-loop μ-loop
-mul-code c = search needs
-
-sub-code : tie.Need-sub-code Inv-loop μ-loop
-sub-code c = search needs
-
-mul-code-2 : tie.Need-mul-code-2 Inv-loop μ-loop
-mul-code-2 c = search needs
-
-shared-slice-read-code : tie.Need-shared-slice-read-code Inv-loop μ-loop
-shared-slice-read-code c = search needs
-
-node-ok-requires : tie.Need-node-ok-requires Inv-loop μ-loop
-node-ok-requires c κs = search needs
-
-same-length : tie.Need-same-length Inv-loop μ-loop
-same-length c = search needs
-
 returns : tie.Need-returns Inv-loop μ-loop
 returns c =
     let l = c .before .before .before .before .before .before .loop in
@@ -61,19 +31,10 @@ returns c =
     let m = no-tree _ (l .spans) (back-unsound _ _ _ _ (l .inv .0) _ _ _ more refl refl (sym (c .before .before .if1 .taken)) e) in
     (m .0, (m .1, l .inv .0 .kept))
 
-put-span-requires : tie.Need-put-span-requires Inv-loop μ-loop
-put-span-requires c κs = search needs
-
 add-run : tie.Need-add-run Inv-loop μ-loop
 add-run c =
     let l = c .before .before .before .before .before .before .before .before .before .before .loop in
     omega (arith, front-small _ _ _ _ _ _ _ (l .inv .0) (l .inv .1), l .inv .0 .short)
-
-node-ok-requires-2 : tie.Need-node-ok-requires-2 Inv-loop μ-loop
-node-ok-requires-2 c κs = search needs
-
-same-length-2 : tie.Need-same-length-2 Inv-loop μ-loop
-same-length-2 c = search needs
 
 returns-2 : tie.Need-returns-2 Inv-loop μ-loop
 returns-2 c =
@@ -83,17 +44,8 @@ returns-2 c =
     let m = no-tree _ (l .spans) (back-unsound _ _ _ _ (l .inv .0) _ _ _ more refl refl refl e) in
     (m .0, (m .1, l .inv .0 .kept))
 
-over-children-requires : tie.Need-over-children-requires Inv-loop μ-loop
-over-children-requires c κs = search needs
-
-enum-known-end : tie.Need-enum-known-end Inv-loop μ-loop
-enum-known-end c = search needs
-
 enum-told : tie.Need-enum-told Inv-loop μ-loop
 enum-told c = search needs
-
-same-length-3 : tie.Need-same-length-3 Inv-loop μ-loop
-same-length-3 c = search needs
 
 returns-3 : tie.Need-returns-3 Inv-loop μ-loop
 returns-3 c =
@@ -119,12 +71,6 @@ put-span-requires-2 c κs =
 
 cast-top : tie.Need-cast-top Inv-loop μ-loop
 cast-top c = omega (arith, small (c .before .before .before .before) .1, c .before .before .before .before .before .before .before .before .before .before .before .before .before .before .before .loop .inv .0 .short)
-
-sub-line : tie.Need-sub-line Inv-loop μ-loop
-sub-line c = search needs
-
-loop-less : tie.Need-loop-less Inv-loop μ-loop
-loop-less c = search needs
 
 loop-again : tie.Need-loop-again Inv-loop μ-loop
 loop-again c =
@@ -152,9 +98,6 @@ whole-requires c κs =
     let l = c .before .before .loop in
     ((l .inv .0 .short, l .inv .0 .even, l .inv .0 .room), back-all _ _ _ _ (l .inv .0) (omega (arith, c .before .loop-test .left)))
 
-same-length-4 : tie.Need-same-length-4 Inv-loop μ-loop
-same-length-4 c = search needs
-
 returns-4 : tie.Need-returns-4 Inv-loop μ-loop
 returns-4 c =
     let l = c .before .before .before .loop in
@@ -168,32 +111,32 @@ measure-spec =
     Inv-loop
     μ-loop
     loop-holds
-    mul-children
-    sub-children
-    mul-children-2
-    shared-slice-read-children
-    mul-code
-    sub-code
-    mul-code-2
-    shared-slice-read-code
-    node-ok-requires
-    same-length
+    (λ c. search needs)
+    (λ c. search needs)
+    (λ c. search needs)
+    (λ c. search needs)
+    (λ c. search needs)
+    (λ c. search needs)
+    (λ c. search needs)
+    (λ c. search needs)
+    (λ c κs. search needs)
+    (λ c. search needs)
     returns
-    put-span-requires
+    (λ c κs. search needs)
     add-run
-    node-ok-requires-2
-    same-length-2
+    (λ c κs. search needs)
+    (λ c. search needs)
     returns-2
-    over-children-requires
-    enum-known-end
+    (λ c κs. search needs)
+    (λ c. search needs)
     enum-told
-    same-length-3
+    (λ c. search needs)
     returns-3
     put-span-requires-2
     cast-top
-    sub-line
-    loop-less
+    (λ c. search needs)
+    (λ c. search needs)
     loop-again
     whole-requires
-    same-length-4
+    (λ c. search needs)
     returns-4)

@@ -13,24 +13,12 @@ returns c =
     let p = c .before .before .before .pre in
     rw (whole-none _ _ (p .0 .1) (p .0 .2) (p .1) (c .if1 .taken)) refl
 
-shared-slice-read-wide : tie.Need-shared-slice-read-wide
-shared-slice-read-wide c = search needs
-
-wide-requires : tie.Need-wide-requires
-wide-requires c κs = search needs
-
 returns-2 : tie.Need-returns-2
 unfolding measuredOf
 returns-2 c =
     let p = c .before .before .before .before .before .before .pre in
     let low = c .before .before .before .if1 .left in
     rw (whole-more _ _ (p .0 .1) (p .0 .2) (p .1) (omega arith) (λ e. omega (arith, c .before .wide .ensures, c .if2 .taken))) refl
-
-shared-slice-read-wide-2 : tie.Need-shared-slice-read-wide-2
-shared-slice-read-wide-2 c = search needs
-
-wide-requires-2 : tie.Need-wide-requires-2
-wide-requires-2 c κs = search needs
 
 returns-3 : tie.Need-returns-3
 returns-3 c =
@@ -43,9 +31,9 @@ whole-spec =
     tie.close
     (tie.spec
     returns
-    shared-slice-read-wide
-    wide-requires
+    (λ c. search needs)
+    (λ c κs. search needs)
     returns-2
-    shared-slice-read-wide-2
-    wide-requires-2
+    (λ c. search needs)
+    (λ c κs. search needs)
     returns-3)

@@ -12,24 +12,6 @@ Inv-loop i₀ i-end i = Unit {0}
 abbrev μ-loop : tie.MeasureT-loop
 μ-loop i₀ i-end i = i-end - i
 
-arg-count-requires : tie.Need-arg-count-requires Inv-loop μ-loop
-arg-count-requires c κs = search needs
-
-loop-holds : tie.Need-loop-holds Inv-loop μ-loop
-loop-holds c = search needs
-
-argument-requires : tie.Need-argument-requires Inv-loop μ-loop
-argument-requires c κs = search needs
-
-add-i : tie.Need-add-i Inv-loop μ-loop
-add-i c = search needs
-
-loop-less : tie.Need-loop-less Inv-loop μ-loop
-loop-less c = search needs
-
-loop-again : tie.Need-loop-again Inv-loop μ-loop
-loop-again c = search needs
-
 returns : tie.Need-returns Inv-loop μ-loop
 returns c = search needs
 
@@ -39,10 +21,10 @@ main-spec =
     (tie.spec
     Inv-loop
     μ-loop
-    arg-count-requires
-    loop-holds
-    argument-requires
-    add-i
-    loop-less
-    loop-again
+    (λ c κs. search needs)
+    (λ c. search needs)
+    (λ c κs. search needs)
+    (λ c. search needs)
+    (λ c. search needs)
+    (λ c. search needs)
     returns)

@@ -33,17 +33,8 @@ past-requires c κs = room c
 mul-compare : tie.Need-mul-compare
 mul-compare c = omega (arith, c .past .ensures, room (c .before))
 
-sub-compare : tie.Need-sub-compare
-sub-compare c = search needs
-
-part-compare-start : tie.Need-part-compare-start
-part-compare-start c = search needs
-
 part-compare-end : tie.Need-part-compare-end
 part-compare-end c = omega (arith, c .past .ensures, room (c .before))
-
-compare-requires : tie.Need-compare-requires
-compare-requires c κs = search needs
 
 size-requires : tie.Need-size-requires
 size-requires c κs =
@@ -65,9 +56,9 @@ place-at-spec =
     add-start
     past-requires
     mul-compare
-    sub-compare
-    part-compare-start
+    (λ c. search needs)
+    (λ c. search needs)
     part-compare-end
-    compare-requires
+    (λ c κs. search needs)
     size-requires
     returns-2)

@@ -36,29 +36,11 @@ add-start c = omega (arith, room c)
 past-requires : tie.Need-past-requires Inv-loop μ-loop
 past-requires c κs = omega (arith, room c)
 
-mul-standing : tie.Need-mul-standing Inv-loop μ-loop
-mul-standing c = search needs
-
-sub-standing : tie.Need-sub-standing Inv-loop μ-loop
-sub-standing c = search needs
-
-part-standing-start : tie.Need-part-standing-start Inv-loop μ-loop
-part-standing-start c = search needs
-
 part-standing-end : tie.Need-part-standing-end Inv-loop μ-loop
 part-standing-end c = omega (arith, room (c .before), c .past .ensures)
 
-standing-requires : tie.Need-standing-requires Inv-loop μ-loop
-standing-requires c κs = search needs
-
 enum-told : tie.Need-enum-told Inv-loop μ-loop
 enum-told c = search needs
-
-sub-left : tie.Need-sub-left Inv-loop μ-loop
-sub-left c = search needs
-
-loop-less : tie.Need-loop-less Inv-loop μ-loop
-loop-less c = search needs
 
 loop-again : tie.Need-loop-again Inv-loop μ-loop
 loop-again c =
@@ -67,9 +49,6 @@ loop-again c =
     let i = p .before in
     searched-past _ _ _ _ _ _ _ (i .before .loop .inv) (p .past .result) (i .loop-test .taken) (p .past .ensures) (sym (s .standing .ensures) ∙ c .enum-told .given .1)
 
-enum-told-2 : tie.Need-enum-told-2 Inv-loop μ-loop
-enum-told-2 c = search needs
-
 returns : tie.Need-returns Inv-loop μ-loop
 returns c =
     let s = c .before .before in
@@ -77,9 +56,6 @@ returns c =
     let i = p .before in
     let v = i .before .loop .inv in
     stops-here _ _ _ _ _ _ _ v (searched-here _ _ _ _ _ _ _ v (p .past .result) (i .loop-test .taken) (p .past .ensures) (sym (s .standing .ensures) ∙ c .enum-told2 .given .1))
-
-enum-told-3 : tie.Need-enum-told-3 Inv-loop μ-loop
-enum-told-3 c = search needs
 
 returns-2 : tie.Need-returns-2 Inv-loop μ-loop
 returns-2 c =
@@ -101,17 +77,17 @@ search-spec =
     loop-holds
     add-start
     past-requires
-    mul-standing
-    sub-standing
-    part-standing-start
+    (λ c. search needs)
+    (λ c. search needs)
+    (λ c. search needs)
     part-standing-end
-    standing-requires
+    (λ c κs. search needs)
     enum-told
-    sub-left
-    loop-less
+    (λ c. search needs)
+    (λ c. search needs)
     loop-again
-    enum-told-2
+    (λ c. search needs)
     returns
-    enum-told-3
+    (λ c. search needs)
     returns-2
     returns-3)

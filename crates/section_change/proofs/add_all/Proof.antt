@@ -108,12 +108,6 @@ past-requires c κs = omega (arith, room c)
 mul-first-against : tie.Need-mul-first-against Inv-loop μ-loop
 mul-first-against c = omega (arith, room (c .before .before), c .before .before .before .before .before .before .before .before .before .before .good)
 
-sub-first-against : tie.Need-sub-first-against Inv-loop μ-loop
-sub-first-against c = search needs
-
-part-first-against-start : tie.Need-part-first-against-start Inv-loop μ-loop
-part-first-against-start c = search needs
-
 part-first-against-end : tie.Need-part-first-against-end Inv-loop μ-loop
 part-first-against-end c = omega (arith, room (c .before .before))
 
@@ -139,9 +133,6 @@ loop-again c =
     let k = p .before .before in
     λ ws r now. adds-lower ws _ _ _ _ _ _ _ _ _ _ _ _ _ (k .loop .inv ws r now) (p .past .result) (p .before .loop-test .taken) (p .past .ensures) (is-lower e) (some-lower e) (c .past2 .result) (c .past2 .ensures)
 
-enum-told-2 : tie.Need-enum-told-2 Inv-loop μ-loop
-enum-told-2 c = search needs
-
 mul-raise : tie.Need-mul-raise Inv-loop μ-loop
 mul-raise c = let k = c .before .before .before .before .before .before .before in omega (arith, equal-here c, reached k .gap .long, k .before .before .before .before .before .before .before .good)
 
@@ -150,9 +141,6 @@ sub-raise c = omega (arith, equal-here c)
 
 part-raise-start : tie.Need-part-raise-start Inv-loop μ-loop
 part-raise-start c = omega (arith, equal-here c)
-
-part-raise-end : tie.Need-part-raise-end Inv-loop μ-loop
-part-raise-end c = search needs
 
 add-raise : tie.Need-add-raise Inv-loop μ-loop
 add-raise c = omega (arith, room (c .before .before .before .before .before .before .before))
@@ -196,17 +184,8 @@ loop-again-2 c =
     let k = p .before .before in
     λ ws ready now. adds-equal ws _ _ _ _ _ _ _ _ _ _ _ _ _ (k .loop .inv ws ready now) (p .past .result) (p .before .loop-test .taken) (p .past .ensures) (r .raise .last .0) (r .raise .ensures) (is-equal e) (some-equal e) (c .past3 .result) (c .past3 .ensures)
 
-enum-told-3 : tie.Need-enum-told-3 Inv-loop μ-loop
-enum-told-3 c = search needs
-
 mul-enter-behind : tie.Need-mul-enter-behind Inv-loop μ-loop
 mul-enter-behind c = omega (arith, room (c .before .before .before .before .before .before .before), c .before .before .before .before .before .before .before .before .before .before .before .before .before .before .before .good)
-
-sub-enter-behind : tie.Need-sub-enter-behind Inv-loop μ-loop
-sub-enter-behind c = search needs
-
-part-enter-behind-start : tie.Need-part-enter-behind-start Inv-loop μ-loop
-part-enter-behind-start c = search needs
 
 part-enter-behind-end : tie.Need-part-enter-behind-end Inv-loop μ-loop
 part-enter-behind-end c = omega (arith, room (c .before .before .before .before .before .before .before))
@@ -257,8 +236,8 @@ add-all-spec =
     add-start
     past-requires
     mul-first-against
-    sub-first-against
-    part-first-against-start
+    (λ c. search needs)
+    (λ c. search needs)
     part-first-against-end
     first-against-requires
     enum-told
@@ -266,11 +245,11 @@ add-all-spec =
     sub-left
     loop-less
     loop-again
-    enum-told-2
+    (λ c. search needs)
     mul-raise
     sub-raise
     part-raise-start
-    part-raise-end
+    (λ c. search needs)
     add-raise
     mul-raise-2
     shared-slice-read-raise
@@ -280,10 +259,10 @@ add-all-spec =
     sub-rest
     loop-less-2
     loop-again-2
-    enum-told-3
+    (λ c. search needs)
     mul-enter-behind
-    sub-enter-behind
-    part-enter-behind-start
+    (λ c. search needs)
+    (λ c. search needs)
     part-enter-behind-end
     enter-behind-requires
     add-count

@@ -12,32 +12,8 @@ use Rattle.section_change.specs.Editing.{brought}
 use Rattle.section_change.proofs.bring_down.Statement.{statement}
 use Rattle.section_change.proofs.bring_down.Tie as tie
 
-sub-passed : tie.Need-sub-passed
-sub-passed c = search needs
-
-mul-slide : tie.Need-mul-slide
-mul-slide c = search needs
-
-sub-slide : tie.Need-sub-slide
-sub-slide c = search needs
-
-part-slide-start : tie.Need-part-slide-start
-part-slide-start c = search needs
-
-part-slide-end : tie.Need-part-slide-end
-part-slide-end c = search needs
-
-sub-slide-2 : tie.Need-sub-slide-2
-sub-slide-2 c = search needs
-
 slide-requires : tie.Need-slide-requires
 slide-requires c κs = simp (length-take, length-drop) (omega (arith, c .before .before .pre))
-
-add-result : tie.Need-add-result
-add-result c = search needs
-
-same-length : tie.Need-same-length
-same-length c = search needs
 
 -- The book once the part that was lent has come back.
 came-back : (book last : List ℕ) (to kept at : ℕ) → to ≤ kept → kept ≤ at → at ≤ length book → let part = take (length book - to) (drop to book) in
@@ -57,13 +33,13 @@ pub bring-down-spec : {M : Type 1} → statement M
 bring-down-spec =
     tie.close
     (tie.spec
-    sub-passed
-    mul-slide
-    sub-slide
-    part-slide-start
-    part-slide-end
-    sub-slide-2
+    (λ c. search needs)
+    (λ c. search needs)
+    (λ c. search needs)
+    (λ c. search needs)
+    (λ c. search needs)
+    (λ c. search needs)
     slide-requires
-    add-result
-    same-length
+    (λ c. search needs)
+    (λ c. search needs)
     returns)

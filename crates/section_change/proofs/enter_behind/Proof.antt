@@ -13,30 +13,6 @@ use Rattle.section_change.specs.Editing.{brought, entered}
 use Rattle.section_change.proofs.enter_behind.Statement.{statement}
 use Rattle.section_change.proofs.enter_behind.Tie as tie
 
-bring-down-requires : tie.Need-bring-down-requires
-bring-down-requires c κs = search needs
-
-mul-copy : tie.Need-mul-copy
-mul-copy c = search needs
-
-sub-copy : tie.Need-sub-copy
-sub-copy c = search needs
-
-part-copy-start : tie.Need-part-copy-start
-part-copy-start c = search needs
-
-part-copy-end : tie.Need-part-copy-end
-part-copy-end c = search needs
-
-copy-requires : tie.Need-copy-requires
-copy-requires c κs = search needs
-
-add-result : tie.Need-add-result
-add-result c = search needs
-
-same-length : tie.Need-same-length
-same-length c = search needs
-
 -- The book once the part with the entry has come back, behind the words that were moved.
 came-back : (book down entry last : List ℕ) (to kept at end : ℕ) → to + length entry ≤ kept → kept ≤ at → at ≤ length book → down ≡ brought to kept at book → end ≡ to + (at - kept)
     → last ≡ over entry (take (length down - end) (drop end down)) → putMid end (length down - end) down last ≡ entered to kept at entry book
@@ -60,12 +36,12 @@ pub enter-behind-spec : {M : Type 1} → statement M
 enter-behind-spec =
     tie.close
     (tie.spec
-    bring-down-requires
-    mul-copy
-    sub-copy
-    part-copy-start
-    part-copy-end
-    copy-requires
-    add-result
-    same-length
+    (λ c κs. search needs)
+    (λ c. search needs)
+    (λ c. search needs)
+    (λ c. search needs)
+    (λ c. search needs)
+    (λ c κs. search needs)
+    (λ c. search needs)
+    (λ c. search needs)
     returns)

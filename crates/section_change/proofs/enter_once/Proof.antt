@@ -14,18 +14,6 @@ use Rattle.section_change.proofs.Once.{laid-few, gap-within, spelt-entr
 use Rattle.section_change.proofs.enter_once.Statement.{statement}
 use Rattle.section_change.proofs.enter_once.Tie as tie
 
-sub-search : tie.Need-sub-search
-sub-search c = search needs
-
-part-search-start : tie.Need-part-search-start
-part-search-start c = search needs
-
-part-search-end : tie.Need-part-search-end
-part-search-end c = search needs
-
-search-requires : tie.Need-search-requires
-search-requires c κs = search needs
-
 -- The search was for the entry's key.
 searched : (c : tie.After-search) → let x = c .before .before .before .before .before .args in SearchedTo (x .part .now) (firstEntry (x .entry .now) .key) 0 (x .many) (c .search .result)
 searched c =
@@ -48,9 +36,6 @@ within c = let b = c .before .before .before .before .before .before in gap-with
 inside : (c : tie.Else1) → c .before .search .result .at ≤ length (c .before .before .before .before .before .before .args .part .now)
 inside c = let b = c .before .before .before .before .before .before in omega (arith, within c, b .pre .0 .0 .room)
 
-same-length : tie.Need-same-length
-same-length c = search needs
-
 returns : tie.Need-returns
 returns c =
     let b = c .before .before .before .before .before .before in
@@ -65,9 +50,6 @@ sub-enter c = inside c
 part-enter-start : tie.Need-part-enter-start
 part-enter-start c = inside c
 
-part-enter-end : tie.Need-part-enter-end
-part-enter-end c = search needs
-
 sub-enter-2 : tie.Need-sub-enter-2
 sub-enter-2 c = within (c .before)
 
@@ -75,9 +57,6 @@ enter-requires : tie.Need-enter-requires
 enter-requires c κs =
     let b = c .before .before .before .before .before .before .before in
     rw (tail-all _ (b .args .part .now) (inside (c .before)), length-drop) (omega (arith, within (c .before), b .pre .1 .1))
-
-add-grown : tie.Need-add-grown
-add-grown c = search needs
 
 add-more : tie.Need-add-more
 add-more c = let b = c .before .before .before .before .before .before .before .before .before .before in omega (arith, laid-few (b .args .part .now) (b .args .many) (b .args .used) (b .pre .0 .0))
@@ -100,19 +79,19 @@ pub enter-once-spec : {M : Type 1} → statement M
 enter-once-spec =
     tie.close
     (tie.spec
-    sub-search
-    part-search-start
-    part-search-end
-    search-requires
-    same-length
+    (λ c. search needs)
+    (λ c. search needs)
+    (λ c. search needs)
+    (λ c κs. search needs)
+    (λ c. search needs)
     returns
     mul-enter
     sub-enter
     part-enter-start
-    part-enter-end
+    (λ c. search needs)
     sub-enter-2
     enter-requires
-    add-grown
+    (λ c. search needs)
     add-more
     same-length-2
     returns-2)

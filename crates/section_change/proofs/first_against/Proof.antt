@@ -33,20 +33,8 @@ add-start c = omega (arith, room c)
 past-requires : tie.Need-past-requires
 past-requires c κs = omega (arith, room c)
 
-mul-standing : tie.Need-mul-standing
-mul-standing c = search needs
-
-sub-standing : tie.Need-sub-standing
-sub-standing c = search needs
-
-part-standing-start : tie.Need-part-standing-start
-part-standing-start c = search needs
-
 part-standing-end : tie.Need-part-standing-end
 part-standing-end c = omega (arith, room (c .before))
-
-standing-requires : tie.Need-standing-requires
-standing-requires c κs = search needs
 
 returns-2 : tie.Need-returns-2
 returns-2 c =
@@ -61,9 +49,9 @@ first-against-spec =
     returns
     add-start
     past-requires
-    mul-standing
-    sub-standing
-    part-standing-start
+    (λ c. search needs)
+    (λ c. search needs)
+    (λ c. search needs)
     part-standing-end
-    standing-requires
+    (λ c κs. search needs)
     returns-2)

@@ -80,15 +80,6 @@ add-start c = omega (arith, room c)
 past-requires : tie.Need-past-requires Inv-loop μ-loop
 past-requires c κs = omega (arith, room c)
 
-mul-first-against : tie.Need-mul-first-against Inv-loop μ-loop
-mul-first-against c = search needs
-
-sub-first-against : tie.Need-sub-first-against Inv-loop μ-loop
-sub-first-against c = search needs
-
-part-first-against-start : tie.Need-part-first-against-start Inv-loop μ-loop
-part-first-against-start c = search needs
-
 part-first-against-end : tie.Need-part-first-against-end Inv-loop μ-loop
 part-first-against-end c = omega (arith, room (c .before .before))
 
@@ -114,9 +105,6 @@ loop-again c =
     let p = c .before .before .before .before .before .before .before in
     let k = p .before .before in
     lowers-lower _ _ _ _ _ _ _ _ _ _ _ _ _ (k .loop .inv) (p .past .result) (p .before .loop-test .taken) (p .past .ensures) (is-lower (c .before .before)) (some-lower (c .before .before)) (c .past2 .result) (c .past2 .ensures)
-
-enum-told-2 : tie.Need-enum-told-2 Inv-loop μ-loop
-enum-told-2 c = search needs
 
 lessen-requires : tie.Need-lessen-requires Inv-loop μ-loop
 lessen-requires c κs =
@@ -147,9 +135,6 @@ loop-again-2 c =
     let k = p .before .before in
     lowers-equal _ _ _ _ _ _ _ _ _ _ _ _ _ (k .loop .inv) (p .past .result) (p .before .loop-test .taken) (p .past .ensures) (is-equal e) (some-equal e) (l .lessen .last .0) (l .lessen .result) (l .lessen .ensures .0) (l .lessen .ensures .1) (l .lessen .kept .0)
 
-enum-told-3 : tie.Need-enum-told-3 Inv-loop μ-loop
-enum-told-3 c = search needs
-
 sub-rest-2 : tie.Need-sub-rest-2 Inv-loop μ-loop
 sub-rest-2 c = c .before .before .before .before .before .before .loop-test .taken
 
@@ -177,9 +162,6 @@ sub-close-gap c = omega (arith, gap-used (c .before), within (c .before))
 
 part-close-gap-start : tie.Need-part-close-gap-start Inv-loop μ-loop
 part-close-gap-start c = omega (arith, gap-used (c .before), within (c .before))
-
-part-close-gap-end : tie.Need-part-close-gap-end Inv-loop μ-loop
-part-close-gap-end c = search needs
 
 sub-close-gap-2 : tie.Need-sub-close-gap-2 Inv-loop μ-loop
 sub-close-gap-2 c = omega (arith, gap-used (c .before .before))
@@ -210,9 +192,9 @@ lower-all-spec =
     loop-holds
     add-start
     past-requires
-    mul-first-against
-    sub-first-against
-    part-first-against-start
+    (λ c. search needs)
+    (λ c. search needs)
+    (λ c. search needs)
     part-first-against-end
     first-against-requires
     enum-told
@@ -220,14 +202,14 @@ lower-all-spec =
     sub-left
     loop-less
     loop-again
-    enum-told-2
+    (λ c. search needs)
     lessen-requires
     sub-count
     sub-left-2
     sub-rest
     loop-less-2
     loop-again-2
-    enum-told-3
+    (λ c. search needs)
     sub-rest-2
     loop-less-3
     loop-again-3
@@ -235,7 +217,7 @@ lower-all-spec =
     mul-close-gap
     sub-close-gap
     part-close-gap-start
-    part-close-gap-end
+    (λ c. search needs)
     sub-close-gap-2
     close-gap-requires
     sub-uses

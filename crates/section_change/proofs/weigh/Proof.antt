@@ -162,15 +162,6 @@ add-start c = omega (arith, other-room c)
 past-requires : tie.Need-past-requires Inv-loop μ-loop
 past-requires c κs = omega (arith, other-room c)
 
-mul-first-against : tie.Need-mul-first-against Inv-loop μ-loop
-mul-first-against c = search needs
-
-sub-first-against : tie.Need-sub-first-against Inv-loop μ-loop
-sub-first-against c = search needs
-
-part-first-against-start : tie.Need-part-first-against-start Inv-loop μ-loop
-part-first-against-start c = search needs
-
 part-first-against-end : tie.Need-part-first-against-end Inv-loop μ-loop
 part-first-against-end c = omega (arith, other-room (c .before))
 
@@ -194,14 +185,8 @@ loop-again c =
     let p = c .before .before .before .before .before in
     past-lower _ _ _ _ _ _ _ _ _ _ (p .past .result) (p .before .before .loop .inv) (p .before .loop-test .taken) (p .past .ensures) (c .past2 .result) (lower-left (c .before)) (c .past2 .ensures) (is-lower (c .before))
 
-enum-told-2 : tie.Need-enum-told-2 Inv-loop μ-loop
-enum-told-2 c = search needs
-
 add-if1 : tie.Need-add-if1 Inv-loop μ-loop
 add-if1 c = omega (arith, other-room (c .before .before .before .before .before))
-
-mul-if1 : tie.Need-mul-if1 Inv-loop μ-loop
-mul-if1 c = search needs
 
 shared-slice-read-if1 : tie.Need-shared-slice-read-if1 Inv-loop μ-loop
 shared-slice-read-if1 c = omega (arith, other-room (c .before .before .before .before .before .before))
@@ -212,9 +197,6 @@ sub-if1 c = omega (arith, c .shared-slice-known3 .given (c .before .before .befo
 add-if1-2 : tie.Need-add-if1-2 Inv-loop μ-loop
 add-if1-2 c = omega (arith, book-room (c .before .before .before .before .before .before .before) (equal-left (c .before)))
 
-mul-if1-2 : tie.Need-mul-if1-2 Inv-loop μ-loop
-mul-if1-2 c = search needs
-
 shared-slice-read-if1-2 : tie.Need-shared-slice-read-if1-2 Inv-loop μ-loop
 shared-slice-read-if1-2 c = omega (arith, book-room (c .before .before .before .before .before .before .before .before) (equal-left (c .before .before)))
 
@@ -223,9 +205,6 @@ past-requires-3 c κs = omega (arith, book-room (c .before .before .before .befo
 
 sub-left-2 : tie.Need-sub-left-2 Inv-loop μ-loop
 sub-left-2 c = equal-left (c .before .before .before .before)
-
-sub-rest : tie.Need-sub-rest Inv-loop μ-loop
-sub-rest c = search needs
 
 loop-less-2 : tie.Need-loop-less-2 Inv-loop μ-loop
 loop-less-2 c = omega (arith, equal-left (c .before .before .before .before))
@@ -240,20 +219,8 @@ loop-again-2 c =
     past-equal _ _ _ _ _ _ _ _ _ _ (p .past .result) (p .before .before .loop .inv) (p .before .loop-test .taken) (p .past .ensures) (c .past3 .result) (equal-left (c .before .before .before .before)) (c .past3 .ensures) (is-equal (c .before .before .before .before)) (c .before .if1 .overfull)
     (⊎-elim (λ w. told-over _ _ _ _ (fits (c .before)) (w .0 .taken) (w .1)) (λ w. told-under _ _ _ _ (fits (c .before)) (w .0 .left) (w .1)) (c .before .if1 .came))
 
-enum-told-3 : tie.Need-enum-told-3 Inv-loop μ-loop
-enum-told-3 c = search needs
-
-sub-lacking : tie.Need-sub-lacking Inv-loop μ-loop
-sub-lacking c = search needs
-
 add-lacking : tie.Need-add-lacking Inv-loop μ-loop
 add-lacking c = let p = c .before .before .before .before in omega (arith, p .before .before .loop .inv .few, p .past .ensures, other-room (p .before))
-
-sub-rest-2 : tie.Need-sub-rest-2 Inv-loop μ-loop
-sub-rest-2 c = search needs
-
-loop-less-3 : tie.Need-loop-less-3 Inv-loop μ-loop
-loop-less-3 c = search needs
 
 loop-again-3 : tie.Need-loop-again-3 Inv-loop μ-loop
 loop-again-3 c =
@@ -272,9 +239,9 @@ weigh-spec =
     loop-holds
     add-start
     past-requires
-    mul-first-against
-    sub-first-against
-    part-first-against-start
+    (λ c. search needs)
+    (λ c. search needs)
+    (λ c. search needs)
     part-first-against-end
     first-against-requires
     enum-told
@@ -282,23 +249,23 @@ weigh-spec =
     sub-left
     loop-less
     loop-again
-    enum-told-2
+    (λ c. search needs)
     add-if1
-    mul-if1
+    (λ c. search needs)
     shared-slice-read-if1
     sub-if1
     add-if1-2
-    mul-if1-2
+    (λ c. search needs)
     shared-slice-read-if1-2
     past-requires-3
     sub-left-2
-    sub-rest
+    (λ c. search needs)
     loop-less-2
     loop-again-2
-    enum-told-3
-    sub-lacking
+    (λ c. search needs)
+    (λ c. search needs)
     add-lacking
-    sub-rest-2
-    loop-less-3
+    (λ c. search needs)
+    (λ c. search needs)
     loop-again-3
     returns)

@@ -10,12 +10,6 @@ use Rattle.section_tally.proofs.Starts.{first-within, first-stands, wor
 use Rattle.section_tally.proofs.against.Statement.{statement}
 use Rattle.section_tally.proofs.against.Tie as tie
 
-add-start : tie.Need-add-start
-add-start c = search needs
-
-mul-word : tie.Need-mul-word
-mul-word c = search needs
-
 shared-slice-read-word : tie.Need-shared-slice-read-word
 shared-slice-read-word c = let s = c .before .before .before in first-within _ _ (s .pre .0) (s .pre .1 .0)
 
@@ -32,20 +26,8 @@ returns-2 c =
 past-requires : tie.Need-past-requires
 past-requires c κs = let s = c .before .before .before .before .before in words-room _ _ (s .pre .0) (s .pre .1 .0)
 
-mul-standing : tie.Need-mul-standing
-mul-standing c = search needs
-
-sub-standing : tie.Need-sub-standing
-sub-standing c = search needs
-
-part-standing-start : tie.Need-part-standing-start
-part-standing-start c = search needs
-
 part-standing-end : tie.Need-part-standing-end
 part-standing-end c = let s = c .before .before .before .before .before .before in omega (arith, c .past .ensures, words-room _ _ (s .pre .0) (s .pre .1 .0))
-
-standing-requires : tie.Need-standing-requires
-standing-requires c κs = search needs
 
 returns-3 : tie.Need-returns-3
 returns-3 c =
@@ -57,15 +39,15 @@ pub against-spec : {M : Type 1} → statement M
 against-spec =
     tie.close
     (tie.spec
-    add-start
-    mul-word
+    (λ c. search needs)
+    (λ c. search needs)
     shared-slice-read-word
     returns
     returns-2
     past-requires
-    mul-standing
-    sub-standing
-    part-standing-start
+    (λ c. search needs)
+    (λ c. search needs)
+    (λ c. search needs)
     part-standing-end
-    standing-requires
+    (λ c κs. search needs)
     returns-3)

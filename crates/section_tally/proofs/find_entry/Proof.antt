@@ -43,16 +43,10 @@ stands c =
     let b = c .before .before in
     sym (c .against .ensures ∙ ap (λ (e : Entry). compareOf (e .key) (start b .args .key .now)) (sym (listed-at _ _ (middle b) (counted [] 0) (is-listed b))))
 
-first-requires : tie.Need-first-requires Inv-loop μ-loop
-first-requires c κs = search needs
-
 loop-holds : tie.Need-loop-holds Inv-loop μ-loop
 loop-holds c =
     let x = c .before .before .before .before .args in
     rw (← length-listed (x .starts .now) (x .book .now)) (between-all (x .key .now) (listed (x .starts .now) (x .book .now)))
-
-sub-mid : tie.Need-sub-mid Inv-loop μ-loop
-sub-mid c = search needs
 
 add-mid : tie.Need-add-mid Inv-loop μ-loop
 add-mid c = omega (arith, is-listed c)
@@ -78,27 +72,15 @@ enum-told c = search needs
 add-low : tie.Need-add-low Inv-loop μ-loop
 add-low c = omega (arith, is-listed (c .before .before .before .before))
 
-loop-less : tie.Need-loop-less Inv-loop μ-loop
-loop-less c = search needs
-
 loop-again : tie.Need-loop-again Inv-loop μ-loop
 loop-again c =
     let b = c .before .before .before .before in
     between-lower _ _ (start b .pre .sorted) _ _ (middle b) (b .before .loop .inv) (omega arith) (omega arith) (stands (c .before .before) ∙ c .enum-told .given .1)
 
-enum-told-2 : tie.Need-enum-told-2 Inv-loop μ-loop
-enum-told-2 c = search needs
-
 returns : tie.Need-returns Inv-loop μ-loop
 returns c =
     let b = c .before .before .before .before in
     sym (between-found _ _ (start b .pre .sorted) _ _ (middle b) (b .before .loop .inv) (omega arith) (omega arith) (stands (c .before .before) ∙ c .enum-told2 .given .1))
-
-enum-told-3 : tie.Need-enum-told-3 Inv-loop μ-loop
-enum-told-3 c = search needs
-
-loop-less-2 : tie.Need-loop-less-2 Inv-loop μ-loop
-loop-less-2 c = search needs
 
 loop-again-2 : tie.Need-loop-again-2 Inv-loop μ-loop
 loop-again-2 c =
@@ -114,9 +96,9 @@ find-entry-spec =
     (tie.spec
     Inv-loop
     μ-loop
-    first-requires
+    (λ c κs. search needs)
     loop-holds
-    sub-mid
+    (λ c. search needs)
     add-mid
     mul-at
     shared-slice-read-at
@@ -124,11 +106,11 @@ find-entry-spec =
     against-requires
     enum-told
     add-low
-    loop-less
+    (λ c. search needs)
     loop-again
-    enum-told-2
+    (λ c. search needs)
     returns
-    enum-told-3
-    loop-less-2
+    (λ c. search needs)
+    (λ c. search needs)
     loop-again-2
     returns-2)

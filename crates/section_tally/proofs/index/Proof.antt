@@ -59,26 +59,11 @@ loop-holds c =
 cast-starts : tie.Need-cast-starts Inv-loop μ-loop
 cast-starts c = let s = c .before .loop .inv in omega (arith, s .fits, c .before .before .before .before .pre .1 .0)
 
-mul-starts : tie.Need-mul-starts Inv-loop μ-loop
-mul-starts c = search needs
-
-slice-write-starts : tie.Need-slice-write-starts Inv-loop μ-loop
-slice-write-starts c = search needs
-
 past-requires : tie.Need-past-requires Inv-loop μ-loop
 past-requires c κs = omega (arith, room _ _ _ _ _ _ _ _ (c .before .loop .inv) (c .loop-test .taken) refl)
 
-add-i : tie.Need-add-i Inv-loop μ-loop
-add-i c = search needs
-
-loop-less : tie.Need-loop-less Inv-loop μ-loop
-loop-less c = search needs
-
 loop-again : tie.Need-loop-again Inv-loop μ-loop
 loop-again c = let k = c .before .before in turn _ _ _ _ _ _ _ (c .past .result) (k .loop .inv) (c .before .loop-test .taken) (c .past .ensures) (k .before .before .before .pre .1 .1)
-
-same-length : tie.Need-same-length Inv-loop μ-loop
-same-length c = search needs
 
 returns : tie.Need-returns Inv-loop μ-loop
 returns c =
@@ -95,11 +80,11 @@ index-spec =
     μ-loop
     loop-holds
     cast-starts
-    mul-starts
-    slice-write-starts
+    (λ c. search needs)
+    (λ c. search needs)
     past-requires
-    add-i
-    loop-less
+    (λ c. search needs)
+    (λ c. search needs)
     loop-again
-    same-length
+    (λ c. search needs)
     returns)

@@ -22,23 +22,8 @@ abbrev μ-loop : tie.MeasureT-loop
 inside : (c : tie.In-loop Inv-loop μ-loop) → let x = c .before .before .args in getD (x .starts .now) (c .before .loop .i) 0 + 1 < length (x .book .now)
 inside c = omega (arith, place-room _ _ (c .before .before .pre .0) (c .before .loop .i) (c .loop-test .taken))
 
-loop-holds : tie.Need-loop-holds Inv-loop μ-loop
-loop-holds c = search needs
-
-mul-at : tie.Need-mul-at Inv-loop μ-loop
-mul-at c = search needs
-
-shared-slice-read-at : tie.Need-shared-slice-read-at Inv-loop μ-loop
-shared-slice-read-at c = search needs
-
 cast-at : tie.Need-cast-at Inv-loop μ-loop
 cast-at c = omega (arith, c .shared-slice-known .given (c .before .before .loop .i))
-
-mul-count : tie.Need-mul-count Inv-loop μ-loop
-mul-count c = search needs
-
-shared-slice-read-count : tie.Need-shared-slice-read-count Inv-loop μ-loop
-shared-slice-read-count c = search needs
 
 add-says : tie.Need-add-says Inv-loop μ-loop
 add-says c = omega (arith, c .before .shared-slice-known .given (c .before .before .before .loop .i))
@@ -55,12 +40,6 @@ returns c =
     let x = k .before .before in
     sym (k .before .loop .inv .1 ∙ same-ends (x .args .starts .now) (x .args .book .now) (x .args .counts .now) (k .before .loop .i) (k .loop-test .taken) (x .pre .1) (c .if1 .taken))
 
-add-i : tie.Need-add-i Inv-loop μ-loop
-add-i c = search needs
-
-loop-less : tie.Need-loop-less Inv-loop μ-loop
-loop-less c = search needs
-
 loop-again : tie.Need-loop-again Inv-loop μ-loop
 loop-again c =
     let k = c .before .before .before .before in
@@ -76,17 +55,17 @@ same-counts-spec =
     (tie.spec
     Inv-loop
     μ-loop
-    loop-holds
-    mul-at
-    shared-slice-read-at
+    (λ c. search needs)
+    (λ c. search needs)
+    (λ c. search needs)
     cast-at
-    mul-count
-    shared-slice-read-count
+    (λ c. search needs)
+    (λ c. search needs)
     add-says
     mul-says
     shared-slice-read-says
     returns
-    add-i
-    loop-less
+    (λ c. search needs)
+    (λ c. search needs)
     loop-again
     returns-2)

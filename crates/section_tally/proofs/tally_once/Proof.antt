@@ -74,9 +74,6 @@ there w = sym (sought-has _ _ (number w) (found w) .1)
 find-entry-requires : tie.Need-find-entry-requires
 find-entry-requires c κs = c .before .before .before .before .before .pre .0
 
-enum-known-i : tie.Need-enum-known-i
-enum-known-i c = search needs
-
 enum-told : tie.Need-enum-told
 enum-told c = search needs
 
@@ -114,12 +111,6 @@ mul-marks c = let l = noted (c .before .before .before .before) in search needs
 slice-write-marks : tie.Need-slice-write-marks
 slice-write-marks c = noted (c .before .before .before .before)
 
-same-length : tie.Need-same-length
-same-length c = search needs
-
-same-length-2 : tie.Need-same-length-2
-same-length-2 c = search needs
-
 returns-2 : tie.Need-returns-2
 returns-2 c =
     let w = c .before .before .before .before in
@@ -137,7 +128,7 @@ tally-once-spec =
     tie.close
     (tie.spec
     find-entry-requires
-    enum-known-i
+    (λ c. search needs)
     enum-told
     returns
     mul-mark
@@ -149,7 +140,7 @@ tally-once-spec =
     slice-write-counts
     mul-marks
     slice-write-marks
-    same-length
-    same-length-2
+    (λ c. search needs)
+    (λ c. search needs)
     returns-2
     returns-3)

@@ -22,29 +22,11 @@ loop-holds c = (omega arith, omega arith, refl)
 returns : tie.Need-returns Inv-loop μ-loop
 returns c = let k = c .before .before in side-told (k .before .args .a .now) (k .before .args .b .now) (k .loop .i) _ (k .loop .inv .2) (place-longer (k .before .args .a .now) (k .before .args .b .now) (k .loop .i) (omega arith) (omega arith))
 
-mul-x : tie.Need-mul-x Inv-loop μ-loop
-mul-x c = search needs
-
-shared-slice-read-x : tie.Need-shared-slice-read-x Inv-loop μ-loop
-shared-slice-read-x c = search needs
-
-mul-y : tie.Need-mul-y Inv-loop μ-loop
-mul-y c = search needs
-
-shared-slice-read-y : tie.Need-shared-slice-read-y Inv-loop μ-loop
-shared-slice-read-y c = search needs
-
 returns-2 : tie.Need-returns-2 Inv-loop μ-loop
 returns-2 c = let k = c .before .before .before .before .before in side-told (k .before .args .a .now) (k .before .args .b .now) (k .loop .i) _ (k .loop .inv .2) (place-lower (k .before .args .a .now) (k .before .args .b .now) (k .loop .i) (omega arith) (omega arith) (omega arith))
 
 returns-3 : tie.Need-returns-3 Inv-loop μ-loop
 returns-3 c = let k = c .before .before .before .before .before .before in side-told (k .before .args .a .now) (k .before .args .b .now) (k .loop .i) _ (k .loop .inv .2) (place-higher (k .before .args .a .now) (k .before .args .b .now) (k .loop .i) (omega arith) (omega arith) (omega arith))
-
-add-i : tie.Need-add-i Inv-loop μ-loop
-add-i c = search needs
-
-loop-less : tie.Need-loop-less Inv-loop μ-loop
-loop-less c = search needs
 
 loop-again : tie.Need-loop-again Inv-loop μ-loop
 loop-again c = let k = c .before .before .before .before .before .before in (omega arith, omega arith, k .loop .inv .2 ∙ place-same (k .before .args .a .now) (k .before .args .b .now) (k .loop .i) (omega arith) (omega arith) (omega arith) (omega arith))
@@ -63,14 +45,14 @@ standing-spec =
     μ-loop
     loop-holds
     returns
-    mul-x
-    shared-slice-read-x
-    mul-y
-    shared-slice-read-y
+    (λ c. search needs)
+    (λ c. search needs)
+    (λ c. search needs)
+    (λ c. search needs)
     returns-2
     returns-3
-    add-i
-    loop-less
+    (λ c. search needs)
+    (λ c. search needs)
     loop-again
     returns-4
     returns-5)

@@ -13,27 +13,6 @@ Inv-loop words mark₀ i₀ i-end mark i = i-end ≤ length words
 abbrev μ-loop : tie.MeasureT-loop
 μ-loop words mark₀ i₀ i-end mark i = i-end - i
 
-loop-holds : tie.Need-loop-holds Inv-loop μ-loop
-loop-holds c = search needs
-
-mul-marked : tie.Need-mul-marked Inv-loop μ-loop
-mul-marked c = search needs
-
-shared-slice-read-marked : tie.Need-shared-slice-read-marked Inv-loop μ-loop
-shared-slice-read-marked c = search needs
-
-marked-requires : tie.Need-marked-requires Inv-loop μ-loop
-marked-requires c κs = search needs
-
-add-i : tie.Need-add-i Inv-loop μ-loop
-add-i c = search needs
-
-loop-less : tie.Need-loop-less Inv-loop μ-loop
-loop-less c = search needs
-
-loop-again : tie.Need-loop-again Inv-loop μ-loop
-loop-again c = search needs
-
 returns : tie.Need-returns Inv-loop μ-loop
 returns c = search needs
 
@@ -43,11 +22,11 @@ of-spec =
     (tie.spec
     Inv-loop
     μ-loop
-    loop-holds
-    mul-marked
-    shared-slice-read-marked
-    marked-requires
-    add-i
-    loop-less
-    loop-again
+    (λ c. search needs)
+    (λ c. search needs)
+    (λ c. search needs)
+    (λ c κs. search needs)
+    (λ c. search needs)
+    (λ c. search needs)
+    (λ c. search needs)
     returns)

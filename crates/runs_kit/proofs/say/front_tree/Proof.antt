@@ -14,54 +14,6 @@ Inv-loop words left₀ deep₀ at₀ left deep at = (at ≤ length words) × (de
 abbrev μ-loop : tie.MeasureT-loop
 μ-loop words left₀ deep₀ at₀ left deep at = length words - at
 
-loop-holds : tie.Need-loop-holds Inv-loop μ-loop
-loop-holds c = search needs
-
-add-loop : tie.Need-add-loop Inv-loop μ-loop
-add-loop c = search needs
-
-mul-word : tie.Need-mul-word Inv-loop μ-loop
-mul-word c = search needs
-
-shared-slice-read-word : tie.Need-shared-slice-read-word Inv-loop μ-loop
-shared-slice-read-word c = search needs
-
-word-requires : tie.Need-word-requires Inv-loop μ-loop
-word-requires c κs = search needs
-
-slice-aggregate-node-said : tie.Need-slice-aggregate-node-said Inv-loop μ-loop
-slice-aggregate-node-said c = search needs
-
-add-node-said : tie.Need-add-node-said Inv-loop μ-loop
-add-node-said c = search needs
-
-mul-node-said : tie.Need-mul-node-said Inv-loop μ-loop
-mul-node-said c = search needs
-
-shared-slice-read-node-said : tie.Need-shared-slice-read-node-said Inv-loop μ-loop
-shared-slice-read-node-said c = search needs
-
-node-said-requires : tie.Need-node-said-requires Inv-loop μ-loop
-node-said-requires c κs = search needs
-
-add-at : tie.Need-add-at Inv-loop μ-loop
-add-at c = search needs
-
-returns : tie.Need-returns Inv-loop μ-loop
-returns c = search needs
-
-loop-less : tie.Need-loop-less Inv-loop μ-loop
-loop-less c = search needs
-
-loop-again : tie.Need-loop-again Inv-loop μ-loop
-loop-again c = search needs
-
-slice-aggregate-close-rows : tie.Need-slice-aggregate-close-rows Inv-loop μ-loop
-slice-aggregate-close-rows c = search needs
-
-close-rows-requires : tie.Need-close-rows-requires Inv-loop μ-loop
-close-rows-requires c κs = search needs
-
 returns-2 : tie.Need-returns-2 Inv-loop μ-loop
 returns-2 c = search needs
 
@@ -71,20 +23,20 @@ front-tree-spec =
     (tie.spec
     Inv-loop
     μ-loop
-    loop-holds
-    add-loop
-    mul-word
-    shared-slice-read-word
-    word-requires
-    slice-aggregate-node-said
-    add-node-said
-    mul-node-said
-    shared-slice-read-node-said
-    node-said-requires
-    add-at
-    returns
-    loop-less
-    loop-again
-    slice-aggregate-close-rows
-    close-rows-requires
+    (λ c. search needs)
+    (λ c. search needs)
+    (λ c. search needs)
+    (λ c. search needs)
+    (λ c κs. search needs)
+    (λ c. search needs)
+    (λ c. search needs)
+    (λ c. search needs)
+    (λ c. search needs)
+    (λ c κs. search needs)
+    (λ c. search needs)
+    (λ c. search needs)
+    (λ c. search needs)
+    (λ c. search needs)
+    (λ c. search needs)
+    (λ c κs. search needs)
     returns-2)
