@@ -396,7 +396,7 @@ module _ (ws : List ℕ) where
 
   -- Words that are decoded to none are those of no book in form.
   pub no-book : decode ws ≡ none → (b : Book) → inForm b ≡ true → lay (length ws) b ≡ ws → ⊥
-  no-book n b f e = let z : _≡_ {A = ℕ} 0 1 = cc (laid-decoded b f e) in omega arith
+  no-book n b f e = never (cc (laid-decoded b f e))
 
 -- ---- how long it is
 

@@ -52,13 +52,3 @@ module _ (ws vs : List ℕ) (p q : Places) (h : Holds ws p) (g : Holds vs q) whe
       -- What is lacking is what was weighed.
       pub lacks-so : LacksEach Teach (w .each) (bookIn vs) (bookIn ws)
       lacks-so = ap (λ (y : BookWeighed). y .each) we
-
--- What stands then where the answer is yes.
-pub if-true : (a b now : List ℕ) → now ≡ a → now ≡ (if true then a else b)
-unfolding if_then_else_
-if-true a b now e = e
-
--- What stands then where it is no.
-pub if-false : (a b now : List ℕ) → now ≡ b → now ≡ (if false then a else b)
-unfolding if_then_else_
-if-false a b now e = e

@@ -1,4 +1,4 @@
-// A book amended by another: weighed against it, and then changed by it, section by section. Teaching adds an order's own book, withdrawing
+// A book changed by another: weighed against it, and then changed by it, section by section. Teaching adds an order's own book, withdrawing
 // takes it away, and joining adds a book of many orders. Assumes nothing beyond each function's `requires`.
 ghost use mathlib.Core.Path.{_≡_};
 ghost use mathlib.Core.Bool.{true};

@@ -9,7 +9,7 @@ use borrow.Author.Tests.{le-leb, lt-leb, eqb-true, eq-eqb}
 use lib.Dec.{eqb}
 use lib.ListN.{length, replicate, drop}
 use Rattle.words.specs.Base.{if_then_else_}
-use Rattle.words.proofs.Tests.{no-test, either-way}
+use Rattle.words.proofs.Tests.{no-test, either-way, never}
 use Rattle.figures.specs.Limits.{most-book-words}
 use Rattle.figures.specs.Numbers.{done, no-room, not-agreeing, no-stored-book}
 use Rattle.figures.specs.Answers.{answered}
@@ -87,7 +87,7 @@ module _ (ws : List ℕ) where
   module _ (v : List ℕ) where
     -- Words that are no book in form are refused by 14.
     pub restore-refused : (n : ℕ) → bookFormOf ws ≡ Refused n → readRestOf (bytesOf ws) v ≡ leave v no-stored-book
-    restore-refused n e = restore-none (bytesOf ws) v (λ b s. let z : _≡_ {A = ℕ} 0 1 = cc (e, stored-form b s) in omega arith)
+    restore-refused n e = restore-none (bytesOf ws) v (λ b s. never (cc (e, stored-form b s)))
 
     -- Words of a book in form that does not use them all are refused by 14.
     restore-unused : (p : Places) → bookFormOf ws ≡ InForm p → (p .used ≡ length ws → ⊥) → readRestOf (bytesOf ws) v ≡ leave v no-stored-book

@@ -9,7 +9,7 @@ use lib.Dec.{leb}
 use borrow.Author.Tests.{le-leb, leb-true}
 use lib.ListN.{length, replicate}
 use Rattle.words.specs.Base.{_and_, if_then_else_, sameWords}
-use Rattle.words.proofs.Tests.{and-left, and-right, and-both, same-words, words-same}
+use Rattle.words.proofs.Tests.{and-left, and-right, and-both, same-words, words-same, never}
 use Rattle.figures.specs.Limits.{head-words, most-book-words}
 use Rattle.book.specs.Book.{Book, used, encode, lay, inForm}
 use Rattle.book.specs.Decoding.{bookIn}
@@ -90,11 +90,11 @@ module _ (rest : List ℕ) where
       -- By the test.
       go : (t : Bool) → stores held ≡ t → Stored rest b
       go true p = let q : held ≡ b = cc (passes-some p) in passes-stored b (ap stores (sym q) ∙ p)
-      go false p = absurd (let z : _≡_ {A = ℕ} 0 1 = cc (fails-none p) in omega arith)
+      go false p = never (cc (fails-none p))
 
   -- Bytes in which no book is found are the used words of none.
   pub stored-none : storedIn rest ≡ none → (b : Book) → Stored rest b → ⊥
-  stored-none n b s = let z : _≡_ {A = ℕ} 0 1 = cc (stored-some b s) in omega arith
+  stored-none n b s = never (cc (stored-some b s))
 
   -- In bytes that are the used words of no book none is found.
   pub none-stored : ((b : Book) → Stored rest b → ⊥) → storedIn rest ≡ none

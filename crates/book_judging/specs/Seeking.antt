@@ -1,5 +1,6 @@
 -- Inner: no promise rests on these definitions.
--- What the inner functions of `book_seek` and `book_judge` look up in a book, by the trees that stand in the order's words. Assumes nothing: these are definitions.
+-- What the inner functions of `book_seek` and `book_judge` look up in a book, by the trees that stand in the order's words. Assumes nothing:
+-- these are definitions.
 use Prim.Native.Nat.{ℕ, zero, suc, _+_, _*_, _-_, _≤_}
 use mathlib.Core.Bool.{Bool, true, false}
 use mathlib.Core.List.{List, [], _∷_}

@@ -7,7 +7,7 @@ use mathlib.Core.List.{List}
 use native.Mathlib.Decide.{decLt}
 use native.Mathlib.Omega.{arith}
 use borrow.Author.Tests.{le-leb, lt-leb}
-use lib.ListN.{length, getD, replicate, length-replicate}
+use lib.ListN.{length, getD}
 use Rattle.words.specs.Base.{if_then_else_}
 use Rattle.figures.specs.Limits.{greatest-count, greatest-depth}
 use Rattle.figures.specs.Numbers.{done, no-room, too-many, not-taught, not-agreeing}
@@ -44,10 +44,6 @@ use Rattle.book_change.specs.declared.BookWeighed.{BookWeighed}
 use Rattle.book_listing.proofs.Owning.{own-short}
 use Rattle.book_teaching.proofs.Adds.{taught-changed, withdrawn-changed, used-taught, within-taught, lives-pass, count-passes, has-own, has-no-own, has-own-parts, has-no-own-parts}
 use Rattle.book_teaching.proofs.Formed.{beside-form, ready-teach, ready-withdraw}
-
--- A slice of n zeros is as many zeros as it is long.
-pub all-zeros : (n : ℕ) → _≡_ {A = List ℕ} (replicate n 0) (replicate (length (replicate {A = ℕ} n 0)) 0)
-all-zeros n = let o : ℕ = 0 in ap (λ (m : ℕ). replicate m o) (sym (length-replicate n o))
 
 -- ---- any words and any order
 

@@ -9,6 +9,7 @@ use borrow.Author.Tests.{le-ltb}
 use lib.Dec.{ltb}
 use lib.ListN.{length, take, drop, replicate, length-append, length-drop, length-replicate, drop-of-length-le}
 use lib.Seq.{take-append-seam, drop-append-seam, drop-drop}
+use Rattle.words.proofs.Tests.{never}
 use Rattle.words.specs.Base.{if_then_else_, over}
 use Rattle.figures.specs.Limits.{head-words, least-k, greatest-k, most-book-words, desk-book-words}
 use Rattle.figures.specs.Numbers.{done}
@@ -171,8 +172,8 @@ begin-so-far input book out n e z r =
 -- A letter line has two bytes.
 pub letter-long : (bs : List ℕ) (x : Letter) → letterAt bs ≡ Asks x → letter-line-size ≤ length bs
 unfolding letterAt
-letter-long [] x e = let z : _≡_ {A = ℕ} 0 1 = cc in absurd (omega arith)
-letter-long (b ∷ []) x e = let z : _≡_ {A = ℕ} 0 1 = cc in absurd (omega arith)
+letter-long [] x e = never cc
+letter-long (b ∷ []) x e = never cc
 letter-long (b ∷ f ∷ bs) x e = omega arith
 
 -- Bytes with none before the first letter line begin with one.

@@ -1,4 +1,4 @@
-// The figures and numbers of 01 by name, k, what can be a node, and the form of an answer: what every other crate counts with. Assumes nothing.
+// The figures and numbers of 01 by name, k, what can be a node, and the form of an answer: what the crates above count with. Assumes nothing.
 ghost use mathlib.Core.Path.{_≡_};
 ghost use Rattle.figures.specs.Answers.{answered, refusedAt, wrote};
 

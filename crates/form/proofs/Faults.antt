@@ -8,7 +8,7 @@ use lib.Dec.{leb, ltb, eqb}
 use lib.ListN.{length, drop}
 use borrow.Author.Tests.{lt-leb, le-leb, lt-ltb, le-ltb, eq-eqb, ne-eqb, eqb-true, eqb-false, leb-true, leb-false, ltb-true, ltb-false}
 use Rattle.words.specs.Base.{if_then_else_, within}
-use Rattle.words.proofs.Tests.{and-left, and-right}
+use Rattle.words.proofs.Tests.{and-left, and-right, never}
 use Rattle.figures.specs.Limits.{least-code, most-nodes, most-children, greatest-depth}
 use Rattle.figures.specs.Numbers.{done}
 use Rattle.form.specs.Text.{Line}
@@ -23,7 +23,7 @@ use Rattle.form.proofs.Tests.{Passes}
 
 -- A refusal is no node.
 pub no-node : {A : Type 0} {f : Fault} {l c w : ℕ} → Refused f ≡ Node l c w → A
-no-node e = let z : _≡_ {A = ℕ} 0 1 = cc in absurd (omega arith)
+no-node e = never cc
 
 -- No fault has the number 0.
 pub fault-number : (f : Fault) → faultNumber f ≡ done → ⊥

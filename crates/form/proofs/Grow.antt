@@ -5,6 +5,7 @@ use Prim.Native.Nat.{ℕ, zero, suc, _+_, _-_, _≤_, _<_}
 use native.Mathlib.Omega.{arith}
 use lib.ListN.{length}
 use borrow.Author.Tests.{eqb-true, lt-ltb}
+use Rattle.words.proofs.Tests.{never}
 use Rattle.words.specs.Base.{if_then_else_, within}
 use Rattle.figures.specs.Limits.{greatest-depth, most-nodes, most-children}
 use Rattle.order.specs.Trees.{Tree, Forest, node, bare, cons, count, words, depth, depthF, Good, GoodF, subtrees}
@@ -182,7 +183,7 @@ pub record Formed (s : List ℕ) (xs : List Line) : Type 0 where
 pub formed : (s : List ℕ) (xs : List Line) → formOf s ≡ form xs → Formed s xs
 unfolding textOf formOf spell
 formed [] xs e = not-read e
-formed (b ∷ bs) [] e = let o = form-text (b ∷ bs) [] e in let z : _≡_ {A = ℕ} 0 1 = cc (o .0) in absurd (omega arith)
+formed (b ∷ bs) [] e = let o = form-text (b ∷ bs) [] e in never (cc (o .0))
 formed (b ∷ bs) (x ∷ xs) e =
     let o = form-text (b ∷ bs) (x ∷ xs) e in
     let t = tree-of x xs (o .1) in

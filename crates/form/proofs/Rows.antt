@@ -9,7 +9,7 @@ use lib.Dec.{ltb, eqb}
 use lib.ListN.{length}
 use borrow.Author.Tests.{le-leb, lt-ltb, le-ltb, eq-eqb, ne-eqb, eqb-true, eqb-false}
 use Rattle.words.specs.Base.{_and_, if_then_else_, _∈_}
-use Rattle.words.proofs.Tests.{no-test, by-test}
+use Rattle.words.proofs.Tests.{no-test, by-test, never}
 use Rattle.figures.specs.Limits.{most-nodes, most-children, greatest-depth}
 use Rattle.form.specs.Text.{Line, spell}
 use Rattle.form.specs.Reading.{allowed, siblings, form, formOf}
@@ -66,7 +66,7 @@ sibling-on x y ys l h r = go (r .1)
   where
     -- By the parent.
     go : Siblings l (y ∷ ys) (r .0) → (n : ℕ) × Siblings l (x ∷ y ∷ ys) n
-    go (no-parent e z) = let a : _≡_ {A = ℕ} 0 1 = cc in absurd (omega arith)
+    go (no-parent e z) = never cc
     go (under p between front e q c) = by (eqb (x .level) l) refl
       where
         -- By whether the line has the level.
@@ -173,7 +173,7 @@ legal-shallow before (y ∷ ys) g x (there m) = legal-shallow (y ∷ before) ys 
 pub form-legal : (s : List ℕ) (xs : List Line) → formOf s ≡ form xs → (spell xs ≡ s) × Legal [] xs × (0 < length xs) × (length xs ≤ most-nodes)
 unfolding formOf spell
 form-legal [] xs e = not-read e
-form-legal (b ∷ bs) [] e = let o = form-text (b ∷ bs) [] e in let z : _≡_ {A = ℕ} 0 1 = cc (o .0) in absurd (omega arith)
+form-legal (b ∷ bs) [] e = let o = form-text (b ∷ bs) [] e in never (cc (o .0))
 form-legal (b ∷ bs) (x ∷ xs) e =
     let o = form-text (b ∷ bs) (x ∷ xs) e in
     (o .0, pass-legal (x ∷ xs) [] tt (o .1), omega arith, o .2)

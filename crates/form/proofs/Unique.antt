@@ -9,6 +9,7 @@ use lib.Dec.{eqb}
 use lib.ListN.{length, drop}
 use lib.Seq.{drop-at}
 use borrow.Author.Tests.{eqb-false}
+use Rattle.words.proofs.Tests.{never}
 use Rattle.words.specs.Base.{if_then_else_}
 use Rattle.figures.specs.Limits.{greatest-code, most-nodes}
 use Rattle.form.specs.Text.{digit-0, digit, code-size, Line, levelText, codeText, lineText, spell}
@@ -173,7 +174,7 @@ line-back (x ∷ y ∷ r) {level} {code} {size} e = go (isDigit x) (isDigit y) (
 
 -- A text that is refused is no form.
 pub not-read : {A : Type 0} {n line : ℕ} {xs : List Line} → fault n line ≡ form xs → A
-not-read e = let z : _≡_ {A = ℕ} 0 1 = cc in absurd (omega arith)
+not-read e = never cc
 
 -- What was read without fault: lines behind those before, for which there was room, and whose text the bytes are.
 record Again (room : ℕ) (before : List Line) (s : List ℕ) (xs : List Line) : Type 0 where

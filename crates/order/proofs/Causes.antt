@@ -9,7 +9,7 @@ use native.Mathlib.Omega.{arith}
 use borrow.Author.Tests.{eqb-true, eqb-false, ltb-true, ltb-false, leb-true, leb-false}
 use lib.Dec.{leb, ltb, eqb}
 use lib.ListN.{length}
-use Rattle.words.proofs.Tests.{by-test}
+use Rattle.words.proofs.Tests.{by-test, never}
 use Rattle.figures.specs.Limits.{most-nodes, most-words, greatest-depth}
 use Rattle.figures.specs.Numbers.{done, no-order, too-large}
 use Rattle.order.specs.Trees.{Tree, words, depth, Good, subtrees}
@@ -134,7 +134,7 @@ pub order-passed : (ws : List ℕ) (t : Tree) → orderOf ws ≡ order t → Pas
 order-passed ws t e = go (seen ws)
   where
     go : Seen ws → Passed ws t
-    go (stopped h r) = let z : _≡_ {A = ℕ} 0 1 = cc in absurd (omega arith)
+    go (stopped h r) = never cc
     go (passed u h p) = let z : u ≡ t = cc (p .is) in subst (Passed ws) z p
 
 -- The tree of an order whose cause is 0.

@@ -71,7 +71,7 @@ module _ (least greatest : ℕ) (s : List ℕ) where
   -- Words that are no tree do not fit.
   pub fits-broken : measuredOf (treeOf s) ≡ Broken → fitsOf least greatest s ≡ false
   unfolding measuredOf
-  fits-broken e = fits-none (λ t p. let z : _≡_ {A = ℕ} 0 1 = cc (rw (passed-found p) at e) in absurd (omega arith))
+  fits-broken e = fits-none (λ t p. never (cc (rw (passed-found p) at e)))
 
   -- Of a tree of few enough words the depth decides.
   pub fits-deep : (d : ℕ) → length s ≤ most-words → greatest ≤ greatest-depth → measuredOf (treeOf s) ≡ Deep d → fitsOf least greatest s ≡ within least greatest d

@@ -7,6 +7,7 @@ use native.Mathlib.Omega.{arith}
 use lib.Dec.{leb}
 use lib.ListN.{length, drop, getD, length-take}
 use lib.Seq.{drop-nil, getD-take, getD-drop}
+use Rattle.words.proofs.Tests.{never}
 use Rattle.figures.specs.Limits.{greatest-depth}
 use Rattle.figures.specs.Numbers.{done}
 use Rattle.order.specs.Trees.{Tree, node, Forest, words, depth, cut, subtrees}
@@ -29,7 +30,7 @@ use Rattle.order.proofs.Waiting.{Waiting, waits, wordsW, subtreesW, lev
 -- What the scratch says of the tree at a place of a list.
 spans-at : (ts : List Tree) (i j : ℕ) (s : Tree) → treeAt ts i ≡ found s → (getD (spansFrom j ts) (i * 2) 0 ≡ j + i + lines s) × (getD (spansFrom j ts) (i * 2 + 1) 0 ≡ depth s)
 unfolding treeAt spansFrom
-spans-at [] i j s e = let z : _≡_ {A = ℕ} 0 1 = cc in absurd (omega arith)
+spans-at [] i j s e = never cc
 spans-at (t ∷ ts) zero j s e = let z : t ≡ s = cc in (rw z (omega arith), rw z refl)
 spans-at (t ∷ ts) (suc i) j s e =
     let a : suc i * 2 ≡ suc (suc (i * 2)) = omega arith in

@@ -7,6 +7,7 @@ use native.Mathlib.Numerals.{add-one}
 use native.Mathlib.Omega.{arith}
 use borrow.Author.Tests.{lt-ltb, le-ltb}
 use lib.ListN.{length, drop, drop-of-length-le}
+use Rattle.words.proofs.Tests.{never}
 use Rattle.words.specs.Base.{if_then_else_}
 use Rattle.figures.specs.Limits.{most-words}
 use Rattle.figures.specs.Numbers.{done}
@@ -231,7 +232,7 @@ pub stands-at : (s : List ℕ) (line at : ℕ) → placeOf s line ≡ At at → 
 stands-at s line at e = go (seen s)
   where
     not-there : {A : Type 0} → Lacking ≡ At at → A
-    not-there h = let z : _≡_ {A = ℕ} 0 1 = cc in absurd (omega arith)
+    not-there h = never cc
 
     there : causeOf s ≡ done → 0 < line → line ≤ length s / 2 → StandsAt s line at
     there k z h =
@@ -239,7 +240,7 @@ stands-at s line at e = go (seen s)
         record { passes = k; some = z; has = h; word = cc }
 
     go : Seen s → StandsAt s line at
-    go (stopped k f) = let w : Refused (causeOf s) ≡ At at = sym (place-refused s line k) ∙ e in let z : _≡_ {A = ℕ} 0 1 = cc in absurd (omega arith)
+    go (stopped k f) = let w : Refused (causeOf s) ≡ At at = sym (place-refused s line k) ∙ e in never cc
     go (passed t k p) = pick 0 line
         (λ z. pick (length s / 2) line (λ h. not-there (sym (place-past s line k h) ∙ e)) (there k z))
         (λ z. not-there (sym (place-none s line k (omega arith)) ∙ e))

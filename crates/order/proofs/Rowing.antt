@@ -8,7 +8,7 @@ use borrow.Author.Tests.{le-leb, lt-leb, leb-true, leb-false}
 use lib.Dec.{leb}
 use lib.ListN.{length, drop, getD}
 use Rattle.words.specs.Base.{_and_, if_then_else_}
-use Rattle.words.proofs.Tests.{and-left, and-right}
+use Rattle.words.proofs.Tests.{and-left, and-right, never}
 use Rattle.figures.specs.Nodes.{soundNode}
 use Rattle.figures.specs.Limits.{least-code, greatest-code}
 use Rattle.order.specs.Trees.{Tree, node, Forest, bare, cons, count, words, wordsF, subtrees, subtreesF, Good, GoodF}
@@ -124,8 +124,14 @@ row-missing ws n = go (treeOf ws) refl
 
 -- ---- a fault from the back
 
+-- A node before a row that has fewer trees than the node has children is a fault.
+pub lacks-child : (x : Bool) (c n : ℕ) (f : Forest) → leb n (count f) ≡ false → nodeBefore x c n (rowed f) ≡ faulty
+unfolding nodeBefore if_then_else_
+lacks-child true c n f l = rw l refl
+lacks-child false c n f l = refl
+
 -- Where the words from a node on are no row, all the words are none.
-pub faulty-before : (i : ℕ) (ws : List ℕ) → 2 * i ≤ length ws → rowOf (drop (2 * i) ws) ≡ faulty → rowOf ws ≡ faulty
+faulty-before : (i : ℕ) (ws : List ℕ) → 2 * i ≤ length ws → rowOf (drop (2 * i) ws) ≡ faulty → rowOf ws ≡ faulty
 unfolding rowOf nodeBefore
 faulty-before zero ws h e = e
 faulty-before (suc i) [] h e = absurd (omega arith)
@@ -152,3 +158,7 @@ leb-less a b = go (leb a b) refl
     go : (x : Bool) → leb a b ≡ x → leb (suc a) (suc b) ≡ leb a b
     go true e = le-leb (suc a) (suc b) (omega (arith, leb-true a b e)) ∙ sym e
     go false e = lt-leb (suc a) (suc b) (omega (arith, leb-false a b e)) ∙ sym e
+
+-- So they are no tree.
+pub fault-missing : (i : ℕ) (ws : List ℕ) → 2 * i ≤ length ws → rowOf (drop (2 * i) ws) ≡ faulty → treeOf ws ≡ missing
+fault-missing i ws h e = row-missing ws (λ t g. never (cc (faulty-before i ws h e, g)))

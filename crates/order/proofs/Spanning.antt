@@ -20,7 +20,7 @@ use Rattle.order.specs.Spans.{lines, linesF, spansFrom, spansIn, GoneOve
 use Rattle.order.proofs.Orders.{FoundDeep, words-read}
 use Rattle.order.proofs.Causes.{has-tree}
 use Rattle.order.proofs.Leaves.{leaves-few, leaves-short, leaves-lines, leaves-deep, leaf-more, leaf-none}
-use Rattle.order.proofs.Rowing.{node-words, leb-less, subtrees-split, tree-row, row-tree, row-missing, faulty-before}
+use Rattle.order.proofs.Rowing.{node-words, leb-less, subtrees-split, tree-row, row-tree, row-missing, lacks-child, fault-missing}
 use Rattle.order.specs.declared.Spanned.{Spanned}
 use Rattle.order.specs.declared.Spanned.the-variants.{Lacking, To}
 use Rattle.order.specs.declared.Measured.the-variants.{Broken, Deep}
@@ -279,9 +279,7 @@ module _ (os ss₀ ss : List ℕ) (line : ℕ) (b : Back os ss₀ ss line) (at c
 
   -- A fault here is one of the whole.
   fault-here : rowOf (drop (2 * at) os) ≡ faulty → treeOf os ≡ missing
-  fault-here e =
-      let f : rowOf os ≡ faulty = faulty-before at os (omega (arith, b .low)) e in
-      row-missing os (λ t g. let z : _≡_ {A = ℕ} 0 1 = cc (f, g) in omega arith)
+  fault-here = fault-missing at os (omega (arith, b .low))
 
   -- A node out of range.
   pub back-unsound : soundNode c n ≡ false → treeOf os ≡ missing
@@ -293,13 +291,9 @@ module _ (os ss₀ ss : List ℕ) (line : ℕ) (b : Back os ss₀ ss line) (at c
   unfolding spannedBy nodeBefore if_then_else_
   back-lacking e = go (rowOf (drop (2 * line) os)) refl
     where
-      both : (x : Bool) (f : Forest) → leb n (count f) ≡ false → nodeBefore x c n (rowed f) ≡ faulty
-      both true f l = rw l refl
-      both false f l = refl
-
       by-count : (f : Forest) → rowOf (drop (2 * line) os) ≡ rowed f → (x : Bool) → leb n (count f) ≡ x → treeOf os ≡ missing
-      by-count f r true l = let z : _≡_ {A = ℕ} 0 1 = cc (rw (r, l) at e) in absurd (omega arith)
-      by-count f r false l = fault-here (row-here ∙ rw r (both (soundNode c n) f l))
+      by-count f r true l = never (cc (rw (r, l) at e))
+      by-count f r false l = fault-here (row-here ∙ rw r (lacks-child (soundNode c n) c n f l))
 
       go : (r : Rowed) → rowOf (drop (2 * line) os) ≡ r → treeOf os ≡ missing
       go faulty r = absurd (rw r at (b .are))
@@ -328,7 +322,7 @@ module _ (os ss₀ ss : List ℕ) (line : ℕ) (b : Back os ss₀ ss line) (at c
       by-count f r true l =
           let same : To end₁ deep₁ ≡ To (line + linesF (firstTrees n f)) (depthF (firstTrees n f)) = rw (r, l) at g in
           made f r l (ap end-of same) (ap depth-of same)
-      by-count f r false l = let z : _≡_ {A = ℕ} 0 1 = cc (rw (r, l) at g) in absurd (omega arith)
+      by-count f r false l = never (cc (rw (r, l) at g))
 
       go : (r : Rowed) → rowOf (drop (2 * line) os) ≡ r → Back os ss₀ (set (set ss (2 * at) end₁) (2 * at + 1) deep₁) at
       go faulty r = absurd (rw r at (b .are))
@@ -364,7 +358,7 @@ module _ (os ss₀ ss : List ℕ) (line : ℕ) (b : Back os ss₀ ss line) (at c
       by-count f r true l =
           let is : rowOf (drop (2 * at) os) ≡ rowed (cons (node c (firstTrees n f)) (laterTrees n f)) = row-here ∙ rw (e, r, l) refl in
           rw is (sym (leaf-none c n f z (leb-true _ _ l)))
-      by-count f r false l = let y : _≡_ {A = ℕ} 0 1 = cc (rw (r, l) at g) in absurd (omega arith)
+      by-count f r false l = never (cc (rw (r, l) at g))
 
       go : (r : Rowed) → rowOf (drop (2 * line) os) ≡ r → LeavesAre run r → LeavesAre 0 (rowOf (drop (2 * at) os))
       go faulty r h = absurd h
@@ -386,7 +380,7 @@ back-small os ss₀ ss line n e d b g = go (rowOf (drop (2 * line) os)) refl
         let are : drop (2 * line) (take (length os) ss) ≡ spansFrom line (subtreesF f) = rw r at (b .are) in
         let long = lines-left os ss line f (b .room) are in
         (omega (arith, ap end-of same, first-lines n f, b .even, b .low), omega (arith, ap depth-of same, depthF-lines (firstTrees n f), first-lines n f, b .even, b .low))
-    by-count f r false l = let z : _≡_ {A = ℕ} 0 1 = cc (rw (r, l) at g) in absurd (omega arith)
+    by-count f r false l = never (cc (rw (r, l) at g))
 
     go : (r : Rowed) → rowOf (drop (2 * line) os) ≡ r → (e ≤ length os / 2) × (d ≤ length os / 2)
     go faulty r = absurd (rw r at (b .are))
@@ -472,7 +466,7 @@ module _ (os ss : List ℕ) (even : 2 * (length os / 2) ≡ length os) (room : l
 -- Words that are no tree are answered so, and nothing is to be listed.
 pub no-tree : (os ss : List ℕ) → treeOf os ≡ missing → (Broken ≡ measuredOf (treeOf os)) × ((t : Tree) → treeOf os ≡ found t → take (length os) ss ≡ spansFrom 0 (subtrees t))
 unfolding measuredOf
-no-tree os ss e = (rw e refl, λ t f. let z : _≡_ {A = ℕ} 0 1 = cc (e, f) in absurd (omega arith))
+no-tree os ss e = (rw e refl, λ t f. never (cc (e, f)))
 
 -- Where words come to nothing there is no tree.
 pub broken-missing : (x : TreeFound) → measuredOf x ≡ Broken → x ≡ missing

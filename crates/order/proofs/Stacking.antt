@@ -8,6 +8,7 @@ use borrow.Author.Tests.{le-leb, lt-leb, leb-true}
 use lib.Dec.{leb}
 use lib.ListN.{length, take, drop, getD, set, length-set, length-append, length-drop, drop-of-length-le, List·getD-append}
 use lib.Seq.{length-take-le, take-all, take-nil, take-take, take-append-le, drop-append-le, getD-at, getD-take, getD-drop, take-suc-set}
+use Rattle.words.proofs.Tests.{never, by-test}
 use Rattle.words.specs.Base.{if_then_else_}
 use Rattle.figures.specs.Nodes.{soundNode}
 use Rattle.figures.specs.Limits.{most-words}
@@ -17,7 +18,7 @@ use Rattle.order.specs.Spans.{Rowed, faulty, rowed, nodeBefore, rowOf, l
 use Rattle.order.specs.declared.Measured.the-variants.{Broken, Deep}
 use Rattle.order.specs.declared.Popped.{Popped}
 use Rattle.order.specs.declared.Popped.the-variants.{Short, Left}
-use Rattle.order.proofs.Rowing.{row-tree, row-missing, faulty-before, node-words}
+use Rattle.order.proofs.Rowing.{row-tree, row-missing, lacks-child, fault-missing, node-words}
 use Rattle.order.proofs.Leaves.{leaves-few, leaves-deep, leaf-more, leaf-none}
 
 -- ---- the depths of a row's trees
@@ -241,17 +242,12 @@ had n rest deep f e = go (leb n (count f)) refl
     go true l =
         let same : Left rest deep ≡ Left (count f + 1 - n) (depthF (firstTrees n f)) = rw l at e in
         (leb-true _ _ l, ap many-of same, ap depth-of same)
-    go false l = let z : _≡_ {A = ℕ} 0 1 = cc (rw l at e) in absurd (omega arith)
+    go false l = never (cc (rw l at e))
 
 -- A node before a row that lacks a child is a fault.
 lacked : (x : Bool) (c n : ℕ) (f : Forest) → Short ≡ poppedBy n f → nodeBefore x c n (rowed f) ≡ faulty
-unfolding poppedBy nodeBefore if_then_else_
-lacked false c n f e = refl
-lacked true c n f e = go (leb n (count f)) refl
-  where
-    go : (x : Bool) → leb n (count f) ≡ x → nodeBefore true c n (rowed f) ≡ faulty
-    go true l = let z : _≡_ {A = ℕ} 0 1 = cc (rw l at e) in absurd (omega arith)
-    go false l = rw l refl
+unfolding poppedBy if_then_else_
+lacked x c n f e = by-test (leb n (count f)) (λ l. never (cc (rw l at e))) (lacks-child x c n f)
 
 module _ (os ss₀ ss : List ℕ) (at many top run : ℕ) (b : Stacked os ss₀ ss at many top run) where
   -- The trees are no more, and no deeper, than there are nodes behind.
@@ -285,8 +281,7 @@ module _ (os ss₀ ss : List ℕ) (at many top run : ℕ) (b : Stacked os ss₀ 
     fault-here : rowOf (drop here os) ≡ faulty → Broken ≡ measuredOf (treeOf os)
     fault-here e =
         let two : 2 * (here / 2) ≡ here = omega (arith, b .paired) in
-        let f : rowOf os ≡ faulty = faulty-before (here / 2) os (omega (arith, b .low)) (rw two e) in
-        broken os (row-missing os (λ t g. let z : _≡_ {A = ℕ} 0 1 = cc (f, g) in omega arith))
+        broken os (fault-missing (here / 2) os (omega (arith, b .low)) (rw two e))
 
     -- A node out of range.
     pub stacked-unsound : soundNode c n ≡ false → Broken ≡ measuredOf (treeOf os)

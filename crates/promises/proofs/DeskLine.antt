@@ -178,7 +178,7 @@ module _ (input : List ℕ) (k : ℕ) (cs : List FormCall) (is : handedIn input 
         leaves = book-then front c (opened input k cs is);
       }
 
--- ---- the line that is rung
+-- ---- the line that the clerk is told
 
 -- The first line at fault of a form's text stands behind as many LF as its number says, less one.
 pub fault-place : (text : List ℕ) (n line : ℕ) → FirstFault text n line

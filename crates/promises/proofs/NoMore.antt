@@ -55,7 +55,7 @@ module _ (ws : List ℕ) (b : Book) (is : IsBook ws b) (agrees : Agrees b) where
   pub no-more : (s : ThreeSets) → IncludeTaught b s → (os : List ℕ) (t : Tree) → IsOrder os t → judgeOf ws os .number ≡ done → FormOf (b .k) s t
   no-more s all os t o e = least (b .k) (TaughtIn b) _ _ _ all t (learns-exactly os t o .0 e)
 
-  -- So it is with sets at any lower k. At a greater k it is not (`sets-too-deep`, Rows.antt).
+  -- So it is with sets at any lower k. At a greater k it is not (`sets-too-deep`, Tables/Rows.antt).
   pub no-more-shallower : (k : ℕ) → 2 ≤ k → k ≤ b .k → (s : ThreeSets) → ((u : Tree) → TaughtIn b u → FormOf k s u)
       → (os : List ℕ) (t : Tree) → IsOrder os t → judgeOf ws os .number ≡ done → FormOf k s t
   no-more-shallower k two low s all os t o e =

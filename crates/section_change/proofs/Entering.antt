@@ -147,7 +147,7 @@ module _ (ws : List ℕ) (n used : ℕ) (other : List ℕ) (more : ℕ) where
           go : (next : List Entry) → Reached (p .passed) next (behind n used ws) book at left uses count
               → addAll (entries more other) (entries n ws) ≡ p .passed ++ addAll (entries rest (drop from other)) next → firstAgainst (first .key) next ≡ Equal
               → getD (drop at book) 1 0 + getD other (from + 1) 0 ≤ greatest-count
-          go [] b g d = let z : _≡_ {A = ℕ} 0 1 = cc in absurd (omega arith)
+          go [] b g d = never cc
           go (e ∷ next) b g d =
               let both : Entry = counted (e .key) (e .count + first .count) in
               let whole : addAll (entries more other) (entries n ws) ≡ p .passed ++ (both ∷ addAll others next) = g ∙ rw (apart, add-all-same first others e next order d) in

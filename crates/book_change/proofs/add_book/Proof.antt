@@ -1,7 +1,8 @@
 -- `book_change::add_book` meets its contract, by whether there is room. Assumes nothing.
 use mathlib.Core.Path.{refl}
 use borrow.Author.Needs.{needs}
-use Rattle.book_change.proofs.Room.{no-room-for, room-for, can-add, lacks-so, if-true, if-false}
+use Rattle.words.proofs.Tests.{if-true, if-false}
+use Rattle.book_change.proofs.Room.{no-room-for, room-for, can-add, lacks-so}
 use Rattle.book_change.proofs.add_book.Statement.{statement}
 use Rattle.book_change.proofs.add_book.Tie as tie
 use Rattle.book_change.proofs.add_book.Reads as reads

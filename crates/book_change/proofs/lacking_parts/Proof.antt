@@ -29,9 +29,7 @@ pub lacking-parts-spec : {M : Type 1} → statement M
 lacking-parts-spec =
     tie.close
     (tie.spec
-    (λ c κs. search needs)
-    (λ c κs. search needs)
-    (λ c κs. search needs)
+    (λ c κs. search needs) (λ c κs. search needs) (λ c κs. search needs)
     add-result
     add-result-2
     returns)

@@ -36,9 +36,6 @@ returns c = rw (c .before .before .enum-told .given .1, c .enum-told2 .given .1)
 returns-2 : tie.Need-returns-2
 returns-2 c = rw (c .before .before .enum-told .given .1, c .enum-told3 .given .1)
 
-returns-5 : tie.Need-returns-5
-returns-5 c = search needs
-
 pub lives-spec : {M : Type 1} → statement M
 lives-spec =
     tie.close
@@ -48,11 +45,7 @@ lives-spec =
     add-result
     (λ c. search needs)
     sub-result
-    (λ c. search needs)
-    (λ c. search needs)
-    (λ c. search needs)
+    (λ c. search needs) (λ c. search needs) (λ c. search needs)
     returns
     returns-2
-    (λ c. search needs)
-    (λ c. search needs)
-    returns-5)
+    (λ c. search needs) (λ c. search needs) (λ c. search needs))

@@ -83,9 +83,7 @@ pub weigh-section-spec : {M : Type 1} → statement M
 weigh-section-spec =
     tie.close
     (tie.spec
-    (λ c κs. search needs)
-    (λ c κs. search needs)
-    (λ c κs. search needs)
+    (λ c κs. search needs) (λ c κs. search needs) (λ c κs. search needs)
     mul-many
     shared-slice-read-many
     cast-many

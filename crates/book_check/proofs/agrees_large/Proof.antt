@@ -23,15 +23,10 @@ sections-agree-requires c κs =
     let roomy = any-roomy _ _ s in
     (s, (roomy, (roomy, roomy)))
 
-returns : tie.Need-returns
-returns c = search needs
-
 pub agrees-large-spec : {M : Type 1} → statement M
 agrees-large-spec =
     tie.close
     (tie.spec
-    (λ c. search needs)
-    (λ c. search needs)
-    (λ c. search needs)
+    (λ c. search needs) (λ c. search needs) (λ c. search needs)
     sections-agree-requires
-    returns)
+    (λ c. search needs))

@@ -12,15 +12,10 @@ sections-agree-requires c κs =
     let roomy = few-entries _ _ (s .0) small-entries (omega (arith, s .1)) in
     (s .0, (roomy, (roomy, roomy)))
 
-returns : tie.Need-returns
-returns c = search needs
-
 pub agrees-small-spec : {M : Type 1} → statement M
 agrees-small-spec =
     tie.close
     (tie.spec
-    (λ c. search needs)
-    (λ c. search needs)
-    (λ c. search needs)
+    (λ c. search needs) (λ c. search needs) (λ c. search needs)
     sections-agree-requires
-    returns)
+    (λ c. search needs))

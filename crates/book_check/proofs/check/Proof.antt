@@ -12,17 +12,11 @@ check-sections-requires c κs = holds _ _ (sym (c .before .before .before .in-fo
 returns : tie.Need-returns
 returns c = c .answered .ensures ∙ sym (check-unheld _ _ (sym (c .before .before .before .before .in-form .ensures) ∙ c .before .before .number .given .1))
 
-returns-2 : tie.Need-returns-2
-returns-2 c = search needs
-
 pub check-spec : {M : Type 1} → statement M
 check-spec =
     tie.close
     (tie.spec
-    (λ c κs. search needs)
-    (λ c. search needs)
-    (λ c κs. search needs)
-    (λ c. search needs)
+    (λ c κs. search needs) (λ c. search needs) (λ c κs. search needs) (λ c. search needs)
     check-sections-requires
     returns
-    returns-2)
+    (λ c. search needs))

@@ -189,35 +189,27 @@ in-form-spec =
     (λ c κs. search needs)
     returns
     shared-slice-read-new
-    (λ c κs. search needs)
-    (λ c. search needs)
+    (λ c κs. search needs) (λ c. search needs)
     enum-told
     returns-2
-    (λ c κs. search needs)
-    (λ c κs. search needs)
+    (λ c κs. search needs) (λ c κs. search needs)
     shared-slice-read-pass
-    (λ c. search needs)
-    (λ c κs. search needs)
-    (λ c. search needs)
-    (λ c. search needs)
+    (λ c. search needs) (λ c κs. search needs) (λ c. search needs) (λ c. search needs)
     returns-3
     shared-slice-read-pass-2
     (λ c. search needs)
     pass-requires-2
-    (λ c. search needs)
-    (λ c. search needs)
+    (λ c. search needs) (λ c. search needs)
     returns-4
     shared-slice-read-pass-3
     (λ c. search needs)
     pass-requires-3
-    (λ c. search needs)
-    (λ c. search needs)
+    (λ c. search needs) (λ c. search needs)
     returns-5
     shared-slice-read-pass-4
     (λ c. search needs)
     pass-requires-4
-    (λ c. search needs)
-    (λ c. search needs)
+    (λ c. search needs) (λ c. search needs)
     returns-6
     head-right-requires
     returns-7

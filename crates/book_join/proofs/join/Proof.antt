@@ -24,25 +24,15 @@ returns-2 c =
     told _ _ _ (c .answered2 .ensures)
     ∙ second-unheld _ _ _ (holds _ _ (sym (y .in-form .ensures) ∙ x .before .before .places .given .1)) _ (sym (x .in-form2 .ensures) ∙ c .before .before .number2 .given .1)
 
-returns-3 : tie.Need-returns-3
-returns-3 c = search needs
-
 pub join-spec : {M : Type 1} → statement M
 join-spec =
     tie.close
     (tie.spec
-    (λ c κs. search needs)
-    (λ c. search needs)
-    (λ c κs. search needs)
-    (λ c. search needs)
-    (λ c κs. search needs)
-    (λ c. search needs)
-    (λ c κs. search needs)
-    (λ c. search needs)
+    (λ c κs. search needs) (λ c. search needs) (λ c κs. search needs) (λ c. search needs) (λ c κs. search needs) (λ c. search needs)
+    (λ c κs. search needs) (λ c. search needs)
     join-books-requires
     (λ c. search needs)
     returns
     (λ c. search needs)
     returns-2
-    (λ c. search needs)
-    returns-3)
+    (λ c. search needs) (λ c. search needs))

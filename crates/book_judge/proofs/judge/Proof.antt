@@ -12,17 +12,11 @@ judge-order-requires c κs = holds _ _ (sym (c .before .before .before .in-form 
 returns : tie.Need-returns
 returns c = c .plainly .ensures ∙ sym (judgement-unheld _ _ _ (sym (c .before .before .before .before .in-form .ensures) ∙ c .before .before .number .given .1))
 
-returns-2 : tie.Need-returns-2
-returns-2 c = search needs
-
 pub judge-spec : {M : Type 1} → statement M
 judge-spec =
     tie.close
     (tie.spec
-    (λ c κs. search needs)
-    (λ c. search needs)
-    (λ c κs. search needs)
-    (λ c. search needs)
+    (λ c κs. search needs) (λ c. search needs) (λ c κs. search needs) (λ c. search needs)
     judge-order-requires
     returns
-    returns-2)
+    (λ c. search needs))

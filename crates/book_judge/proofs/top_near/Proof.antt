@@ -61,13 +61,11 @@ pub top-near-spec : {M : Type 1} → statement M
 top-near-spec =
     tie.close
     (tie.spec
-    (λ c κs. search needs)
-    (λ c. search needs)
+    (λ c κs. search needs) (λ c. search needs)
     put-cut-requires
     shared-slice-read-many
     cast-many
-    (λ c. search needs)
-    (λ c. search needs)
+    (λ c. search needs) (λ c. search needs)
     part-find-end
     find-requires
     (λ c κs. search needs)

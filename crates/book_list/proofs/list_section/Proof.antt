@@ -103,8 +103,7 @@ list-section-spec =
     (tie.spec
     enum-told
     write-entry-requires
-    (λ c. search needs)
-    (λ c κs. search needs)
+    (λ c. search needs) (λ c κs. search needs)
     write-entry-requires-2
     (λ c. search needs)
     list-parts-requires

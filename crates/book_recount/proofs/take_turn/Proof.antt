@@ -29,9 +29,5 @@ take-turn-spec =
     (λ c κs. search needs)
     level-lines-requires
     tally-section-requires
-    (λ c. search needs)
-    (λ c. search needs)
-    (λ c. search needs)
-    (λ c. search needs)
-    (λ c. search needs)
+    (λ c. search needs) (λ c. search needs) (λ c. search needs) (λ c. search needs) (λ c. search needs)
     returns)

@@ -65,11 +65,8 @@ tally-cut-spec =
     tie.close
     (tie.spec
     put-cut-requires
-    (λ c. search needs)
-    (λ c. search needs)
+    (λ c. search needs) (λ c. search needs)
     part-tally-once-end
     tally-once-requires
-    (λ c. search needs)
-    (λ c. search needs)
-    (λ c. search needs)
+    (λ c. search needs) (λ c. search needs) (λ c. search needs)
     returns)

@@ -134,8 +134,7 @@ tally-parts-spec =
     same-length-2
     same-length-3
     returns
-    (λ c. search needs)
-    (λ c. search needs)
+    (λ c. search needs) (λ c. search needs)
     loop-again
     same-length-4
     same-length-5

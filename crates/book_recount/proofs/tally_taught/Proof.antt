@@ -289,16 +289,13 @@ tally-taught-spec =
     μ-loop
     shared-slice-read-left
     loop-holds
-    (λ c. search needs)
-    (λ c. search needs)
-    (λ c. search needs)
+    (λ c. search needs) (λ c. search needs) (λ c. search needs)
     tally-order-requires
     same-length
     same-length-2
     returns
     past-requires
-    (λ c. search needs)
-    (λ c. search needs)
+    (λ c. search needs) (λ c. search needs)
     loop-again
     same-length-3
     same-length-4

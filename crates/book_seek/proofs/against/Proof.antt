@@ -45,14 +45,12 @@ against-spec =
     tie.close
     (tie.spec
     mul-standing
-    (λ c. search needs)
-    (λ c. search needs)
+    (λ c. search needs) (λ c. search needs)
     part-standing-end
     (λ c κs. search needs)
     returns
     mul-standing-2
-    (λ c. search needs)
-    (λ c. search needs)
+    (λ c. search needs) (λ c. search needs)
     part-standing-end-2
     (λ c κs. search needs)
     returns-2)

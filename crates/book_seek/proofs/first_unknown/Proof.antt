@@ -191,15 +191,12 @@ first-unknown-spec =
     loop-holds
     add-start
     past-requires
-    (λ c. search needs)
-    (λ c. search needs)
-    (λ c. search needs)
+    (λ c. search needs) (λ c. search needs) (λ c. search needs)
     part-against-end
     slice-aggregate-against
     against-requires
     enum-told
-    (λ c. search needs)
-    (λ c. search needs)
+    (λ c. search needs) (λ c. search needs)
     loop-again
     (λ c. search needs)
     lines-less

@@ -45,14 +45,12 @@ part-place-spec =
     tie.close
     (tie.spec
     mul-place-at
-    (λ c. search needs)
-    (λ c. search needs)
+    (λ c. search needs) (λ c. search needs)
     part-place-at-end
     (λ c κs. search needs)
     returns
     mul-place-at-2
-    (λ c. search needs)
-    (λ c. search needs)
+    (λ c. search needs) (λ c. search needs)
     part-place-at-end-2
     (λ c κs. search needs)
     returns-2)

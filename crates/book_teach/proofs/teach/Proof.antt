@@ -13,19 +13,12 @@ teach-order-requires c κs = holds _ _ (sym (c .before .before .before .before .
 returns : tie.Need-returns
 returns c = told _ _ _ (c .answered .ensures) ∙ teach-unheld _ _ _ (sym (c .before .before .before .before .in-form .ensures) ∙ c .before .before .number .given .1)
 
-returns-2 : tie.Need-returns-2
-returns-2 c = search needs
-
 pub teach-spec : {M : Type 1} → statement M
 teach-spec =
     tie.close
     (tie.spec
-    (λ c κs. search needs)
-    (λ c. search needs)
-    (λ c κs. search needs)
-    (λ c. search needs)
+    (λ c κs. search needs) (λ c. search needs) (λ c κs. search needs) (λ c. search needs)
     teach-order-requires
     (λ c. search needs)
     returns
-    (λ c. search needs)
-    returns-2)
+    (λ c. search needs) (λ c. search needs))

@@ -2,6 +2,7 @@
 use mathlib.Core.Path.{_≡_, refl, sym, ap, _∙_}
 use native.Mathlib.Omega.{arith}
 use borrow.Author.Needs.{needs}
+use Rattle.words.proofs.Shifts.{all-zeros}
 use Rattle.figures.specs.Numbers.{done}
 use Rattle.order.specs.Reading.{causeOf}
 use Rattle.order.specs.Spans.{GoneOver}
@@ -11,7 +12,7 @@ use Rattle.book.proofs.Holding.{used-room, allowed}
 use Rattle.book.proofs.Openings.{told}
 use Rattle.book_listing.specs.Own.{own-words}
 use Rattle.book_change.specs.declared.BookWeighed.{BookWeighed}
-use Rattle.book_teaching.proofs.Outcomes.{all-zeros, teach-refused, teach-full, own-holds, teach-overfull, teach-crowded, teach-ready, teach-done}
+use Rattle.book_teaching.proofs.Outcomes.{teach-refused, teach-full, own-holds, teach-overfull, teach-crowded, teach-ready, teach-done}
 use Rattle.book_teach.proofs.teach_order.Statement.{statement}
 use Rattle.book_teach.proofs.teach_order.Tie as tie
 
@@ -103,31 +104,22 @@ pub teach-order-spec : {M : Type 1} → statement M
 teach-order-spec =
     tie.close
     (tie.spec
-    (λ c. search needs)
-    (λ c κs. search needs)
-    (λ c κs. search needs)
+    (λ c. search needs) (λ c κs. search needs) (λ c κs. search needs)
     returns
-    (λ c. search needs)
-    (λ c κs. search needs)
+    (λ c. search needs) (λ c κs. search needs)
     returns-2
-    (λ c. search needs)
-    (λ c. search needs)
+    (λ c. search needs) (λ c. search needs)
     level-lines-requires
-    (λ c. search needs)
-    (λ c. search needs)
-    (λ c. search needs)
+    (λ c. search needs) (λ c. search needs) (λ c. search needs)
     list-own-requires
     (λ c. search needs)
     weigh-book-requires
-    (λ c κs. search needs)
-    (λ c. search needs)
+    (λ c κs. search needs) (λ c. search needs)
     returns-3
     sub-if4
-    (λ c κs. search needs)
-    (λ c. search needs)
+    (λ c κs. search needs) (λ c. search needs)
     returns-4
     (λ c. search needs)
     change-book-requires
-    (λ c κs. search needs)
-    (λ c. search needs)
+    (λ c κs. search needs) (λ c. search needs)
     returns-5)

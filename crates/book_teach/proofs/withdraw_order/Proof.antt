@@ -2,6 +2,7 @@
 use mathlib.Core.Path.{_≡_, refl, sym, _∙_}
 use native.Mathlib.Omega.{arith}
 use borrow.Author.Needs.{needs}
+use Rattle.words.proofs.Shifts.{all-zeros}
 use Rattle.figures.specs.Numbers.{done}
 use Rattle.order.specs.Reading.{causeOf}
 use Rattle.order.specs.Spans.{GoneOver}
@@ -10,7 +11,7 @@ use Rattle.book.specs.Holding.{Holds}
 use Rattle.book.proofs.Holding.{allowed}
 use Rattle.book.proofs.Openings.{told}
 use Rattle.book_listing.specs.Own.{own-words}
-use Rattle.book_teaching.proofs.Outcomes.{all-zeros, withdraw-refused, own-holds, withdraw-untaught, withdraw-ready, withdraw-disagrees, withdraw-done}
+use Rattle.book_teaching.proofs.Outcomes.{withdraw-refused, own-holds, withdraw-untaught, withdraw-ready, withdraw-disagrees, withdraw-done}
 use Rattle.book_teach.proofs.withdraw_order.Statement.{statement}
 use Rattle.book_teach.proofs.withdraw_order.Tie as tie
 
@@ -99,29 +100,21 @@ pub withdraw-order-spec : {M : Type 1} → statement M
 withdraw-order-spec =
     tie.close
     (tie.spec
-    (λ c. search needs)
-    (λ c κs. search needs)
-    (λ c κs. search needs)
+    (λ c. search needs) (λ c κs. search needs) (λ c κs. search needs)
     returns
-    (λ c. search needs)
-    (λ c. search needs)
+    (λ c. search needs) (λ c. search needs)
     level-lines-requires
-    (λ c. search needs)
-    (λ c. search needs)
-    (λ c. search needs)
+    (λ c. search needs) (λ c. search needs) (λ c. search needs)
     list-own-requires
     (λ c. search needs)
     weigh-section-requires
-    (λ c κs. search needs)
-    (λ c. search needs)
+    (λ c κs. search needs) (λ c. search needs)
     returns-2
     (λ c. search needs)
     lacking-parts-requires
-    (λ c κs. search needs)
-    (λ c. search needs)
+    (λ c κs. search needs) (λ c. search needs)
     returns-3
     (λ c. search needs)
     change-book-requires
-    (λ c κs. search needs)
-    (λ c. search needs)
+    (λ c κs. search needs) (λ c. search needs)
     returns-4)

@@ -48,16 +48,13 @@ opening-spec =
     (tie.spec
     (λ c κs. search needs)
     returns
-    (λ c κs. search needs)
-    (λ c. search needs)
+    (λ c κs. search needs) (λ c. search needs)
     enum-told
     (λ c κs. search needs)
     returns-2
     (λ c κs. search needs)
     returns-3
     letter-at-requires
-    (λ c. search needs)
-    (λ c κs. search needs)
-    (λ c. search needs)
+    (λ c. search needs) (λ c κs. search needs) (λ c. search needs)
     returns-4
     returns-5)

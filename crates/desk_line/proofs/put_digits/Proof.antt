@@ -38,8 +38,7 @@ put-digits-spec =
     Inv-loop
     μ-loop
     loop-holds
-    (λ c. search needs)
-    (λ c κs. search needs)
+    (λ c. search needs) (λ c κs. search needs)
     slice-write-out
     (λ c. search needs)
     loop-again

@@ -190,8 +190,7 @@ put-reply-spec =
     slice-write-out
     sub-put-field
     part-put-field-start
-    (λ c. search needs)
-    (λ c. search needs)
+    (λ c. search needs) (λ c. search needs)
     put-field-requires
     add-line-at
     sub-put-field-2

@@ -79,14 +79,11 @@ lines-spec =
     line-at-requires
     (λ c. search needs)
     enum-told
-    (λ c κs. search needs)
-    (λ c κs. search needs)
+    (λ c κs. search needs) (λ c κs. search needs)
     returns-2
-    (λ c. search needs)
-    (λ c. search needs)
+    (λ c. search needs) (λ c. search needs)
     element-write-words
-    (λ c. search needs)
-    (λ c. search needs)
+    (λ c. search needs) (λ c. search needs)
     element-write-words-2
     mul-latest
     array-write-latest
@@ -94,6 +91,5 @@ lines-spec =
     add-at
     loop-less
     loop-again
-    (λ c. search needs)
-    (λ c κs. search needs)
+    (λ c. search needs) (λ c κs. search needs)
     returns-3)

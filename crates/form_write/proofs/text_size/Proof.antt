@@ -7,16 +7,10 @@ use Rattle.form_write.proofs.text_size.Tie as tie
 returns : tie.Need-returns
 returns c = text-short _ (c .before .before .before .before .before .pre .0 .sound) (c .before .is-shallow .ensures (c .if1 .taken))
 
-returns-2 : tie.Need-returns-2
-returns-2 c = search needs
-
 pub text-size-spec : {M : Type 1} → statement M
 text-size-spec =
     tie.close
     (tie.spec
-    (λ c κs. search needs)
-    (λ c. search needs)
-    (λ c. search needs)
+    (λ c κs. search needs) (λ c. search needs) (λ c. search needs)
     returns
-    (λ c κs. search needs)
-    returns-2)
+    (λ c κs. search needs) (λ c. search needs))

@@ -33,8 +33,7 @@ pub put-code-spec : {M : Type 1} → statement M
 put-code-spec =
     tie.close
     (tie.spec
-    (λ c. search needs)
-    (λ c κs. search needs)
+    (λ c. search needs) (λ c κs. search needs)
     slice-write-out-2
     (λ c κs. search needs)
     slice-write-out-3

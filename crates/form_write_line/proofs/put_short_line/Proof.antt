@@ -32,8 +32,7 @@ pub put-short-line-spec : {M : Type 1} → statement M
 put-short-line-spec =
     tie.close
     (tie.spec
-    (λ c. search needs)
-    (λ c. search needs)
+    (λ c. search needs) (λ c. search needs)
     sub-put-code
     part-put-code-start
     (λ c. search needs)

@@ -17,18 +17,14 @@ mul-result c = omega (arith, c .shared-slice-known2 .given (c .before .before .a
 add-result : tie.Need-add-result
 add-result c = omega (arith, c .shared-slice-known2 .given (c .before .before .args .at), c .shared-slice-known2 .given (c .before .before .args .at + 1))
 
-returns : tie.Need-returns
-returns c = search needs
-
 pub word-at-spec : {M : Type 1} → statement M
 word-at-spec =
     tie.close
     (tie.spec
     (λ c. search needs)
     cast-high
-    (λ c. search needs)
-    (λ c. search needs)
+    (λ c. search needs) (λ c. search needs)
     cast-low
     mul-result
     add-result
-    returns)
+    (λ c. search needs))

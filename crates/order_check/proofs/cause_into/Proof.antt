@@ -51,8 +51,7 @@ cause-into-spec =
     returns
     returns-2
     returns-3
-    (λ c κs. search needs)
-    (λ c. search needs)
+    (λ c κs. search needs) (λ c. search needs)
     enum-told
     (λ c. search needs)
     returns-4

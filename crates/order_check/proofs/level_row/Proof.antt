@@ -69,8 +69,7 @@ level-row-spec =
     mul-at-2
     shared-slice-read-at
     cast-at
-    (λ c. search needs)
-    (λ c. search needs)
+    (λ c. search needs) (λ c. search needs)
     loop-again
     same-length
     returns)

@@ -35,13 +35,11 @@ cut-line-spec =
     (tie.spec
     (λ c. search needs)
     level-lines-requires
-    (λ c. search needs)
-    (λ c. search needs)
+    (λ c. search needs) (λ c. search needs)
     put-cut-requires
     (λ c κs. search needs)
     returns
     (λ c. search needs)
     put-cut-requires-2
-    (λ c κs. search needs)
-    (λ c. search needs)
+    (λ c κs. search needs) (λ c. search needs)
     returns-2)

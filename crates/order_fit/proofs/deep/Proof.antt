@@ -114,8 +114,7 @@ deep-spec =
     shared-slice-read-children
     (λ c. search needs)
     shared-slice-read-node-ok
-    (λ c κs. search needs)
-    (λ c. search needs)
+    (λ c κs. search needs) (λ c. search needs)
     returns
     cast-stack
     mul-stack

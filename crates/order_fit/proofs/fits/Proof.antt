@@ -46,8 +46,7 @@ fits-spec =
     returns
     deep-requires
     enum-told
-    (λ c. search needs)
-    (λ c. search needs)
+    (λ c. search needs) (λ c. search needs)
     returns-2
     (λ c. search needs)
     returns-3

@@ -1,5 +1,6 @@
 -- The line of an answer, for all inputs: it is 0 for an order and its parts, for a judgement unless its verdict names a line, which is then one of the
--- order's form and, with 21 or 22, the one wanted, and for a text unless a line of it is at fault. That of the other calls, always 0, is in ofb/proofs/Figures.antt. Assumes nothing.
+-- order's form and, with 21 or 22, the one wanted, and for a text unless a line of it is at fault. That of the other calls, always 0, stands with
+-- the laws of each (`open-line`, `check-line`, `print-line`, `filed-line`, `restored-line`). Assumes nothing.
 use Prim.Native.Nat.{ℕ, zero, suc, _-_, _≤_, _<_}
 use mathlib.Core.Path.{_≡_, refl, sym, ap, subst, _∙_}
 use mathlib.Core.List.{List}

@@ -56,8 +56,7 @@ place-at-spec =
     add-start
     past-requires
     mul-compare
-    (λ c. search needs)
-    (λ c. search needs)
+    (λ c. search needs) (λ c. search needs)
     part-compare-end
     (λ c κs. search needs)
     size-requires

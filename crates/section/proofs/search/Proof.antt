@@ -77,14 +77,11 @@ search-spec =
     loop-holds
     add-start
     past-requires
-    (λ c. search needs)
-    (λ c. search needs)
-    (λ c. search needs)
+    (λ c. search needs) (λ c. search needs) (λ c. search needs)
     part-standing-end
     (λ c κs. search needs)
     enum-told
-    (λ c. search needs)
-    (λ c. search needs)
+    (λ c. search needs) (λ c. search needs)
     loop-again
     (λ c. search needs)
     returns

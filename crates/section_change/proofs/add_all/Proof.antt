@@ -236,8 +236,7 @@ add-all-spec =
     add-start
     past-requires
     mul-first-against
-    (λ c. search needs)
-    (λ c. search needs)
+    (λ c. search needs) (λ c. search needs)
     part-first-against-end
     first-against-requires
     enum-told
@@ -261,8 +260,7 @@ add-all-spec =
     loop-again-2
     (λ c. search needs)
     mul-enter-behind
-    (λ c. search needs)
-    (λ c. search needs)
+    (λ c. search needs) (λ c. search needs)
     part-enter-behind-end
     enter-behind-requires
     add-count

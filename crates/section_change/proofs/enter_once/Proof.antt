@@ -79,11 +79,7 @@ pub enter-once-spec : {M : Type 1} → statement M
 enter-once-spec =
     tie.close
     (tie.spec
-    (λ c. search needs)
-    (λ c. search needs)
-    (λ c. search needs)
-    (λ c κs. search needs)
-    (λ c. search needs)
+    (λ c. search needs) (λ c. search needs) (λ c. search needs) (λ c κs. search needs) (λ c. search needs)
     returns
     mul-enter
     sub-enter

@@ -49,9 +49,7 @@ first-against-spec =
     returns
     add-start
     past-requires
-    (λ c. search needs)
-    (λ c. search needs)
-    (λ c. search needs)
+    (λ c. search needs) (λ c. search needs) (λ c. search needs)
     part-standing-end
     (λ c κs. search needs)
     returns-2)

@@ -192,9 +192,7 @@ lower-all-spec =
     loop-holds
     add-start
     past-requires
-    (λ c. search needs)
-    (λ c. search needs)
-    (λ c. search needs)
+    (λ c. search needs) (λ c. search needs) (λ c. search needs)
     part-first-against-end
     first-against-requires
     enum-told

@@ -239,9 +239,7 @@ weigh-spec =
     loop-holds
     add-start
     past-requires
-    (λ c. search needs)
-    (λ c. search needs)
-    (λ c. search needs)
+    (λ c. search needs) (λ c. search needs) (λ c. search needs)
     part-first-against-end
     first-against-requires
     enum-told
@@ -262,10 +260,8 @@ weigh-spec =
     (λ c. search needs)
     loop-less-2
     loop-again-2
-    (λ c. search needs)
-    (λ c. search needs)
+    (λ c. search needs) (λ c. search needs)
     add-lacking
-    (λ c. search needs)
-    (λ c. search needs)
+    (λ c. search needs) (λ c. search needs)
     loop-again-3
     returns)

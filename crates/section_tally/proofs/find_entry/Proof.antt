@@ -110,7 +110,6 @@ find-entry-spec =
     loop-again
     (λ c. search needs)
     returns
-    (λ c. search needs)
-    (λ c. search needs)
+    (λ c. search needs) (λ c. search needs)
     loop-again-2
     returns-2)

@@ -140,7 +140,6 @@ tally-once-spec =
     slice-write-counts
     mul-marks
     slice-write-marks
-    (λ c. search needs)
-    (λ c. search needs)
+    (λ c. search needs) (λ c. search needs)
     returns-2
     returns-3)

@@ -13,20 +13,11 @@ Inv-loop words mark₀ i₀ i-end mark i = i-end ≤ length words
 abbrev μ-loop : tie.MeasureT-loop
 μ-loop words mark₀ i₀ i-end mark i = i-end - i
 
-returns : tie.Need-returns Inv-loop μ-loop
-returns c = search needs
-
 pub of-spec : {M : Type 1} → statement M
 of-spec =
     tie.close
     (tie.spec
     Inv-loop
     μ-loop
-    (λ c. search needs)
-    (λ c. search needs)
-    (λ c. search needs)
-    (λ c κs. search needs)
-    (λ c. search needs)
-    (λ c. search needs)
-    (λ c. search needs)
-    returns)
+    (λ c. search needs) (λ c. search needs) (λ c. search needs) (λ c κs. search needs) (λ c. search needs) (λ c. search needs)
+    (λ c. search needs) (λ c. search needs))

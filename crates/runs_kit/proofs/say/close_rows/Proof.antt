@@ -13,26 +13,12 @@ Inv-loop left deep rows₀ t4 t5 rows = rows ≤ length left
 abbrev μ-loop : tie.MeasureT-loop
 μ-loop left deep rows₀ t4 t5 rows = rows
 
-returns : tie.Need-returns Inv-loop μ-loop
-returns c = search needs
-
 pub close-rows-spec : {M : Type 1} → statement M
 close-rows-spec =
     tie.close
     (tie.spec
     Inv-loop
     μ-loop
-    (λ c. search needs)
-    (λ c. search needs)
-    (λ c κs. search needs)
-    (λ c. search needs)
-    (λ c. search needs)
-    (λ c. search needs)
-    (λ c. search needs)
-    (λ c. search needs)
-    (λ c κs. search needs)
-    (λ c. search needs)
-    (λ c. search needs)
-    (λ c. search needs)
-    (λ c. search needs)
-    returns)
+    (λ c. search needs) (λ c. search needs) (λ c κs. search needs) (λ c. search needs) (λ c. search needs) (λ c. search needs)
+    (λ c. search needs) (λ c. search needs) (λ c κs. search needs) (λ c. search needs) (λ c. search needs) (λ c. search needs)
+    (λ c. search needs) (λ c. search needs))

@@ -13,20 +13,11 @@ Inv-loop words word from at₀ at = (from ≤ at) × (at ≤ length words)
 abbrev μ-loop : tie.MeasureT-loop
 μ-loop words word from at₀ at = length words - at
 
-returns-2 : tie.Need-returns-2 Inv-loop μ-loop
-returns-2 c = search needs
-
 pub other-spec : {M : Type 1} → statement M
 other-spec =
     tie.close
     (tie.spec
     Inv-loop
     μ-loop
-    (λ c. search needs)
-    (λ c. search needs)
-    (λ c. search needs)
-    (λ c. search needs)
-    (λ c. search needs)
-    (λ c. search needs)
-    (λ c. search needs)
-    returns-2)
+    (λ c. search needs) (λ c. search needs) (λ c. search needs) (λ c. search needs) (λ c. search needs) (λ c. search needs)
+    (λ c. search needs) (λ c. search needs))

@@ -13,22 +13,11 @@ Inv-loop words at₀ at = at ≤ length words
 abbrev μ-loop : tie.MeasureT-loop
 μ-loop words at₀ at = length words - at
 
-returns : tie.Need-returns Inv-loop μ-loop
-returns c = search needs
-
 pub runs-spec : {M : Type 1} → statement M
 runs-spec =
     tie.close
     (tie.spec
     Inv-loop
     μ-loop
-    (λ c. search needs)
-    (λ c. search needs)
-    (λ c. search needs)
-    (λ c. search needs)
-    (λ c κs. search needs)
-    (λ c. search needs)
-    (λ c κs. search needs)
-    (λ c. search needs)
-    (λ c. search needs)
-    returns)
+    (λ c. search needs) (λ c. search needs) (λ c. search needs) (λ c. search needs) (λ c κs. search needs) (λ c. search needs)
+    (λ c κs. search needs) (λ c. search needs) (λ c. search needs) (λ c. search needs))
