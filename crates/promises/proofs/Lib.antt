@@ -7,9 +7,6 @@ pub mod Expected
 pub mod Cases
 pub mod AtTheDesk
 pub mod DeskLine
-pub mod Contracts
-pub mod InC
-pub mod Lent
 pub mod Impostors
 pub mod Books
 pub mod Wordings
