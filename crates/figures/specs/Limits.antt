@@ -1,5 +1,5 @@
--- The figures of 01 for orders, parts, books and the desk ("Orders", "Parts", "The book", "Forms on the desk"). They unfold everywhere, so that a
--- test against one computes. Assumes nothing: these are definitions.
+-- The figures of 01 for orders, parts, books and the desk ("Orders", "Parts", "The book", "Forms on the desk"), and of 02 for rule lists ("Choose the
+-- firmware image"). They unfold everywhere, so that a test against one computes. Assumes nothing: these are definitions.
 use Prim.Native.Nat.{ℕ, _*_}
 
 -- "an option code 1 to 9999"
@@ -85,3 +85,15 @@ most-input = 32768
 -- "with a book of 8,192 words"
 abbrev pub desk-book-words : ℕ
 desk-book-words = 8192
+
+-- "the number of rules, 0 to 64"
+abbrev pub most-rules : ℕ
+most-rules = 64
+
+-- "an image number 1 to 65,535"
+abbrev pub least-image : ℕ
+least-image = 1
+
+-- "to 65,535"
+abbrev pub greatest-image : ℕ
+greatest-image = 65535

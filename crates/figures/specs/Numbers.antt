@@ -77,3 +77,15 @@ low-unknown = 21
 -- judged: the middle part of the line to fix is not in the book
 abbrev pub middle-unknown : ℕ
 middle-unknown = 22
+
+-- chosen: no rule fits the order
+abbrev pub no-image : ℕ
+no-image = 30
+
+-- chosen: two rules that fit the order name different images
+abbrev pub two-images : ℕ
+two-images = 31
+
+-- chosen: the words are no rule list, or a rule's tree is deeper than k-1
+abbrev pub no-rules : ℕ
+no-rules = 32

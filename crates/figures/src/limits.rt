@@ -1,4 +1,4 @@
-// The figures of 01 for orders, books and the desk, named as the definitions of `specs/Limits.antt` name them.
+// The figures of 01 for orders, books and the desk, and of 02 for rule lists, named as the definitions of `specs/Limits.antt` name them.
 
 // "an option code 1 to 9999, then its number of children 0 to 8"
 pub const LEAST_CODE: u16 = 1;
@@ -47,3 +47,9 @@ pub const GREATEST_COUNT: u16 = 65535;
 pub const MOST_INPUT: usize = 32768;
 
 pub const DESK_BOOK_WORDS: usize = 8192;
+
+// "the number of rules, 0 to 64"
+pub const MOST_RULES: u16 = 64;
+
+// "an image number 1 to 65,535"
+pub const LEAST_IMAGE: u16 = 1;

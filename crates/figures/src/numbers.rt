@@ -56,3 +56,12 @@ pub const LOW_UNKNOWN: u16 = 21;
 
 // judged: the middle part of the line to fix is not in the book
 pub const MIDDLE_UNKNOWN: u16 = 22;
+
+// chosen: no rule fits the order
+pub const NO_IMAGE: u16 = 30;
+
+// chosen: two rules that fit the order name different images
+pub const TWO_IMAGES: u16 = 31;
+
+// chosen: the words are no rule list, or a rule's tree is deeper than k-1
+pub const NO_RULES: u16 = 32;

@@ -1,0 +1,1 @@
+-- The laws of the crate, which the proofs of functions in other crates, and other laws, cite.
