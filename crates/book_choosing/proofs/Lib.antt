@@ -1,1 +1,2 @@
 -- The laws of the crate, which the proofs of functions in other crates, and other laws, cite.
+pub mod Fitting
