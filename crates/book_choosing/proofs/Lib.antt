@@ -1,2 +1,3 @@
 -- The laws of the crate, which the proofs of functions in other crates, and other laws, cite.
 pub mod Fitting
+pub mod Choices
