@@ -1,3 +1,4 @@
 -- The laws of the crate, which the proofs of functions in other crates, and other laws, cite.
+pub mod Lists
 pub mod Fitting
 pub mod Choices
