@@ -22,5 +22,7 @@ pub mod Spots
 pub mod LineCuts
 pub mod LineSpans
 pub mod LevelLines
+pub mod Walking
 pub mod Putting
+pub mod Comparing
 pub mod Levels

@@ -5,7 +5,7 @@ ghost use Prim.Native.Nat.{_+_, _*_, _/_, _≤_, _<_};
 ghost use denote.Ref.{ptr};
 ghost use lib.ListN.{length, getD};
 ghost use lib.Dec.{leb};
-ghost use Rattle.words.specs.Base.{over, if_then_else_};
+ghost use Rattle.words.specs.Base.{over, if_then_else_, sameWords};
 ghost use Rattle.figures.specs.Limits.{most-words};
 ghost use Rattle.figures.specs.Numbers.{done};
 ghost use Rattle.order.specs.Reading.{causeOf};
@@ -113,6 +113,43 @@ pub fn put_cut(
         count += 2;
     }
     count
+}
+
+// Whether the cut at d of the subtree of a line, the lines counted from 0, has the words of a tree, by the spans and the levels of the order's
+// lines. Left at the first word that differs; nothing is written.
+pub fn is_cut(
+    order: &[u16],
+    spans: &[u16],
+    levels: &[u8],
+    line: usize,
+    d: usize,
+    tree: &[u16],
+) -> bool
+    requires { ⌜ GoneOver (now order) (now spans) ⌝ }
+    requires { ⌜ LinesLevelled (now order) (now levels) ⌝ }
+    requires { ⌜ line < length (now order) / 2 ⌝ }
+    ensures { λ r. ⌜ r ≡ sameWords (cutOf (now (order .entry)) (line * 2) d) (now (tree .entry)) ⌝ }
+{
+    let own = levels[line];
+    let end = line_end(spans, line);
+    let mut at = line;
+    let mut count: usize = 0;
+    while at < end {
+        if tree.len() - count < 2 {
+            return false;
+        }
+        if order[at * 2] != tree[count] {
+            return false;
+        }
+        let level = levels[at];
+        let below = (level - own) as usize;
+        if kept_children(below, d, order[at * 2 + 1]) != tree[count + 1] {
+            return false;
+        }
+        at = next_line(spans, at, below, d);
+        count += 2;
+    }
+    count == tree.len()
 }
 
 // Writes the cut at d of the subtree of a line, the lines counted from 0, to the front of `out`, or answers 11 where it has no room. How long it

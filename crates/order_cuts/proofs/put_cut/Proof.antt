@@ -43,22 +43,22 @@ here : (c : tie.After-shared-slice-known5 Inv-loop μ-loop) →
 here c = let i = c .before .before .loop .inv in turning _ _ _ _ _ _ _ _ _ _ _ (i .0) (i .1) (i .2) (c .before .loop-test .taken)
 
 shared-slice-read-level : tie.Need-shared-slice-read-level Inv-loop μ-loop
-shared-slice-read-level c = here c .levelled
+shared-slice-read-level c = here c .step .levelled
 
 sub-below : tie.Need-sub-below Inv-loop μ-loop
-sub-below c = here c .above
+sub-below c = here c .step .above
 
 cast-below : tie.Need-cast-below Inv-loop μ-loop
-cast-below c = omega (arith, here c .small)
+cast-below c = omega (arith, here c .step .small)
 
 mul-out : tie.Need-mul-out Inv-loop μ-loop
-mul-out c = omega (arith, here c .lies)
+mul-out c = omega (arith, here c .step .lies)
 
 mul-out-2 : tie.Need-mul-out-2 Inv-loop μ-loop
-mul-out-2 c = omega (arith, here c .lies)
+mul-out-2 c = omega (arith, here c .step .lies)
 
 shared-slice-read-out : tie.Need-shared-slice-read-out Inv-loop μ-loop
-shared-slice-read-out c = omega (arith, here (c .before) .lies)
+shared-slice-read-out c = omega (arith, here (c .before) .step .lies)
 
 mul-out-3 : tie.Need-mul-out-3 Inv-loop μ-loop
 mul-out-3 c = omega (arith, here (c .before) .room)
@@ -67,16 +67,16 @@ slice-write-out : tie.Need-slice-write-out Inv-loop μ-loop
 slice-write-out c = let h = here (c .before) in omega (arith, h .room, h .same)
 
 mul-kept-children : tie.Need-mul-kept-children Inv-loop μ-loop
-mul-kept-children c = omega (arith, here (c .before) .lies)
+mul-kept-children c = omega (arith, here (c .before) .step .lies)
 
 add-kept-children : tie.Need-add-kept-children Inv-loop μ-loop
-add-kept-children c = omega (arith, here (c .before) .lies)
+add-kept-children c = omega (arith, here (c .before) .step .lies)
 
 mul-kept-children-2 : tie.Need-mul-kept-children-2 Inv-loop μ-loop
-mul-kept-children-2 c = omega (arith, here (c .before) .lies)
+mul-kept-children-2 c = omega (arith, here (c .before) .step .lies)
 
 shared-slice-read-kept-children : tie.Need-shared-slice-read-kept-children Inv-loop μ-loop
-shared-slice-read-kept-children c = omega (arith, here (c .before .before) .lies)
+shared-slice-read-kept-children c = omega (arith, here (c .before .before) .step .lies)
 
 add-out : tie.Need-add-out Inv-loop μ-loop
 add-out c = omega (arith, here (c .before .before .before) .room)
@@ -88,13 +88,13 @@ slice-write-out-2 : tie.Need-slice-write-out-2 Inv-loop μ-loop
 slice-write-out-2 c = let h = here (c .before .before .before) in simp length-set (omega (arith, h .room, h .same))
 
 next-line-requires : tie.Need-next-line-requires Inv-loop μ-loop
-next-line-requires c κs = omega (arith, here (c .before .before .before) .spanned)
+next-line-requires c κs = omega (arith, here (c .before .before .before) .step .spanned)
 
 add-count : tie.Need-add-count Inv-loop μ-loop
 add-count c = omega (arith, here (c .before .before .before .before) .room)
 
 loop-less : tie.Need-loop-less Inv-loop μ-loop
-loop-less c = let h = here (c .before .before .before .before) in omega (arith, h .on _ (c .next-line .ensures), c .before .before .before .before .before .loop-test .taken)
+loop-less c = let h = here (c .before .before .before .before) in omega (arith, h .step .on _ (c .next-line .ensures), c .before .before .before .before .before .loop-test .taken)
 
 loop-again : tie.Need-loop-again Inv-loop μ-loop
 loop-again c =
