@@ -2,4 +2,6 @@
 pub mod Lists
 pub mod Fitting
 pub mod Images
+pub mod Cuts
+pub mod Turns
 pub mod Choices

@@ -6,11 +6,11 @@ use mathlib.Core.List.{List, [], _∷_, map}
 use lib.Dec.{leb, eqb}
 use lib.ListN.{length, getD, take, drop}
 use Rattle.words.specs.Base.{if_then_else_}
-use Rattle.figures.specs.Numbers.{no-image, two-images}
+use Rattle.figures.specs.Numbers.{no-image, two-images, no-rules}
 use Rattle.order.specs.Trees.{cut, subtrees}
 use Rattle.order.specs.Reading.{byOrder, orderOf}
-use Rattle.book_choosing.specs.Rules.{ImageRule, soundRule}
-use Rattle.book_choosing.specs.Choosing.{isOneOf, chosen, unchosen, chosenBy}
+use Rattle.book_choosing.specs.Rules.{ImageRule, soundRule, rulesFrom, byRules}
+use Rattle.book_choosing.specs.Choosing.{isOneOf, imagesFor, chosen, unchosen, chosenBy}
 use Rattle.book_choosing.specs.declared.Chosen.{Chosen}
 use Rattle.book_choosing.specs.declared.RuleAt.{RuleAt}
 use Rattle.book_choosing.specs.declared.RuleAt.the-variants.{NoRule, Ends}
@@ -33,14 +33,14 @@ ruleAtOf k rs at =
     if not (soundRule k (ruleWithin rs at (rulePast rs at))) then NoRule else
     Ends (rulePast rs at)
 
--- Whether the cut at d of one of the order's subtrees has these words.
-unfoldable pub cutIn : List ℕ → ℕ → List ℕ → Bool
-cutIn os d tree = byOrder (orderOf os) (λ n. false) (λ t. isOneOf tree (map (λ s. cut s d) (subtrees t)))
+-- Whether the cut at d of one of the order's subtrees has the words of a tree, from a line on, the lines counted from 0.
+unfoldable pub cutFrom : List ℕ → ℕ → List ℕ → ℕ → Bool
+cutFrom os d tree line = byOrder (orderOf os) (λ n. false) (λ t. isOneOf tree (map (λ s. cut s d) (drop line (subtrees t))))
 
 -- What is named once one more rule fits.
 unfoldable pub alsoOf : Named → ℕ → Named
 alsoOf Nothing i = One i
-alsoOf (One j) i = if eqb j i then One j else Two
+alsoOf (One j) i = if eqb i j then One j else Two
 alsoOf Two i = Two
 
 -- What is chosen by what is named.
@@ -57,3 +57,9 @@ alsoAll n (i ∷ is) = alsoAll (alsoOf n i) is
 -- What is chosen for an order by a rule list.
 unfoldable pub chosenFor : ℕ → List ℕ → List ℕ → Chosen
 chosenFor k os rs = byOrder (orderOf os) unchosen (λ t. chosenBy k t rs)
+
+-- The same where some rules have been looked at: these name an image or not, and so many are left from a word of the list on.
+unfoldable pub chosenFrom : ℕ → List ℕ → List ℕ → Named → ℕ → ℕ → Chosen
+chosenFrom k os rs named left at =
+    byOrder (orderOf os) unchosen (λ t.
+    byRules (rulesFrom k left (drop at rs)) (unchosen no-rules) (λ rules. toldOf (alsoAll named (imagesFor k t rules))))
