@@ -81,11 +81,11 @@ module _ (os : List ℕ) (d : ℕ) (tree : List ℕ) (line : ℕ) (sound : cause
     code-past x =
         cut-past
         (fails _ (λ e.
-          let same : cutOf os (line * 2) d ≡ tree = words-same _ _ e in
-          x
-          (ap (λ (n : ℕ). getD os n 0) (sym (add-zero (line * 2)))
-          ∙ sym (getD-drop (line * 2) os 0 0)
-          ∙ ap (λ (ws : List ℕ). getD ws 0 0) (spot .here)
-          ∙ first-word (spot .tree) (spot .after)
-          ∙ sym (cut-code (spot .tree) d)
-          ∙ ap (λ (ws : List ℕ). getD ws 0 0) (sym (cut-spot os (line * 2) _ spot d) ∙ same))))
+        let same : cutOf os (line * 2) d ≡ tree = words-same _ _ e in
+        x
+        (ap (λ (n : ℕ). getD os n 0) (sym (add-zero (line * 2)))
+        ∙ sym (getD-drop (line * 2) os 0 0)
+        ∙ ap (λ (ws : List ℕ). getD ws 0 0) (spot .here)
+        ∙ first-word (spot .tree) (spot .after)
+        ∙ sym (cut-code (spot .tree) d)
+        ∙ ap (λ (ws : List ℕ). getD ws 0 0) (sym (cut-spot os (line * 2) _ spot d) ∙ same))))

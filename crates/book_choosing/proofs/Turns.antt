@@ -1,5 +1,5 @@
 -- The pass over a rule list: what stands at a word of it, and that the rules left and what is named so far decide what is chosen. Assumes nothing.
-use Prim.Native.Nat.{ℕ, zero, suc, _+_, _*_, _-_, _≤_, _<_}
+use Prim.Native.Nat.{ℕ, suc, _+_, _*_, _-_, _/_, _≤_, _<_}
 use mathlib.Core.Path.{_≡_, refl, ap, ap₂, sym, subst, _∙_}
 use mathlib.Core.Bool.{Bool, true, false, not}
 use mathlib.Core.List.{List, [], _∷_}
@@ -8,13 +8,14 @@ use native.Mathlib.Omega.{arith}
 use borrow.Author.Tests.{leb-true, leb-false, le-leb, lt-leb}
 use lib.Dec.{leb, eqb}
 use lib.ListN.{length, getD, take, drop, length-drop, drop-of-length-le}
-use lib.Seq.{drop-drop}
+use lib.Seq.{drop-drop, length-take-le}
 use Rattle.words.specs.Base.{_and_, if_then_else_, keep}
-use Rattle.words.proofs.Tests.{by-test, either, never}
-use Rattle.figures.specs.Limits.{most-rules, least-k}
+use Rattle.words.proofs.Tests.{by-test, either, no-test, and-right}
+use Rattle.figures.specs.Limits.{most-rules, least-image, greatest-image, least-k}
 use Rattle.figures.specs.Numbers.{done, no-rules}
 use Rattle.order.specs.Trees.{Tree, subtrees}
 use Rattle.order.specs.Reading.{byOrder, orderOf, causeOf}
+use Rattle.order.specs.Fits.{fitsOf}
 use Rattle.order.proofs.Causes.{has-tree}
 use Rattle.order.proofs.Writing.{two}
 use Rattle.book_choosing.specs.Rules.{ImageRule, soundRule, ruleBefore, rulesFrom, rulesOf, byRules}
@@ -31,7 +32,7 @@ use Rattle.book_choosing.proofs.Fitting.{cuts-fit}
 
 -- A rule of the list stands at a word and ends before another; what is read from there on is this rule and what is read behind it.
 pub record OneThere (k : ℕ) (rs : List ℕ) (at end : ℕ) : Type 0 where
-  pub past : end ≡ rulePast rs at
+  pub some-nodes : at + 2 < end
   pub lies : end ≤ length rs
   read : (n : ℕ) → rulesFrom k (suc n) (drop at rs) ≡ ruleBefore true (ruleWithin rs at end) (rulesFrom k n (drop end rs))
 
@@ -39,6 +40,12 @@ pub record OneThere (k : ℕ) (rs : List ℕ) (at end : ℕ) : Type 0 where
 abbrev pub AtRule : ℕ → List ℕ → ℕ → RuleAt → Type 0
 AtRule k rs at NoRule = (n : ℕ) → rulesFrom k (suc n) (drop at rs) ≡ none
 AtRule k rs at (Ends end) = OneThere k rs at end
+
+-- A sound rule's tree has words.
+sound-some : (k image : ℕ) (ws : List ℕ) → soundRule k (record { image = image; tree = ws }) ≡ true → 0 < length ws
+unfolding soundRule fitsOf orderOf byOrder if_then_else_
+sound-some k image [] e = no-test (and-right _ _ e)
+sound-some k image (w ∷ ws) e = omega arith
 
 module _ (k : ℕ) (rs : List ℕ) (at : ℕ) where
   -- Where two words are not there nothing is read.
@@ -81,8 +88,10 @@ module _ (k : ℕ) (rs : List ℕ) (at : ℕ) where
       go true e false f c g = λ n. rules-next n (leb-true (at + 2) (length rs) e) ∙ rw f
       go true e true f false g = λ n. rules-next n (leb-true (at + 2) (length rs) e) ∙ rw (f, g)
       go true e true f true g =
+          let tree : length (take (rulePast rs at - (at + 2)) (drop (at + 2) rs)) ≡ rulePast rs at - (at + 2) =
+          length-take-le (rulePast rs at - (at + 2)) (drop (at + 2) rs) (omega (arith, leb-true (rulePast rs at) (length rs) f, length-drop (at + 2) rs)) in
           record {
-            past = refl;
+            some-nodes = omega (arith, sound-some k _ _ g, tree);
             lies = leb-true (rulePast rs at) (length rs) f;
             read = λ n. rules-next n (leb-true (at + 2) (length rs) e) ∙ rw (f, g);
           }
@@ -90,6 +99,41 @@ module _ (k : ℕ) (rs : List ℕ) (at : ℕ) where
   -- So it is of what is found there.
   pub rule-found : (w v : RuleAt) → w ≡ ruleAtOf k rs at → w ≡ v → AtRule k rs at v
   rule-found w v e f = subst (AtRule k rs at) (sym e ∙ f) rule-there
+
+-- ---- what the tests of a word tell
+
+module _ (k : ℕ) (rs : List ℕ) (at : ℕ) where
+  -- Two words are not there.
+  pub told-short : length rs - at < 2 → NoRule ≡ ruleAtOf k rs at
+  unfolding ruleAtOf if_then_else_
+  told-short h = rw (lt-leb (at + 2) (length rs) (omega arith)) refl
+
+  module _ (two-there : at + 2 ≤ length rs) where
+    -- The tree does not end within the list.
+    pub told-cut-off : (length rs - (at + 2)) / 2 < getD rs (at + 1) 0 → NoRule ≡ ruleAtOf k rs at
+    unfolding ruleAtOf if_then_else_
+    told-cut-off h = rw (le-leb (at + 2) (length rs) two-there, lt-leb (rulePast rs at) (length rs) (omega arith)) refl
+
+    module _ (lies : rulePast rs at ≤ length rs) where
+      -- The image or the tree is at fault.
+      pub told-fault : soundRule k (ruleWithin rs at (rulePast rs at)) ≡ false → NoRule ≡ ruleAtOf k rs at
+      unfolding ruleAtOf if_then_else_
+      told-fault e = rw (le-leb (at + 2) (length rs) two-there, le-leb (rulePast rs at) (length rs) lies, e) refl
+
+      -- Neither is.
+      pub told-rule : soundRule k (ruleWithin rs at (rulePast rs at)) ≡ true → Ends (rulePast rs at) ≡ ruleAtOf k rs at
+      unfolding ruleAtOf if_then_else_
+      told-rule e = rw (le-leb (at + 2) (length rs) two-there, le-leb (rulePast rs at) (length rs) lies, e) refl
+
+-- A rule whose image is 0 is at fault,
+pub image-fault : (k : ℕ) (r : ImageRule) → r .image < least-image → soundRule k r ≡ false
+unfolding soundRule _and_
+image-fault k r h = rw (lt-leb least-image (r .image) h)
+
+-- and any other word is an image: the tree decides.
+pub image-sound : (k : ℕ) (r : ImageRule) → least-image ≤ r .image → r .image ≤ greatest-image → soundRule k r ≡ fitsOf 0 (k - 1) (r .tree)
+unfolding soundRule _and_
+image-sound k r l g = rw (le-leb least-image (r .image) l, le-leb (r .image) greatest-image g)
 
 -- ---- what is named
 
