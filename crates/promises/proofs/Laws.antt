@@ -21,4 +21,5 @@ pub mod Handing
 pub mod FirstLeaf
 pub mod Growing
 pub mod Nearness
+pub mod Choosing
 pub mod DeskFigures

@@ -4,6 +4,7 @@ pub mod Demand2
 pub mod Demand3
 pub mod NoMore
 pub mod Expected
+pub mod Choosing
 pub mod Cases
 pub mod AtTheDesk
 pub mod DeskLine

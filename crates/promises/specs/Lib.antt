@@ -10,3 +10,4 @@ pub mod Forms
 pub mod Books
 pub mod NoMore
 pub mod Expected
+pub mod Choosing
