@@ -4,7 +4,8 @@
 -- teaching that writes nothing, learning the first order and nodding at the rest, and word 2 or a count invented, by `Keeps`, demand 3;
 -- and all of them by demand 1's rows, `Teaches` and `Judges`. A sixth, which teaches rightly and never forgets, is shut out by `Releases`, the exact
 -- condition of withdrawing; a seventh, whose joining answers 0 and joins nothing, by `Keeps`; and an eighth, which refuses every joining, by `Merges`, the exact
--- condition of joining. Assumes nothing.
+-- condition of joining. Three that choose an image, one that refuses every order, one with the same image for all and one that takes some rule that fits without
+-- looking at the others, are shut out by 02's rows, `Chooses`. Assumes nothing.
 use Prim.Native.Nat.{ℕ, _+_, _≤_, _<_}
 use mathlib.Core.Path.{_≡_, refl, sym, ap, ap₂, subst, _∙_}
 use mathlib.Core.List.{List, [], _∷_, _++_}
@@ -12,7 +13,7 @@ use native.Mathlib.Omega.{arith}
 use lib.ListN.{length, getD, length-append}
 use Rattle.words.specs.Base.{if_then_else_, _exactly-when_}
 use Rattle.figures.specs.Limits.{greatest-count, live-word}
-use Rattle.figures.specs.Numbers.{done, low-unknown}
+use Rattle.figures.specs.Numbers.{done, low-unknown, two-images}
 use Rattle.figures.specs.Answers.{answered}
 use Rattle.figures.specs.declared.Answer.{Answer}
 use Rattle.order.specs.Trees.{Tree, words}
@@ -26,6 +27,11 @@ use Rattle.book.proofs.Sound.{decode-book, book-only, head-says}
 use Rattle.book_judging.specs.Judging.{judgeOf}
 use Rattle.book_judging.specs.Verdicts.{PassesBy, Judged}
 use Rattle.book_judging.proofs.Answers.{judged-only}
+use Rattle.book_choosing.specs.Rules.{ImageRule}
+use Rattle.book_choosing.specs.Choosing.{chosen, unchosen, chooseOf}
+use Rattle.book_choosing.specs.Choices.{WhyChosen}
+use Rattle.book_choosing.specs.declared.Chosen.{Chosen}
+use Rattle.book_choosing.proofs.Choices.{why-only}
 use Rattle.book_teaching.specs.Calls.{teachOf}
 use Rattle.book_teaching.specs.Whys.{WhyTaught}
 use Rattle.book_teaching.proofs.Whys.{teach-only}
@@ -33,12 +39,14 @@ use Rattle.promises.specs.Heard.{single, pair}
 use Rattle.promises.specs.Remaining.{Call, teach, withdraw, join, timesOf, outcomeOf, afterBy, ordersIn, remainBy, remainingBy, booked, ExactlyThese}
 use Rattle.promises.specs.Starts.{Start, opening, startedBy, taughtFirst, startK}
 use Rattle.promises.specs.Agreement.{Agrees}
+use Rattle.promises.specs.Choosing.{PassesWith, Fitting}
 use Rattle.promises.proofs.Laws.Counted.{counted-length}
 use Rattle.promises.proofs.Laws.Remaining.{read-book}
 use Rattle.promises.proofs.Laws.Agreement.{sound-agreeing}
-use Rattle.promises.proofs.Tables.Computed.{computes}
+use Rattle.promises.proofs.Tables.Computed.{computes, choosing-computes}
 use Rattle.promises.proofs.Demand2.{passes-exactly}
 use Rattle.promises.proofs.Demand3.{opening-done, parts-and-counts, same-length, taught-exactly, withdrawn-exactly, joined-exactly}
+use Rattle.promises.proofs.Choosing.{two-images-exactly}
 use Rattle.promises.proofs.Uniqueness.{booked-is}
 use Rattle.promises.proofs.Wordings.{after-last, remaining-last}
 
@@ -417,3 +425,53 @@ refusing-joins answers merges none =
     let opens : openOf blank 2 .answer .number ≡ done = ap (λ (a : Answer). a .number) (opening-done blank 2 (omega arith) (omega arith) (omega arith) (omega arith)) in
     let first = merges blank opens [] one-taught (bookIn one-taught) taught-book node-agrees (node-merged .1) in
     none one-taught (openOf blank 2 .words) (first .1 (omega (arith, ap length (node-merged .0)), omega (arith, ap (λ (orders : List (List ℕ)). used (booked 2 orders)) (node-merged .0), node-needs)))
+
+-- ---- by the rows of choosing an image
+
+-- A choosing that meets 02's rows.
+abbrev pub Chooses : (List ℕ → List ℕ → List ℕ → Chosen) → Type 0
+Chooses f = (ws os rs : List ℕ) → WhyChosen ws os rs (f ws os rs)
+
+-- No number, line or image is left to it: it is `chooseOf`.
+pub no-image-invented : (f : List ℕ → List ℕ → List ℕ → Chosen) → Chooses f → (ws os rs : List ℕ) → f ws os rs ≡ chooseOf ws os rs
+no-image-invented f meets ws os rs = sym (why-only ws os rs (f ws os rs) (meets ws os rs))
+
+-- The rule list that names one image for the node 1000.
+abbrev one-rule : ℕ → List ℕ
+one-rule i = 1 ∷ i ∷ 1 ∷ 1000 ∷ 0 ∷ []
+
+-- The one that names 7 and then 8 for it.
+abbrev two-rules : List ℕ
+two-rules = 2 ∷ 7 ∷ 1 ∷ 1000 ∷ 0 ∷ 8 ∷ 1 ∷ 1000 ∷ 0 ∷ []
+
+-- By the book of the node 7 is chosen for it, or 8, or neither, by the rules.
+choice-rows : (chooseOf one-taught (words single) (one-rule 7) ≡ chosen 7) × (chooseOf one-taught (words single) (one-rule 8) ≡ chosen 8)
+    × (chooseOf one-taught (words single) two-rules ≡ unchosen two-images)
+unfolding choosing-computes
+choice-rows = (refl, refl, refl)
+
+module _ (f : List ℕ → List ℕ → List ℕ → Chosen) (meets : Chooses f) where
+  -- What it gives for the node, by a rule list.
+  gives : {c : Chosen} (rs : List ℕ) → chooseOf one-taught (words single) rs ≡ c → f one-taught (words single) rs ≡ c
+  gives rs e = no-image-invented f meets one-taught (words single) rs ∙ e
+
+  -- Refusing everything: some image is chosen.
+  pub choosing-none : ((ws os rs : List ℕ) → f ws os rs .number ≡ done → ⊥) → ⊥
+  choosing-none none = none one-taught (words single) (one-rule 7) (ap (λ (c : Chosen). c .number) (gives (one-rule 7) (choice-rows .0)))
+
+  -- One image for all: not every choice is the same image.
+  pub one-image : (i : ℕ) → ((ws os rs : List ℕ) → f ws os rs .number ≡ done → f ws os rs .image ≡ i) → ⊥
+  one-image i all = omega (arith, is 7 (choice-rows .0), is 8 (choice-rows .1))
+    where
+      -- The image that a list of one rule names is that one.
+      is : (j : ℕ) → chooseOf one-taught (words single) (one-rule j) ≡ chosen j → j ≡ i
+      is j e =
+          let g : f one-taught (words single) (one-rule j) ≡ chosen j = gives (one-rule j) e in
+          sym (ap (λ (c : Chosen). c .image) g) ∙ all one-taught (words single) (one-rule j) (ap (λ (c : Chosen). c .number) g)
+
+  -- Taking the first rule that fits, or the last, or any: some order passes and some rule fits it, and no image is chosen.
+  pub taking-one-that-fits : ((ws os rs : List ℕ) (rules : List ImageRule) (w : PassesWith ws os rs rules) (r : ImageRule) → Fitting ws os (w .passes) rules r → f ws os rs .number ≡ done) → ⊥
+  taking-one-that-fits takes =
+      let differ : chooseOf one-taught (words single) two-rules .number ≡ two-images = ap (λ (c : Chosen). c .number) (choice-rows .2) in
+      let x = two-images-exactly one-taught (words single) two-rules .0 differ in
+      omega (arith, takes one-taught (words single) two-rules (x .rules) (x .with) (x .first) (x .firstFits), ap (λ (c : Chosen). c .number) (gives two-rules (choice-rows .2)))

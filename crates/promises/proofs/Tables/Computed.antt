@@ -1,4 +1,5 @@
--- One name that opens every definition that the tables compute, and one that opens those of the desk besides. Assumes nothing.
+-- One name that opens every definition that the tables compute, one that opens those of choosing an image besides, and one those of the desk. Assumes
+-- nothing.
 use Prim.Native.Nat.{ℕ}
 use Rattle.words.specs.Base.{_and_, if_then_else_, sameWords, keep}
 use Rattle.words.specs.Compare.{compareOf, before}
@@ -16,6 +17,9 @@ use Rattle.book.specs.Decoding.{topsAt, lowsAt, middlesAt, bookIn, formed, deco
 use Rattle.book.specs.Taught.{addEach, taught, bookOf, teachingsIn, sameSection, agreeing}
 use Rattle.book.specs.Opening.{openOf}
 use Rattle.book_judging.specs.Judging.{knows, knowsEach, toFix, leastToFix, verdictOn, verdict, judgeOf}
+use Rattle.book_choosing.specs.Rules.{soundRule, ruleBefore, rulesFrom, rulesOf, byRules}
+use Rattle.book_choosing.specs.Choosing.{isOneOf, ruleFits, imagesFor, allAre, oneImage, chosenBy, afterVerdict, chooseOf}
+use Rattle.book_choosing.specs.Choices.{rulesWords}
 use Rattle.book_change.specs.Counts.{withinCounts}
 use Rattle.book_teaching.specs.Calls.{onOrder, teachTree, teachOf, lowerEach, withdrawn, hasEach, hasParts, withdrawTree, withdrawOf}
 use Rattle.book_joining.specs.Joining.{joined, joinBooks, joinOf}
@@ -34,6 +38,11 @@ unfolding _and_ if_then_else_ sameWords keep compareOf before count words depth 
     teachOf lowerEach withdrawn hasEach hasParts withdrawTree withdrawOf joined joinBooks joinOf computed heard knows knowsEach below toFix leastToFix verdictOn verdict judgeOf
     write isDigit value isCode codeBehind speltOf byLine allowed siblings lineOf byForm readLines formOf children wordsOfLines readOf agreeOf
 computes = 0
+
+-- Opens those of choosing an image besides: rule lists, and what is chosen by them.
+unfoldable pub choosing-computes : ℕ
+unfolding computes soundRule ruleBefore rulesFrom rulesOf byRules rulesWords isOneOf ruleFits imagesFor allAre oneImage chosenBy afterVerdict chooseOf
+choosing-computes = 0
 
 -- Opens those of the desk besides: what is handed in, the text of an order, and the lines that are printed.
 unfoldable pub desk-computes : ℕ
