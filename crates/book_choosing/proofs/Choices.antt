@@ -202,7 +202,7 @@ module _ (ws os rs : List ℕ) where
 -- ---- image and line
 
 -- The number that a choice has.
-told : {c d : Chosen} → c ≡ d → c .number ≡ d .number
+pub told : {c d : Chosen} → c ≡ d → c .number ≡ d .number
 told e = ap (λ (x : Chosen). x .number) e
 
 -- The image that it has.

@@ -31,7 +31,7 @@ use Rattle.book_choosing.specs.Rules.{ImageRule}
 use Rattle.book_choosing.specs.Choosing.{chosen, unchosen, chooseOf}
 use Rattle.book_choosing.specs.Choices.{WhyChosen}
 use Rattle.book_choosing.specs.declared.Chosen.{Chosen}
-use Rattle.book_choosing.proofs.Choices.{why-only}
+use Rattle.book_choosing.proofs.Choices.{why-only, told}
 use Rattle.book_teaching.specs.Calls.{teachOf}
 use Rattle.book_teaching.specs.Whys.{WhyTaught}
 use Rattle.book_teaching.proofs.Whys.{teach-only}
@@ -457,7 +457,7 @@ module _ (f : List ℕ → List ℕ → List ℕ → Chosen) (meets : Chooses f)
 
   -- Refusing everything: some image is chosen.
   pub choosing-none : ((ws os rs : List ℕ) → f ws os rs .number ≡ done → ⊥) → ⊥
-  choosing-none none = none one-taught (words single) (one-rule 7) (ap (λ (c : Chosen). c .number) (gives (one-rule 7) (choice-rows .0)))
+  choosing-none none = none one-taught (words single) (one-rule 7) (told (gives (one-rule 7) (choice-rows .0)))
 
   -- One image for all: not every choice is the same image.
   pub one-image : (i : ℕ) → ((ws os rs : List ℕ) → f ws os rs .number ≡ done → f ws os rs .image ≡ i) → ⊥
@@ -467,11 +467,11 @@ module _ (f : List ℕ → List ℕ → List ℕ → Chosen) (meets : Chooses f)
       is : (j : ℕ) → chooseOf one-taught (words single) (one-rule j) ≡ chosen j → j ≡ i
       is j e =
           let g : f one-taught (words single) (one-rule j) ≡ chosen j = gives (one-rule j) e in
-          sym (ap (λ (c : Chosen). c .image) g) ∙ all one-taught (words single) (one-rule j) (ap (λ (c : Chosen). c .number) g)
+          sym (ap (λ (c : Chosen). c .image) g) ∙ all one-taught (words single) (one-rule j) (told g)
 
   -- Taking the first rule that fits, or the last, or any: some order passes and some rule fits it, and no image is chosen.
   pub taking-one-that-fits : ((ws os rs : List ℕ) (rules : List ImageRule) (w : PassesWith ws os rs rules) (r : ImageRule) → Fitting ws os (w .passes) rules r → f ws os rs .number ≡ done) → ⊥
   taking-one-that-fits takes =
-      let differ : chooseOf one-taught (words single) two-rules .number ≡ two-images = ap (λ (c : Chosen). c .number) (choice-rows .2) in
+      let differ : chooseOf one-taught (words single) two-rules .number ≡ two-images = told (choice-rows .2) in
       let x = two-images-exactly one-taught (words single) two-rules .0 differ in
-      omega (arith, takes one-taught (words single) two-rules (x .rules) (x .with) (x .first) (x .firstFits), ap (λ (c : Chosen). c .number) (gives two-rules (choice-rows .2)))
+      omega (arith, takes one-taught (words single) two-rules (x .rules) (x .with) (x .first) (x .firstFits), told (gives two-rules (choice-rows .2)))

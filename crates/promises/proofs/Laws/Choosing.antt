@@ -17,7 +17,7 @@ use Rattle.book_judging.proofs.Answers.{judged-is, judged-only}
 use Rattle.book_choosing.specs.Choosing.{chosen, unchosen, chooseOf}
 use Rattle.book_choosing.specs.Choices.{Choice, no-list, none-fits, two-differ, all-name, WhyChosen, by-judging, by-rules}
 use Rattle.book_choosing.specs.declared.Chosen.{Chosen}
-use Rattle.book_choosing.proofs.Choices.{why-is, why-only, choose-judges, choose-line}
+use Rattle.book_choosing.proofs.Choices.{why-is, why-only, choose-judges, choose-line, told}
 use Rattle.promises.specs.Choosing.{NoRuleList, NoRuleFits, TwoFitAndDiffer, AllNameImage}
 use Rattle.promises.proofs.Laws.LineNumbers.{judge-line}
 
@@ -29,10 +29,6 @@ judged-most ws os a (judged b t i o (passing e p)) = omega (arith, ap (λ (x : A
 judged-most ws os a (judged b t i o (no-top e g n)) = omega (arith, ap (λ (x : Answer). x .number) e)
 judged-most ws os a (judged b t i o (no-low l s e r d n)) = omega (arith, ap (λ (x : Answer). x .number) e)
 judged-most ws os a (judged b t i o (no-middle l s e r d n)) = omega (arith, ap (λ (x : Answer). x .number) e)
-
--- The number that a choice has.
-told : {c d : Chosen} → c ≡ d → c .number ≡ d .number
-told e = ap (λ (x : Chosen). x .number) e
 
 module _ (ws os rs : List ℕ) where
   -- The rules have chosen.

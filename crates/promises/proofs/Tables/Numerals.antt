@@ -1,5 +1,6 @@
--- Each number and each figure of 01 by its own numeral. The theorems name the numbers and figures (figures/specs/), so that these rows say what is
--- promised of them: the names' values, one call for each number that is answered, and what is answered at each figure and past it. Assumes nothing.
+-- Each number and each figure of 01, and those of 02, by its own numeral. The theorems name the numbers and figures (figures/specs/), so that these rows
+-- say what is promised of them: the names' values, one call for each number that is answered, and what is answered at each figure and past it. Assumes
+-- nothing.
 use Prim.Native.Nat.{ℕ, zero, suc}
 use mathlib.Core.Path.{_≡_, refl}
 use mathlib.Core.List.{List, [], _∷_, _++_, map}
@@ -7,9 +8,9 @@ use native.Mathlib.Omega.{arith}
 use lib.ListN.{length, replicate, set}
 use Rattle.figures.specs.Limits.{least-code, greatest-code, most-children, most-nodes, most-words, greatest-depth, least-k, greatest-k, head-words}
 use Rattle.figures.specs.Limits.{k-word, used-word, live-word, taught-word, tops-word, lows-word, middles-word, most-book-words, least-count, greatest-count}
-use Rattle.figures.specs.Limits.{most-input, desk-book-words}
+use Rattle.figures.specs.Limits.{most-input, desk-book-words, most-rules, least-image, greatest-image}
 use Rattle.figures.specs.Numbers.{done, no-order, too-large, k-outside, book-size, not-in-form, no-room, too-many, not-taught, not-agreeing, no-form}
-use Rattle.figures.specs.Numbers.{short-output, no-mark, other-version, no-stored-book, other-k, top-unknown, low-unknown, middle-unknown}
+use Rattle.figures.specs.Numbers.{short-output, no-mark, other-version, no-stored-book, other-k, top-unknown, low-unknown, middle-unknown, no-image, two-images, no-rules}
 use Rattle.figures.specs.Answers.{answered, refusedAt}
 use Rattle.order.specs.Trees.{Tree, node, bare, cons, words}
 use Rattle.order.specs.Reading.{causeOf}
@@ -26,6 +27,9 @@ use Rattle.book.specs.Checking.{agreeOf}
 use Rattle.book_judging.specs.Judging.{judgeOf}
 use Rattle.book_judging.specs.Verdicts.{no-book}
 use Rattle.book_judging.proofs.Answers.{judged-only}
+use Rattle.book_choosing.specs.Choosing.{unchosen, chooseOf}
+use Rattle.book_choosing.specs.Choices.{by-judging}
+use Rattle.book_choosing.proofs.Choices.{why-only as chosen-only}
 use Rattle.book_teaching.specs.Calls.{teachOf, withdrawOf}
 use Rattle.book_teaching.specs.Whys.{teach-no-book, withdraw-no-book}
 use Rattle.book_teaching.proofs.Whys.{teach-only, withdraw-only}
@@ -36,7 +40,7 @@ use Rattle.desk_input.specs.Sheets.{letter-K, letterByte}
 use Rattle.desk_input.specs.declared.Letter.the-variants.{Teach, Withdraw, Judge}
 use Rattle.promises.specs.Heard.{A, single, pair, slice}
 use Rattle.promises.specs.Whys.{slice-long, check-no-book, join-no-first, join-no-second, file-no-book, restore-longer}
-use Rattle.promises.proofs.Tables.Computed.{computes, desk-computes}
+use Rattle.promises.proofs.Tables.Computed.{computes, choosing-computes, desk-computes}
 use Rattle.promises.proofs.Tables.Rows.{times, taughtA, lacksMiddle}
 use Rattle.promises.proofs.Laws.Whys.{opened-only}
 use Rattle.promises.proofs.Laws.Checks.{checked-only}
@@ -46,10 +50,10 @@ use Rattle.promises.proofs.Demand3.{opening-done}
 
 -- ---- the names
 
--- "Numbers the desk hears": 0 to 14, and 20 to 22; and 02's 15.
+-- "Numbers the desk hears": 0 to 14, and 20 to 22; and 02's 15, 30, 31 and 32.
 pub numbers : (done ∷ no-order ∷ too-large ∷ k-outside ∷ book-size ∷ not-in-form ∷ no-room ∷ too-many ∷ not-taught ∷ not-agreeing ∷ no-form ∷ short-output
-    ∷ no-mark ∷ other-version ∷ no-stored-book ∷ other-k ∷ top-unknown ∷ low-unknown ∷ middle-unknown ∷ [])
-    ≡ 0 ∷ 1 ∷ 2 ∷ 3 ∷ 4 ∷ 5 ∷ 6 ∷ 7 ∷ 8 ∷ 9 ∷ 10 ∷ 11 ∷ 12 ∷ 13 ∷ 14 ∷ 15 ∷ 20 ∷ 21 ∷ 22 ∷ []
+    ∷ no-mark ∷ other-version ∷ no-stored-book ∷ other-k ∷ top-unknown ∷ low-unknown ∷ middle-unknown ∷ no-image ∷ two-images ∷ no-rules ∷ [])
+    ≡ 0 ∷ 1 ∷ 2 ∷ 3 ∷ 4 ∷ 5 ∷ 6 ∷ 7 ∷ 8 ∷ 9 ∷ 10 ∷ 11 ∷ 12 ∷ 13 ∷ 14 ∷ 15 ∷ 20 ∷ 21 ∷ 22 ∷ 30 ∷ 31 ∷ 32 ∷ []
 numbers = refl
 
 -- "an option code 1 to 9999, then its number of children 0 to 8", "1 to 64 nodes", "over 128 words", "an order's depth is at most 12"
@@ -77,6 +81,10 @@ text-figures = refl
 pub program-figures : (most-input ∷ desk-book-words ∷ []) ≡ 32768 ∷ 8192 ∷ []
 program-figures = refl
 
+-- "the number of rules, 0 to 64, then for each an image number 1 to 65,535"
+pub rule-figures : (most-rules ∷ least-image ∷ greatest-image ∷ []) ≡ 64 ∷ 1 ∷ 65535 ∷ []
+rule-figures = refl
+
 -- ---- a call for each number
 
 -- 3000 with the child 4000, below 1000.
@@ -99,7 +107,7 @@ ten = 48 ∷ 32 ∷ 48 ∷ 48 ∷ 49 ∷ 48 ∷ 10 ∷ []
 abbrev no-ten : List ℕ
 no-ten = 48 ∷ 32 ∷ 48 ∷ 48 ∷ 65 ∷ 48 ∷ 10 ∷ []
 
--- The numbers of nineteen calls.
+-- The numbers of twenty-two calls.
 unfoldable pub heard-numbers : List ℕ
 heard-numbers =
     -- an order
@@ -132,11 +140,15 @@ heard-numbers =
     ∷ judgeOf (lay 60 (bookOf 2 (times 1 low-and-middle ∷ []))) (words below-the-top) .number
     ∷ judgeOf (lay 60 (bookOf 2 (times 1 low-and-middle ∷ []))) (words low-cut-off) .number
     ∷ judgeOf (lay 19 (bookOf 2 (times 1 single ∷ []))) (words pair) .number
+    -- an image is chosen for a node that the book has: by no rules, by two that name 7 and 8 for it, and by no words
+    ∷ chooseOf (lay 19 (bookOf 2 (times 1 single ∷ []))) (words single) (0 ∷ []) .number
+    ∷ chooseOf (lay 19 (bookOf 2 (times 1 single ∷ []))) (words single) (2 ∷ 7 ∷ 1 ∷ 1000 ∷ 0 ∷ 8 ∷ 1 ∷ 1000 ∷ 0 ∷ []) .number
+    ∷ chooseOf (lay 19 (bookOf 2 (times 1 single ∷ []))) (words single) [] .number
     ∷ []
 
 -- Each number is answered by its call.
-pub each-number : heard-numbers ≡ 0 ∷ 1 ∷ 2 ∷ 3 ∷ 4 ∷ 5 ∷ 6 ∷ 7 ∷ 8 ∷ 9 ∷ 10 ∷ 11 ∷ 12 ∷ 13 ∷ 14 ∷ 15 ∷ 20 ∷ 21 ∷ 22 ∷ []
-unfolding heard-numbers computes checkOf causeOf bytesOf wordsOf isMarked storedIn readBookOf readRestOf readFileOf
+pub each-number : heard-numbers ≡ 0 ∷ 1 ∷ 2 ∷ 3 ∷ 4 ∷ 5 ∷ 6 ∷ 7 ∷ 8 ∷ 9 ∷ 10 ∷ 11 ∷ 12 ∷ 13 ∷ 14 ∷ 15 ∷ 20 ∷ 21 ∷ 22 ∷ 30 ∷ 31 ∷ 32 ∷ []
+unfolding heard-numbers choosing-computes checkOf causeOf bytesOf wordsOf isMarked storedIn readBookOf readRestOf readFileOf
 each-number = refl
 
 -- ---- at each figure, and past it
@@ -187,15 +199,16 @@ pub longer-refused : (ws : List ℕ) → length ws ≡ 16385 → openOf ws 2 ≡
 longer-refused ws e = opened-only ws 2 (leave ws 4) (slice-long refl (omega arith))
 
 -- 16,385 words are refused by 4 by every other call on a book, whatever they are, and as a book that is joined to one in form.
-pub longer-refused-by-all : (ws : List ℕ) → length ws ≡ 16385 → (os out file : List ℕ)
-    → (teachOf ws os ≡ leave ws 4) × (withdrawOf ws os ≡ leave ws 4) × (judgeOf ws os ≡ answered 4) × (agreeOf ws ≡ answered 4)
+pub longer-refused-by-all : (ws : List ℕ) → length ws ≡ 16385 → (os out file rules : List ℕ)
+    → (teachOf ws os ≡ leave ws 4) × (withdrawOf ws os ≡ leave ws 4) × (judgeOf ws os ≡ answered 4) × (chooseOf ws os rules ≡ unchosen 4) × (agreeOf ws ≡ answered 4)
     × (writeFileOf ws out ≡ refuse 4 out) × (readFileOf file ws ≡ leave ws 4) × ((vs : List ℕ) → joinOf ws vs ≡ leave ws 4)
     × ((us : List ℕ) (b : Book) → IsBook us b → joinOf us ws ≡ leave us 4)
-longer-refused-by-all ws e os out file =
+longer-refused-by-all ws e os out file rules =
     let w : WhyForm ws (Refused 4) = longer refl (omega arith) in (
       teach-only ws os (leave ws 4) (teach-no-book 4 refl w),
       withdraw-only ws os (leave ws 4) (withdraw-no-book 4 refl w),
       judged-only ws os (answered 4) (no-book 4 refl w),
+      chosen-only ws os rules (unchosen 4) (by-judging (answered 4) refl (no-book 4 refl w) (λ z. omega (arith, z))),
       checked-only ws (answered 4) (check-no-book 4 refl w),
       filed-only ws out (refuse 4 out) (file-no-book 4 refl w),
       restored-only file ws (leave ws 4) (restore-longer refl (omega arith)),
