@@ -14,7 +14,7 @@ use Rattle.book.proofs.Sound.{refused-4-5}
 use Rattle.book_judging.specs.Judging.{judgeOf}
 use Rattle.book_judging.specs.Verdicts.{PassesBy, Judged, no-book, no-order, judged, passing, no-top, no-low, no-middle}
 use Rattle.book_judging.proofs.Answers.{judged-is, judged-only}
-use Rattle.book_choosing.specs.Choosing.{chosen, unchosen, chooseOf}
+use Rattle.book_choosing.specs.Choosing.{chosen, chooseOf}
 use Rattle.book_choosing.specs.Choices.{Choice, no-list, none-fits, two-differ, all-name, WhyChosen, by-judging, by-rules}
 use Rattle.book_choosing.specs.declared.Chosen.{Chosen}
 use Rattle.book_choosing.proofs.Choices.{why-is, why-only, choose-judges, choose-line, told}
@@ -31,55 +31,59 @@ judged-most ws os a (judged b t i o (no-low l s e r d n)) = omega (arith, ap (λ
 judged-most ws os a (judged b t i o (no-middle l s e r d n)) = omega (arith, ap (λ (x : Answer). x .number) e)
 
 module _ (ws os rs : List ℕ) where
-  -- The rules have chosen.
-  record ByRules : Type 0 where
-    passes : PassesBy ws os
-    why : Choice (passes .lent .book .k) (passes .lent .tree) rs (chooseOf ws os rs)
+  -- The rules give a choice for an order that passes.
+  abbrev Ruled : PassesBy ws os → Chosen → Type 0
+  Ruled p c = Choice (p .lent .book .k) (p .lent .tree) rs c
 
-  -- What is answered by 0, or by 30 or more, is chosen by the rules.
-  by-the-rules : (n : ℕ) → chooseOf ws os rs .number ≡ n → ((n ≤ middle-unknown) → n ≡ done) → ByRules
-  by-the-rules n q few = go (why-is ws os rs)
+  -- What is answered by 0, or by 30 or more, is chosen by the rules,
+  by-the-rules : {A : Type 0} (n : ℕ) → (n ≤ middle-unknown → n ≡ done) → ((p : PassesBy ws os) → Ruled p (chooseOf ws os rs) → A) → chooseOf ws os rs .number ≡ n → A
+  by-the-rules {A} n few follows q = go (why-is ws os rs)
     where
       -- By why it is answered.
-      go : WhyChosen ws os rs (chooseOf ws os rs) → ByRules
+      go : WhyChosen ws os rs (chooseOf ws os rs) → A
       go (by-judging a e j m) = absurd (m (sym (told e) ∙ q ∙ few (omega (arith, told e, q, judged-most ws os a j))))
-      go (by-rules p h) = record { passes = p; why = h }
+      go (by-rules p h) = follows p h
 
-  -- Of a row of the rules the answer is told.
-  by-row : (c : Chosen) (p : PassesBy ws os) → Choice (p .lent .book .k) (p .lent .tree) rs c → chooseOf ws os rs ≡ c
-  by-row c p h = why-only ws os rs c (by-rules p h)
+  -- and what the rules give is answered.
+  by-row : {c : Chosen} (p : PassesBy ws os) → Ruled p c → chooseOf ws os rs ≡ c
+  by-row {c} p h = why-only ws os rs c (by-rules p h)
 
   -- 32 exactly if the words are no rule list.
   pub rule-list-exactly : (chooseOf ws os rs .number ≡ no-rules) exactly-when NoRuleList ws os rs
-  rule-list-exactly = (λ e. let x = by-the-rules no-rules e (λ h. absurd (omega arith)) in from e (x .passes) (x .why), λ x. told (by-row (unchosen no-rules) (x .passes) (no-list refl (x .none))))
+  rule-list-exactly = (λ q. by-the-rules no-rules (λ h. absurd (omega arith)) (from q) q, to)
     where
-      -- By the row.
-      from : chooseOf ws os rs .number ≡ no-rules → (p : PassesBy ws os) → Choice (p .lent .book .k) (p .lent .tree) rs (chooseOf ws os rs) → NoRuleList ws os rs
+      -- From the row,
+      from : chooseOf ws os rs .number ≡ no-rules → (p : PassesBy ws os) → Ruled p (chooseOf ws os rs) → NoRuleList ws os rs
       from q p (no-list e n) = record { passes = p; none = n }
       from q p (none-fits l e i f) = absurd (omega (arith, q, told e))
       from q p (two-differ l r s e i m n a b d) = absurd (omega (arith, q, told e))
       from q p (all-name l r e i m a f) = absurd (omega (arith, q, told e))
 
+      -- and to it.
+      to : NoRuleList ws os rs → chooseOf ws os rs .number ≡ no-rules
+      to x = told (by-row (x .passes) (no-list refl (x .none)))
+
   -- 30 exactly if they are one, and no rule fits.
   pub none-fits-exactly : (chooseOf ws os rs .number ≡ no-image) exactly-when NoRuleFits ws os rs
-  none-fits-exactly = (
-    λ e. let x = by-the-rules no-image e (λ h. absurd (omega arith)) in from e (x .passes) (x .why),
-    λ x. told (by-row (unchosen no-image) (x .with .passes) (none-fits (x .rules) refl (x .with .are) (λ r m b. x .none r (record { there = m; fits = b })))),
-  )
+  none-fits-exactly = (λ q. by-the-rules no-image (λ h. absurd (omega arith)) (from q) q, to)
     where
-      -- By the row.
-      from : chooseOf ws os rs .number ≡ no-image → (p : PassesBy ws os) → Choice (p .lent .book .k) (p .lent .tree) rs (chooseOf ws os rs) → NoRuleFits ws os rs
+      -- From the row,
+      from : chooseOf ws os rs .number ≡ no-image → (p : PassesBy ws os) → Ruled p (chooseOf ws os rs) → NoRuleFits ws os rs
       from q p (no-list e n) = absurd (omega (arith, q, told e))
-      from q p (none-fits l e i f) = record { rules = l; with = record { passes = p; are = i }; none = λ r m. f r (m .there) (m .fits) }
+      from q p (none-fits l e i f) = record { rules = l; with = record { passes = p; are = i }; none = λ r x. f r (x .there) (x .fits) }
       from q p (two-differ l r s e i m n a b d) = absurd (omega (arith, q, told e))
       from q p (all-name l r e i m a f) = absurd (omega (arith, q, told e))
 
+      -- and to it.
+      to : NoRuleFits ws os rs → chooseOf ws os rs .number ≡ no-image
+      to x = told (by-row (x .with .passes) (none-fits (x .rules) refl (x .with .are) (λ r m b. x .none r (record { there = m; fits = b }))))
+
   -- 31 exactly if they are one, and two that fit differ.
   pub two-differ-exactly : (chooseOf ws os rs .number ≡ two-images) exactly-when TwoFitAndDiffer ws os rs
-  two-differ-exactly = (λ e. let x = by-the-rules two-images e (λ h. absurd (omega arith)) in from e (x .passes) (x .why), to)
+  two-differ-exactly = (λ q. by-the-rules two-images (λ h. absurd (omega arith)) (from q) q, to)
     where
-      -- By the row,
-      from : chooseOf ws os rs .number ≡ two-images → (p : PassesBy ws os) → Choice (p .lent .book .k) (p .lent .tree) rs (chooseOf ws os rs) → TwoFitAndDiffer ws os rs
+      -- From the row,
+      from : chooseOf ws os rs .number ≡ two-images → (p : PassesBy ws os) → Ruled p (chooseOf ws os rs) → TwoFitAndDiffer ws os rs
       from q p (no-list e n) = absurd (omega (arith, q, told e))
       from q p (none-fits l e i f) = absurd (omega (arith, q, told e))
       from q p (two-differ l r s e i m n a b d) =
@@ -99,14 +103,14 @@ module _ (ws os rs : List ℕ) where
       to x =
           let a = x .firstFits in
           let b = x .secondFits in
-          told (by-row (unchosen two-images) (x .with .passes) (two-differ (x .rules) (x .first) (x .second) refl (x .with .are) (a .there) (b .there) (a .fits) (b .fits) (x .differ)))
+          told (by-row (x .with .passes) (two-differ (x .rules) (x .first) (x .second) refl (x .with .are) (a .there) (b .there) (a .fits) (b .fits) (x .differ)))
 
   -- 0 with an image exactly if one fits and all that fit name it.
   pub all-name-exactly : (image : ℕ) → (chooseOf ws os rs ≡ chosen image) exactly-when AllNameImage ws os rs image
-  all-name-exactly image = (λ e. let x = by-the-rules done (told e) (λ h. refl) in from e (x .passes) (x .why), to)
+  all-name-exactly image = (λ q. by-the-rules done (λ h. refl) (from q) (told q), to)
     where
-      -- By the row,
-      from : chooseOf ws os rs ≡ chosen image → (p : PassesBy ws os) → Choice (p .lent .book .k) (p .lent .tree) rs (chooseOf ws os rs) → AllNameImage ws os rs image
+      -- From the row,
+      from : chooseOf ws os rs ≡ chosen image → (p : PassesBy ws os) → Ruled p (chooseOf ws os rs) → AllNameImage ws os rs image
       from q p (no-list e n) = absurd (omega (arith, told q, told e))
       from q p (none-fits l e i f) = absurd (omega (arith, told q, told e))
       from q p (two-differ l r s e i m n a b d) = absurd (omega (arith, told q, told e))
@@ -124,9 +128,8 @@ module _ (ws os rs : List ℕ) where
       to : AllNameImage ws os rs image → chooseOf ws os rs ≡ chosen image
       to x =
           let same : x .rule .image ≡ image = x .all (x .rule) (x .fits) in
-          by-row (chosen image) (x .with .passes)
-          (all-name (x .rules) (x .rule) (ap chosen (sym same)) (x .with .are) (x .fits .there) (x .fits .fits)
-          (λ s m b. x .all s (record { there = m; fits = b }) ∙ sym same))
+          by-row (x .with .passes)
+          (all-name (x .rules) (x .rule) (ap chosen (sym same)) (x .with .are) (x .fits .there) (x .fits .fits) (λ s m b. x .all s (record { there = m; fits = b }) ∙ sym same))
 
   -- A number below 30 that is not 0 is answered exactly if judging answers by it.
   pub judged-exactly : (n : ℕ) → (n ≡ done → ⊥) → n < no-image → (chooseOf ws os rs .number ≡ n) exactly-when (judgeOf ws os .number ≡ n)
