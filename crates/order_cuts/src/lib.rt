@@ -142,11 +142,11 @@ pub fn is_cut(
             return false;
         }
         let level = levels[at];
-        let below = (level - own) as usize;
-        if kept_children(below, d, order[at * 2 + 1]) != tree[count + 1] {
+        let under = (level - own) as usize;
+        if kept_children(under, d, order[at * 2 + 1]) != tree[count + 1] {
             return false;
         }
-        at = next_line(spans, at, below, d);
+        at = next_line(spans, at, under, d);
         count += 2;
     }
     count == tree.len()

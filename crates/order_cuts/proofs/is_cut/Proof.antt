@@ -75,11 +75,11 @@ in-turn c = c .before .before .before .before .before
 shared-slice-read-level : tie.Need-shared-slice-read-level Inv-loop μ-loop
 shared-slice-read-level c = here (in-turn c) .levelled
 
-sub-below : tie.Need-sub-below Inv-loop μ-loop
-sub-below c = here (in-turn c) .above
+sub-under : tie.Need-sub-under Inv-loop μ-loop
+sub-under c = here (in-turn c) .above
 
-cast-below : tie.Need-cast-below Inv-loop μ-loop
-cast-below c = omega (arith, here (in-turn c) .small)
+cast-under : tie.Need-cast-under Inv-loop μ-loop
+cast-under c = omega (arith, here (in-turn c) .small)
 
 mul-kept-children : tie.Need-mul-kept-children Inv-loop μ-loop
 mul-kept-children c = omega (arith, here (in-turn c) .lies)
@@ -140,8 +140,8 @@ is-cut-spec =
     (λ c. search needs)
     returns-2
     shared-slice-read-level
-    sub-below
-    cast-below
+    sub-under
+    cast-under
     mul-kept-children
     add-kept-children
     mul-kept-children-2
