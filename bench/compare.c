@@ -1,5 +1,5 @@
 /*
- * Compares the library with plain C on many random calls of the eleven functions, sound and damaged.
+ * Compares the library with plain C on many random calls of the twelve functions, sound and damaged.
  *
  *     compare [CALLS [SEED]]
  *
@@ -28,28 +28,30 @@ enum {
     SINGLE_WORDS = 12,          /* words that an order of one node takes in a book of such orders */
     TOLD = 20,                  /* differences that are told one by one */
     SIGNAL_STACK = 65536,
-    NUMBERS = 23,               /* all answers' numbers are below it */
-    NO_NUMBER = 16,             /* from this one on, up to the verdicts, there is none */
+    MOST_RULES = 64,            /* the most rules of a list */
+    RULES_ROOM = 1 + (MOST_RULES + 1) * (2 + 2 * MOST_NODES) + ORDER_ROOM,
+    NUMBERS = 33,               /* all answers' numbers are below it */
     VERDICTS = 20
 };
 
-enum function { OPEN, TEACH, WITHDRAW, JOIN, JUDGE, CHECK, WRITE_FILE, READ_FILE, READ_TEXT, WRITE_TEXT, SUBTREE, FUNCTIONS };
+enum function { OPEN, TEACH, WITHDRAW, JOIN, JUDGE, CHOOSE, CHECK, WRITE_FILE, READ_FILE, READ_TEXT, WRITE_TEXT, SUBTREE, FUNCTIONS };
 
 /* What is known of each function: its name, how many of 100 calls are of it, and the numbers that it may answer. */
 static const struct {
     const char *name;
     unsigned share;
-    uint32_t numbers;
+    uint64_t numbers;
 } functions[FUNCTIONS] = {
     {"open", 3, 1u << 0 | 1u << 3 | 1u << 4},
-    {"teach", 23, 1u << 0 | 1u << 1 | 1u << 2 | 1u << 4 | 1u << 5 | 1u << 6 | 1u << 7},
-    {"withdraw", 15, 1u << 0 | 1u << 1 | 1u << 2 | 1u << 4 | 1u << 5 | 1u << 8 | 1u << 9},
-    {"join", 10, 1u << 0 | 1u << 4 | 1u << 5 | 1u << 6 | 1u << 7 | 1u << 9 | 1u << 15},
-    {"judge", 14, 1u << 0 | 1u << 1 | 1u << 2 | 1u << 4 | 1u << 5 | 1u << 20 | 1u << 21 | 1u << 22},
-    {"check", 6, 1u << 0 | 1u << 4 | 1u << 5 | 1u << 9},
+    {"teach", 20, 1u << 0 | 1u << 1 | 1u << 2 | 1u << 4 | 1u << 5 | 1u << 6 | 1u << 7},
+    {"withdraw", 13, 1u << 0 | 1u << 1 | 1u << 2 | 1u << 4 | 1u << 5 | 1u << 8 | 1u << 9},
+    {"join", 9, 1u << 0 | 1u << 4 | 1u << 5 | 1u << 6 | 1u << 7 | 1u << 9 | 1u << 15},
+    {"judge", 11, 1u << 0 | 1u << 1 | 1u << 2 | 1u << 4 | 1u << 5 | 1u << 20 | 1u << 21 | 1u << 22},
+    {"choose", 11, 1u << 0 | 1u << 1 | 1u << 2 | 1u << 4 | 1u << 5 | 1u << 20 | 1u << 21 | 1u << 22 | 1u << 30 | 1u << 31 | 1ull << 32},
+    {"check", 5, 1u << 0 | 1u << 4 | 1u << 5 | 1u << 9},
     {"write_file", 6, 1u << 0 | 1u << 4 | 1u << 5 | 1u << 9 | 1u << 11},
     {"read_file", 8, 1u << 0 | 1u << 4 | 1u << 6 | 1u << 9 | 1u << 12 | 1u << 13 | 1u << 14},
-    {"read_text", 7, 1u << 0 | 1u << 2 | 1u << 10 | 1u << 11},
+    {"read_text", 6, 1u << 0 | 1u << 2 | 1u << 10 | 1u << 11},
     {"write_text", 5, 1u << 0 | 1u << 1 | 1u << 2 | 1u << 11},
     {"subtree", 3, 1u << 0 | 1u << 1}
 };
@@ -64,6 +66,12 @@ struct book {
 struct text {
     size_t bytes;
     char at[TEXT_ROOM];
+};
+
+/* A rule list, sound or not. */
+struct rules {
+    size_t words;
+    uint16_t at[RULES_ROOM];
 };
 
 /* A part that is lent: what stands in it before the call, and for each implementation a copy between guards. */
@@ -81,7 +89,7 @@ struct lent {
 struct call {
     enum function function;
     unsigned lents;
-    struct lent lent[2];
+    struct lent lent[3];
     uint16_t k;
     size_t line;
     struct book *keep;          /* the kept book that the call's book replaces where it is done, or NULL */
@@ -89,7 +97,7 @@ struct call {
 
 /* An answer of any function; for subtree, `written` is the part's words, and `number` is 1 where it has none. */
 struct outcome {
-    uint32_t number, line, written, start, below, there, place_below, place_above;
+    uint32_t number, line, written, start, image, below, there, place_below, place_above;
 };
 
 static const struct style styles[] = {
@@ -521,6 +529,113 @@ static int some_book(struct book *book, const struct book *kept, unsigned damage
     return percent(10);
 }
 
+/* ---- Rule lists ---- */
+
+/* Writes one of an order's parts at this k. */
+static void part_of_order(struct order *part, const struct order *order, unsigned k)
+{
+    part->words = 0;
+    put_cut(part, order, 2 * below((unsigned)(order->words / 2)), k - 1, 1);
+}
+
+/* Makes the tree of a sound rule: mostly a part of the order, and otherwise a part of another, a cut at any depth, the top, or a part with another code. */
+static void some_rule_tree(struct order *tree, const struct order *order, const struct book *kept, unsigned k)
+{
+    struct order other;
+    unsigned kind = below(100);
+    if (kind < 55) {
+        part_of_order(tree, order, k);
+    } else if (kind < 70) {
+        if (percent(50) || !taught_order(&other, kept))
+            fresh_order(&other);
+        part_of_order(tree, &other, k);
+    } else if (kind < 88) {
+        tree->words = 0;
+        put_cut(tree, order, kind < 78 ? 0 : 2 * below((unsigned)(order->words / 2)), kind < 78 ? k - 2 : below(k), 1);
+    } else {
+        part_of_order(tree, order, k);
+        tree->at[2 * below((unsigned)(tree->words / 2))] = (uint16_t)(1 + below(percent(50) ? 3 : 9999));
+    }
+}
+
+/* Makes the tree of a rule that is none: deeper than k-1 by one or more, past an order's limits, empty, or damaged. */
+static void bad_rule_tree(struct order *tree, const struct order *order, unsigned k)
+{
+    const struct style deep = {k, 1 + below(3), 100, 2, 0, 0, 0}, wide = {k - 1, MOST_CHILDREN + below(2), 0, 2, 0, 0, 0};
+    switch (below(5)) {
+    case 0: order_grow(tree, &dice, k + 1, &deep); break;
+    case 1: order_grow(tree, &dice, ONE_OF(MOST_CHILDREN + 2, MOST_NODES, MOST_NODES + 1, MOST_NODES + 2), &wide); break;
+    case 2: tree->words = 0; put_cut(tree, order, 0, k + below(2), 1); break;
+    case 3: part_of_order(tree, order, k); damage_order(tree); break;
+    default: tree->words = 0; break;
+    }
+}
+
+/* Adds a rule to the end of a list, whose number of rules stays; an odd word at the tree's end is one too many. */
+static void put_rule(struct rules *rules, unsigned image, const struct order *tree)
+{
+    if (rules->words + 2 + tree->words > RULES_ROOM)
+        return;
+    rules->at[rules->words++] = (uint16_t)image;
+    rules->at[rules->words++] = (uint16_t)(tree->words / 2);
+    memcpy(rules->at + rules->words, tree->at, 2 * tree->words);
+    rules->words += tree->words;
+}
+
+/* Gives the place of a random rule of a sound list, or of the number of rules where it has none. */
+static size_t some_rule(const struct rules *rules)
+{
+    size_t at = rules->at[0] ? 1 : 0;
+    for (unsigned skip = rules->at[0] ? below(rules->at[0]) : 0; skip; skip--)
+        at += 2 + 2 * (size_t)rules->at[at + 1];
+    return at;
+}
+
+/* Damages a sound list at one place. */
+static void damage_rules(struct rules *rules)
+{
+    size_t rule = some_rule(rules), nodes = rules->words > rule + 1 ? rule + 1 : rule, any = below((unsigned)rules->words);
+    switch (below(10)) {
+    case 0: rules->words = 0; break;
+    case 1: rules->words--; break;
+    case 2: rules->words = any; break;
+    case 3: rules->at[rules->words++] = (uint16_t)below(2); break;
+    case 4: rules->at[0] = (uint16_t)ONE_OF(rules->at[0] + 1, rules->at[0] - 1, 0, MOST_RULES, MOST_RULES + 1, 256, 65535); break;
+    case 5: rules->at[rule] = 0; break;
+    case 6: rules->at[nodes] = (uint16_t)ONE_OF(rules->at[nodes] + 1, rules->at[nodes] - 1, 0, MOST_NODES + 1, 32768u + rules->at[nodes], 65535); break;
+    case 7: rules->at[any]++; break;
+    case 8: rules->at[any]--; break;
+    default: rules->at[any] = (uint16_t)(percent(50) ? below(65536) : ONE_OF(0, 1, 9, 9999, 10000, 65535)); break;
+    }
+}
+
+/* Gives how many rules a list has: mostly few, and at times one more than it may. */
+static unsigned some_rules_number(void)
+{
+    return percent(75) ? 1 + below(6) : percent(70) ? below(MOST_RULES + 1) : ONE_OF(0, 0, MOST_RULES - 1, MOST_RULES, MOST_RULES, MOST_RULES + 1);
+}
+
+/* Makes a rule list for an order and a k, with images of a small set; at times one rule is bad, or the list is damaged. An order that is none lends no part. */
+static void some_rules(struct rules *rules, const struct order *order, const struct book *kept, unsigned k)
+{
+    static const unsigned images[] = {7, 65535, 1, 8};
+    struct order from = *order, tree;
+    unsigned number = some_rules_number(), kinds = ONE_OF(1, 1, 1, 2, 4), first = below(4), bad = percent(8) ? below(number + 1) : number;
+    if (plain.subtree(from.at, from.words, 1).words == 0)
+        fresh_order(&from);
+    rules->words = 1;
+    rules->at[0] = (uint16_t)number;
+    for (unsigned i = 0; i < number; i++) {
+        if (i == bad)
+            bad_rule_tree(&tree, &from, k);
+        else
+            some_rule_tree(&tree, &from, kept, k);
+        put_rule(rules, images[(first + below(kinds)) % 4], &tree);
+    }
+    if (bad == number && percent(15))
+        damage_rules(rules);
+}
+
 /* ---- Texts and files ---- */
 
 /* Writes the text of a tree, also of one past the limits. */
@@ -673,6 +788,12 @@ static void lend_order(const struct order *order)
     memcpy(lend(order->words, 2, 0), order->at, 2 * order->words);
 }
 
+/* Adds a rule list to the call. */
+static void lend_rules(const struct rules *rules)
+{
+    memcpy(lend(rules->words, 2, 0), rules->at, 2 * rules->words);
+}
+
 /* Adds a writable part in which anything may stand. */
 static void lend_output(size_t items, size_t width)
 {
@@ -747,6 +868,24 @@ static void make_order_call(void)
     lend_book(&book, call.function != JUDGE);
     lend_order(&order);
     call.keep = keep && call.function != JUDGE ? slot : NULL;
+}
+
+/* Makes a call of choose: mostly of an order that passes, since the rules are looked at only then. */
+static void make_choose(void)
+{
+    static struct book book;
+    static struct rules rules;
+    struct order order;
+    const struct book *slot = some_slot();
+    some_book(&book, slot, 8);
+    if (percent(40) || !taught_order(&order, slot))
+        some_order(&order, slot, 60);
+    if (book.words >= HEAD_WORDS && percent(8))
+        lose_part(&book);
+    some_rules(&rules, &order, slot, slot->at[0]);
+    lend_book(&book, 0);
+    lend_order(&order);
+    lend_rules(&rules);
 }
 
 /* Finds another kept book that looks as deep as this one, or gives NULL where there is none. */
@@ -927,6 +1066,7 @@ static void make_call(void)
     case TEACH:
     case WITHDRAW:
     case JUDGE: make_order_call(); break;
+    case CHOOSE: make_choose(); break;
     case JOIN: make_join(); break;
     case CHECK:
     case WRITE_FILE: make_book_call(); break;
@@ -971,10 +1111,11 @@ static int guarded(struct lent *lent, unsigned side)
 /* Makes the call with one implementation. */
 static struct outcome perform(const struct implementation *which, unsigned side)
 {
-    void *a = place(&call.lent[0], side), *b = place(&call.lent[1], side);
-    size_t m = call.lent[0].items, n = call.lent[1].items;
+    void *a = place(&call.lent[0], side), *b = place(&call.lent[1], side), *c = place(&call.lent[2], side);
+    size_t m = call.lent[0].items, n = call.lent[1].items, o = call.lent[2].items;
     ofb_answer answer = {0, 0, 0};
     ofb_judged judged = {0, 0, 0, 0, 0, 0};
+    ofb_image image = {0, 0, 0};
     ofb_part part = {0, 0};
     switch (call.function) {
     case OPEN: answer = which->open(a, m, call.k); break;
@@ -982,6 +1123,7 @@ static struct outcome perform(const struct implementation *which, unsigned side)
     case WITHDRAW: answer = which->withdraw(a, m, b, n); break;
     case JOIN: answer = which->join(a, m, b, n); break;
     case JUDGE: judged = which->judge(a, m, b, n); break;
+    case CHOOSE: image = which->choose(a, m, b, n, c, o); break;
     case CHECK: answer = which->check(a, m); break;
     case WRITE_FILE: answer = which->write_file(a, m, b, n); break;
     case READ_FILE: answer = which->read_file(a, m, b, n); break;
@@ -994,6 +1136,8 @@ static struct outcome perform(const struct implementation *which, unsigned side)
     if (call.function == JUDGE)
         return (struct outcome){.number = judged.number, .line = judged.line, .below = judged.below, .there = judged.there,
             .place_below = judged.place_below, .place_above = judged.place_above};
+    if (call.function == CHOOSE)
+        return (struct outcome){.number = image.number, .line = image.line, .image = image.image};
     return (struct outcome){.number = answer.number, .line = answer.line, .written = answer.written};
 }
 
@@ -1011,9 +1155,9 @@ static void tell(const char *what, const struct outcome *outcome)
         printf(", line %zu", call.line);
     printf("\n");
     for (unsigned side = 0; side < 2; side++)
-        printf("    %-8s number %u, line %u, written %u, start %u, below %u, there %u, places %u and %u\n", side ? plain.name : library.name,
-            outcome[side].number, outcome[side].line, outcome[side].written, outcome[side].start, outcome[side].below, outcome[side].there,
-            outcome[side].place_below, outcome[side].place_above);
+        printf("    %-8s number %u, line %u, written %u, start %u, image %u, below %u, there %u, places %u and %u\n",
+            side ? plain.name : library.name, outcome[side].number, outcome[side].line, outcome[side].written, outcome[side].start,
+            outcome[side].image, outcome[side].below, outcome[side].there, outcome[side].place_below, outcome[side].place_above);
     fflush(stdout);
 }
 
@@ -1061,6 +1205,8 @@ static const char *look_at_answer(const struct outcome *outcome, unsigned side)
         return side ? "C refuses and says that it wrote" : "the library refuses and says that it wrote";
     if (outcome->there || (outcome->number < VERDICTS && (outcome->below || outcome->place_below || outcome->place_above)))
         return side ? "C tells neighbours where it may not" : "the library tells neighbours where it may not";
+    if (call.function == CHOOSE && (outcome->number ? outcome->image != 0 : outcome->image - 1 >= 65535))
+        return side ? "C names an image where it may not, or none" : "the library names an image where it may not, or none";
     return NULL;
 }
 
@@ -1103,12 +1249,21 @@ static void compare_call(void)
     }
 }
 
+/* Says whether some function may answer a number. */
+static int may_be_answered(unsigned number)
+{
+    for (unsigned f = 0; f < FUNCTIONS; f++)
+        if (functions[f].numbers >> number & 1u)
+            return 1;
+    return 0;
+}
+
 /* Prints how often each function was called and gave each number, and which it could have given and did not. */
 static unsigned print_counts(void)
 {
     printf("%-10s %7s", "function", "calls");
     for (unsigned number = 0; number < NUMBERS; number++)
-        if (number < NO_NUMBER || number >= VERDICTS)
+        if (may_be_answered(number))
             printf(" %6u", number);
     printf("\n");
     unsigned missed = 0;
@@ -1120,7 +1275,7 @@ static unsigned print_counts(void)
         for (unsigned number = 0; number < NUMBERS; number++) {
             if (functions[f].numbers >> number & 1u)
                 printf(" %6lu", counts[f][number]);
-            else if (number < NO_NUMBER || number >= VERDICTS)
+            else if (may_be_answered(number))
                 printf(" %6s", "");
             missed += (functions[f].numbers >> number & 1u) && counts[f][number] == 0;
         }

@@ -6,12 +6,12 @@
 #include "plain.h"
 
 const struct implementation library = {
-    "library", ofb_open, ofb_teach, ofb_withdraw, ofb_join, ofb_judge, ofb_check,
+    "library", ofb_open, ofb_teach, ofb_withdraw, ofb_join, ofb_judge, ofb_choose, ofb_check,
     ofb_write_file, ofb_read_file, ofb_read_text, ofb_write_text, ofb_subtree
 };
 
 const struct implementation plain = {
-    "C", plain_open, plain_teach, plain_withdraw, plain_join, plain_judge, plain_check,
+    "C", plain_open, plain_teach, plain_withdraw, plain_join, plain_judge, plain_choose, plain_check,
     plain_write_file, plain_read_file, plain_read_text, plain_write_text, plain_subtree
 };
 

@@ -1,5 +1,5 @@
 /*
- * What the comparison and the measurement share: the two implementations of the eleven functions as tables, numbers that look random
+ * What the comparison and the measurement share: the two implementations of the twelve functions as tables, numbers that look random
  * and repeat from their seed, and orders grown by them.
  */
 #ifndef INPUTS_H
@@ -21,7 +21,7 @@ enum {
     LINE_BYTES = 8              /* the most bytes of a line of an order form */
 };
 
-/* The eleven functions of one implementation. */
+/* The twelve functions of one implementation. */
 struct implementation {
     const char *name;
     ofb_answer (*open)(uint16_t *book, size_t words, uint16_t k);
@@ -29,6 +29,7 @@ struct implementation {
     ofb_answer (*withdraw)(uint16_t *book, size_t words, const uint16_t *order, size_t order_words);
     ofb_answer (*join)(uint16_t *book, size_t words, const uint16_t *other, size_t other_words);
     ofb_judged (*judge)(const uint16_t *book, size_t words, const uint16_t *order, size_t order_words);
+    ofb_image (*choose)(const uint16_t *book, size_t words, const uint16_t *order, size_t order_words, const uint16_t *rules, size_t rule_words);
     ofb_answer (*check)(const uint16_t *book, size_t words);
     ofb_answer (*write_file)(const uint16_t *book, size_t words, uint8_t *out, size_t bytes);
     ofb_answer (*read_file)(const uint8_t *file, size_t bytes, uint16_t *book, size_t words);

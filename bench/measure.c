@@ -1,5 +1,5 @@
 /*
- * Measures how long each of the eleven functions takes in the library and in plain C, in one process and by turns, and prints the ratios.
+ * Measures how long each of the twelve functions takes in the library and in plain C, in one process and by turns, and prints the ratios.
  *
  *     measure [indicative] [K]
  *
@@ -23,7 +23,13 @@ enum {
     PAIRS = 64,                 /* pairs of books that are joined by turns */
     SIZES = 4,
     SHAPES = 3,
-    MOST_ROWS = 112,
+    MOST_ROWS = 136,
+    RULES = 64,                 /* rules of the longer list by which an image is chosen, which is the most that a list may have */
+    FEW_RULES = 4,              /* and of the shorter one */
+    RULE_NODES = 4,             /* the most nodes of such a rule's tree */
+    RULE_WORDS = 2 + 2 * RULE_NODES,
+    CHOSEN_IMAGE = 7,           /* the image of all rules that fit; each other rule has one of its own */
+    OTHER_IMAGES = 100,
     TRIES = 400                 /* orders tried where the book is nearly as large as it should be */
 };
 
@@ -48,6 +54,8 @@ struct task {
     uint16_t book[BOOK_WORDS];
     uint16_t spare[BOOK_WORDS];
     struct order order;
+    uint16_t rules[1 + RULES * RULE_WORDS];
+    size_t rule_words;
     uint8_t text[MOST_NODES * LINE_BYTES];
     size_t text_bytes;
     uint8_t file[FILE_HEAD + 2 * BOOK_WORDS];
@@ -116,6 +124,15 @@ static unsigned long batch_doubt(const struct implementation *which, struct task
     unsigned long sum = 0;
     for (unsigned long i = 0; i < calls; i++)
         sum += which->judge(task->book, task->slice, task->order.at, task->order.words).line == 0;
+    return sum;
+}
+
+/* Chooses the image for the order by the rules: 0 is given where each call names that of the rules that fit. */
+static unsigned long batch_choose(const struct implementation *which, struct task *task, unsigned long calls)
+{
+    unsigned long sum = 0;
+    for (unsigned long i = 0; i < calls; i++)
+        sum += which->choose(task->book, task->slice, task->order.at, task->order.words, task->rules, task->rule_words).image != CHOSEN_IMAGE;
     return sum;
 }
 
@@ -305,12 +322,89 @@ static void measure_changes(struct task *task, const char *teaching, const char 
     measure_pair(teach, withdraw, task);
 }
 
+/* Writes the subtree at a place of an order, cut at so many levels, to another order; gives the place behind it. */
+static size_t put_cut(struct order *to, const struct order *from, size_t at, unsigned levels, int within)
+{
+    size_t next = at + 2;
+    if (within) {
+        to->at[to->words++] = from->at[at];
+        to->at[to->words++] = levels ? from->at[at + 1] : 0;
+    }
+    for (unsigned child = from->at[at + 1]; child; child--)
+        next = put_cut(to, from, next, levels ? levels - 1 : 0, within && levels);
+    return next;
+}
+
+/* Says whether a code stands in the task's order. */
+static int has_code(const struct task *task, uint16_t code)
+{
+    for (size_t at = 0; at < task->order.words; at += 2)
+        if (task->order.at[at] == code)
+            return 1;
+    return 0;
+}
+
+/* Says whether the task's list has a rule of this tree. */
+static int has_rule(const struct task *task, const struct order *tree)
+{
+    for (size_t at = 1; at < task->rule_words; at += 2 + 2 * (size_t)task->rules[at + 1])
+        if (2u * task->rules[at + 1] == tree->words && !memcmp(task->rules + at + 2, tree->at, 2 * tree->words))
+            return 1;
+    return 0;
+}
+
+/* Adds a rule to the task's list, with the image by whether it fits the order, which the book has to pass. */
+static void add_rule(struct task *task, const struct order *tree)
+{
+    uint16_t alone[1 + RULE_WORDS] = {1, CHOSEN_IMAGE, (uint16_t)(tree->words / 2)};
+    memcpy(alone + 3, tree->at, 2 * tree->words);
+    size_t words = 2 + tree->words;
+    unsigned number = plain.choose(task->book, task->slice, task->order.at, task->order.words, alone, 1 + words).number;
+    demand(number == OFB_DONE || number == OFB_NO_IMAGE, "a measured rule is none");
+    if (number == OFB_NO_IMAGE)
+        alone[1] = (uint16_t)(OTHER_IMAGES + task->rules[0]);
+    memcpy(task->rules + task->rule_words, alone + 1, 2 * words);
+    task->rule_words += words;
+    task->rules[0]++;
+}
+
+/*
+ * Makes a list of so many rules as one would write it: parts of 1 to 4 nodes, no two the same. Of four rules one is a part of the task's order, as far as it has
+ * such, one has a top that stands in it, and two have a top that does not. Of the others the parts are those of orders like the ones that the book holds.
+ */
+static void make_rules(struct task *task, struct dice *dice, unsigned rules)
+{
+    task->rules[0] = 0;
+    task->rule_words = 1;
+    for (unsigned tries = 0; task->rules[0] < rules; tries++) {
+        demand(tries < TRIES * TRIES, "there are too few parts for rules");
+        unsigned turn = task->rules[0] % 4;
+        int own = turn == 0 && tries % TRIES < TRIES / 2;
+        struct order order, tree = {0};
+        order_grow(&order, dice, 5 + dice_below(dice, 16), &practice);
+        const struct order *from = own ? &task->order : &order;
+        put_cut(&tree, from, 2 * dice_below(dice, (unsigned)(from->words / 2)), task->k - 1u, 1);
+        if (tree.words <= 2 * RULE_NODES && has_code(task, tree.at[0]) == (turn % 2 == 0) && !has_rule(task, &tree))
+            add_rule(task, &tree);
+    }
+}
+
+/* Measures choosing an image for the task's order by lists of few and of the most rules. */
+static void measure_choices(struct task *task, struct dice *dice, unsigned size, unsigned nodes)
+{
+    make_rules(task, dice, FEW_RULES);
+    measure_steady(add_row("choose 4", size, task, nodes), batch_choose, task);
+    make_rules(task, dice, RULES);
+    measure_steady(add_row("choose 64", size, task, nodes), batch_choose, task);
+}
+
 /* Measures the functions that need a book and an order. */
-static void measure_order_in_book(struct task *task, unsigned size, unsigned nodes)
+static void measure_order_in_book(struct task *task, struct dice *dice, unsigned size, unsigned nodes)
 {
     measure_changes(task, "teach", "withdraw", size, nodes);
     demand(plain.teach(task->book, task->slice, task->order.at, task->order.words).number == 0, "the measured order has no room");
     measure_steady(add_row("judge", size, task, nodes), batch_judge, task);
+    measure_choices(task, dice, size, nodes);
 }
 
 /* Measures the functions that need a book and no order. */
@@ -425,13 +519,13 @@ static void measure_order(struct task *task, unsigned nodes)
 /* Measures all functions at all sizes. */
 static void measure_all(struct task *task, struct pair *pairs)
 {
-    struct dice dice = {20}, joining = {21};
+    struct dice dice = {20}, joining = {21}, choosing = {22};
     for (unsigned shape = 0; shape < SHAPES; shape++) {
         order_grow(&task->order, &dice, shapes[shape], &practice);
         measure_order(task, shapes[shape]);
         for (unsigned size = 0; size < SIZES; size++) {
             fill_book(task, &dice, sizes[size]);
-            measure_order_in_book(task, sizes[size], shapes[shape]);
+            measure_order_in_book(task, &choosing, sizes[size], shapes[shape]);
             if (shape == 0)
                 measure_book(task, sizes[size]);
         }
@@ -474,14 +568,22 @@ static void print_function(const char *function)
     }
 }
 
+/* Finds the row of a function for a size of book and of order. */
+static const struct row *find_row(const char *function, unsigned size, unsigned nodes)
+{
+    for (unsigned i = 0; i < rows_count; i++)
+        if (!strcmp(rows[i].function, function) && rows[i].nodes == nodes && rows[i].size == size)
+            return &rows[i];
+    demand(0, "a row is missing");
+    return NULL;
+}
+
 /* Prints how the library's time grows with the book for one function and one size of order. */
 static void print_growth(const char *function, unsigned nodes)
 {
-    const struct row *at[SIZES] = {0};
-    for (unsigned i = 0; i < rows_count; i++)
-        for (unsigned size = 0; size < SIZES; size++)
-            if (!strcmp(rows[i].function, function) && rows[i].nodes == nodes && rows[i].size == sizes[size])
-                at[size] = &rows[i];
+    const struct row *at[SIZES];
+    for (unsigned size = 0; size < SIZES; size++)
+        at[size] = find_row(function, sizes[size], nodes);
     printf("%-12s", function);
     print_count(nodes);
     for (unsigned size = 0; size < SIZES; size++)
@@ -489,6 +591,46 @@ static void print_growth(const char *function, unsigned nodes)
     printf("  ");
     for (unsigned size = 0; size < SIZES; size++)
         printf(" %7.2f", at[size]->ns[0] / at[size]->used);
+    printf("\n");
+}
+
+/* Gives how long choosing takes, measured by judging the same order by the same book, in the library or in plain C. */
+static double by_judging(const char *function, unsigned size, unsigned nodes, unsigned which)
+{
+    return find_row(function, size, nodes)->ns[which] / find_row("judge", size, nodes)->ns[which];
+}
+
+/* Prints how long choosing takes, measured by judging the same order, for the sizes of books. */
+static void print_choices(const char *function, unsigned nodes)
+{
+    printf("%-12s", function);
+    print_count(nodes);
+    for (unsigned which = 0; which < 2; which++) {
+        for (unsigned size = 0; size < SIZES; size++)
+            printf(" %7.2f", by_judging(function, sizes[size], nodes, which));
+        printf("%s", which ? "\n" : "  ");
+    }
+}
+
+/* Prints the greatest time of choosing by the longer list, measured by judging the same order, in the library. */
+static void print_greatest_choice(void)
+{
+    unsigned nodes = shapes[0], size = sizes[0];
+    for (unsigned i = 0; i < SHAPES * SIZES; i++)
+        if (by_judging("choose 64", sizes[i % SIZES], shapes[i / SIZES], 0) > by_judging("choose 64", size, nodes, 0)) {
+            size = sizes[i % SIZES];
+            nodes = shapes[i / SIZES];
+        }
+    printf("Choosing by %d rules takes at most %.2f times as long as judging (%u words used, %u nodes).\n", RULES,
+        by_judging("choose 64", size, nodes, 0), find_row("choose 64", size, nodes)->used, nodes);
+}
+
+/* Prints the head of a table that has two columns for each size of book. */
+static void print_sizes_head(void)
+{
+    printf("%-12s %6s", "function", "nodes");
+    for (unsigned i = 0; i < 2 * SIZES; i++)
+        printf("%s %7u", i == SIZES ? "  " : "", sizes[i % SIZES]);
     printf("\n");
 }
 
@@ -512,32 +654,38 @@ static void print_summary(void)
     printf(")\n");
 }
 
-/* Prints both tables and the summary. */
+/* Prints the tables and the summary. */
 static void print_all(void)
 {
-    static const char *const by_order[] = {"teach", "withdraw", "teach new", "withdraw new", "judge", "judge new"};
+    static const char *const by_order[] = {"teach", "withdraw", "teach new", "withdraw new", "judge", "judge new", "choose 4", "choose 64"};
     static const char *const by_book[] = {"open", "check", "write_file", "read_file", "join", "join copy"};
     static const char *const without_book[] = {"read_text", "write_text", "subtree"};
+    const unsigned ordered = sizeof by_order / sizeof by_order[0];
     printf("Least processor time of a call over %d rounds. An order that is new has codes that the book has hardly seen.\n", ROUNDS);
-    printf("Joined are two books that share orders and parts, or a book and its copy, %d such pairs by turns; words are those of what a pair makes, in the mean.\n\n", PAIRS);
+    printf("Joined are two books that share orders and parts, or a book and its copy, %d such pairs by turns; words are those of what a pair makes, in the mean.\n", PAIRS);
+    printf("An image is chosen by %d or %d rules, for the order that is judged: trees of at most %d nodes, half of which have a top that stands in the order.\n\n",
+        FEW_RULES, RULES, RULE_NODES);
     printf("%-12s %6s %6s %12s %12s %7s\n", "function", "words", "nodes", "library ns", "C ns", "ratio");
     for (unsigned i = 0; i < 6; i++)
         print_function(by_book[i]);
-    for (unsigned i = 0; i < 6; i++)
+    for (unsigned i = 0; i < ordered; i++)
         print_function(by_order[i]);
     for (unsigned i = 0; i < 3; i++)
         print_function(without_book[i]);
     printf("\nHow the library's time grows with the book: against that at some %u words, and nanoseconds per word used.\n\n", sizes[0]);
-    printf("%-12s %6s", "function", "nodes");
-    for (unsigned i = 0; i < 2 * SIZES; i++)
-        printf("%s %7u", i == SIZES ? "  " : "", sizes[i % SIZES]);
-    printf("\n");
+    print_sizes_head();
     for (unsigned i = 0; i < 6; i++)
         print_growth(by_book[i], 0);
-    for (unsigned i = 0; i < 6; i++)
+    for (unsigned i = 0; i < ordered; i++)
         for (unsigned shape = 0; shape < SHAPES; shape++)
             print_growth(by_order[i], shapes[shape]);
+    printf("\nHow long choosing takes, measured by judging the same order by the same book: in the library, and in plain C.\n\n");
+    print_sizes_head();
+    for (unsigned i = ordered - 2; i < ordered; i++)
+        for (unsigned shape = 0; shape < SHAPES; shape++)
+            print_choices(by_order[i], shapes[shape]);
     printf("\n");
+    print_greatest_choice();
     print_summary();
 }
 

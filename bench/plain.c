@@ -1,5 +1,5 @@
 /*
- * A plain C implementation of the eleven functions of ofb.h, written from the rules alone, for comparison by bench/run in answers and speed.
+ * A plain C implementation of the twelve functions of ofb.h, written from the rules alone, for comparison by bench/run in answers and speed.
  * It is not part of the product. It keeps nothing between calls and takes no heap; reading a file takes the most stack, some 57 KiB.
  *
  * Every call on a book first goes through it once to see that it is in form and where its sections start. Teaching and withdrawing list
@@ -25,6 +25,7 @@ enum {
     MOST_COUNT = 65535,
     MOST_PARTS = MOST_NODES + 2,                /* the order itself, its top, and one part for each line */
     MOST_CUTS = (MOST_K + 1) * MOST_ORDER,      /* a node is in the top and in the cuts of itself and k-1 nodes above it */
+    MOST_RULES = 64,                            /* of a rule list */
     FILE_HEAD = 5,                              /* bytes before the stored words */
     NO_TREE = 255                               /* in the place of a depth */
 };
@@ -655,34 +656,111 @@ static ofb_judged doubted(const uint16_t *book, const shape *s, unsigned number,
 
 /*
  * Judges an order by the book: the lines whose part is unknown are marked, and the least marked one is told that has no marked line strictly below it. Where
- * none is marked the top decides.
+ * none is marked the top decides. The book's shape and the order laid out are left for what follows a verdict.
  */
-ofb_judged plain_judge(const uint16_t *book, size_t words, const uint16_t *order, size_t order_words)
+static ofb_judged judge_by(const uint16_t *book, size_t words, const uint16_t *order, size_t order_words, shape *s, tree *t)
 {
-    shape s;
-    tree t;
     uint16_t room[MOST_ORDER];
     bool unknown[MOST_NODES], known;
     if (!size_allowed(words))
         return judged(OFB_BOOK_SIZE);
-    if (!in_form(book, words, &s))
+    if (!in_form(book, words, s))
         return judged(OFB_NOT_IN_FORM);
-    unsigned number = read_order(order, order_words, &t);
+    unsigned number = read_order(order, order_words, t);
     if (number != OFB_DONE)
         return judged(number);
-    for (unsigned node = 0; node < t.nodes; node++) {
-        part p = part_of(&t, node, s.k, room);
-        seek(book, s.start[p.section], s.start[p.section + 1], p.words, p.nodes, &known);
+    for (unsigned node = 0; node < t->nodes; node++) {
+        part p = part_of(t, node, s->k, room);
+        seek(book, s->start[p.section], s->start[p.section + 1], p.words, p.nodes, &known);
         unknown[node] = !known;
     }
-    for (unsigned node = 0; node < t.nodes; node++)
-        if (unknown[node] && !any_marked(unknown, node + 1, t.end[node])) {
-            part p = part_of(&t, node, s.k, room);
-            return doubted(book, &s, p.section == L ? OFB_LOW_UNKNOWN : OFB_MIDDLE_UNKNOWN, node + 1, &p);
+    for (unsigned node = 0; node < t->nodes; node++)
+        if (unknown[node] && !any_marked(unknown, node + 1, t->end[node])) {
+            part p = part_of(t, node, s->k, room);
+            return doubted(book, s, p.section == L ? OFB_LOW_UNKNOWN : OFB_MIDDLE_UNKNOWN, node + 1, &p);
         }
-    part top = { room, (uint16_t)cut(&t, 0, s.k - 2, room), 0, R, false };
-    seek(book, s.start[R], s.start[R + 1], top.words, top.nodes, &known);
-    return known ? judged(OFB_DONE) : doubted(book, &s, OFB_TOP_UNKNOWN, 1, &top);
+    part top = { room, (uint16_t)cut(t, 0, s->k - 2, room), 0, R, false };
+    seek(book, s->start[R], s->start[R + 1], top.words, top.nodes, &known);
+    return known ? judged(OFB_DONE) : doubted(book, s, OFB_TOP_UNKNOWN, 1, &top);
+}
+
+/* Judges an order by the book. */
+ofb_judged plain_judge(const uint16_t *book, size_t words, const uint16_t *order, size_t order_words)
+{
+    shape s;
+    tree t;
+    return judge_by(book, words, order, order_words, &s, &t);
+}
+
+/* What choosing answers, put together. */
+static ofb_image image_told(unsigned number, unsigned line, unsigned image)
+{
+    ofb_image i = { (uint16_t)number, (uint16_t)line, image };
+    return i;
+}
+
+/* Whether a tree is the low or middle part of a node: its subtree cut at k-1, which leaves a low part as it is. No tree begins with the words of another. */
+static bool part_is(const tree *t, unsigned node, unsigned k, const uint16_t *words, unsigned nodes)
+{
+    unsigned lowest = t->depth[node] + k - 1, i = node;
+    for (unsigned n = 0; n < nodes; n++) {
+        bool leaf = t->depth[i] == lowest;
+        if (t->words[2 * i] != words[2 * n] || (leaf ? 0 : t->words[2 * i + 1]) != words[2 * n + 1])
+            return false;
+        i = leaf ? t->end[i] : i + 1;
+    }
+    return true;
+}
+
+/* Whether a tree is the part of one of an order's nodes. */
+static bool rule_fits(const tree *t, unsigned k, const uint16_t *words, unsigned nodes)
+{
+    for (unsigned node = 0; node < t->nodes; node++)
+        if (t->words[2 * node] == words[0] && part_is(t, node, k, words, nodes))
+            return true;
+    return false;
+}
+
+/*
+ * Chooses an image for an order that passes, in one pass over the list. A rule matters only while no two have differed, and if it names another image than the
+ * one found; but its layout does to the end.
+ */
+static ofb_image image_by(const tree *t, unsigned k, const uint16_t *rules, size_t words)
+{
+    unsigned image = 0;
+    bool two = false;
+    size_t at = 1;
+    if (words == 0 || rules[0] > MOST_RULES)
+        return image_told(OFB_NO_RULES, 0, 0);
+    for (unsigned left = rules[0]; left > 0; left--) {
+        if (words - at < 2)
+            return image_told(OFB_NO_RULES, 0, 0);
+        unsigned named = rules[at], nodes = rules[at + 1];
+        at += 2;
+        if (named == 0 || nodes > MOST_NODES || 2 * nodes > words - at || tree_depth(rules + at, nodes, k - 1) == NO_TREE)
+            return image_told(OFB_NO_RULES, 0, 0);
+        if (!two && named != image && rule_fits(t, k, rules + at, nodes)) {
+            two = image != 0;
+            image = named;
+        }
+        at += 2 * nodes;
+    }
+    if (at != words)
+        return image_told(OFB_NO_RULES, 0, 0);
+    if (two)
+        return image_told(OFB_TWO_IMAGES, 0, 0);
+    return image_told(image == 0 ? OFB_NO_IMAGE : OFB_DONE, 0, image);
+}
+
+/* Chooses the image to build an order with. */
+ofb_image plain_choose(const uint16_t *book, size_t words, const uint16_t *order, size_t order_words, const uint16_t *rules, size_t rule_words)
+{
+    shape s;
+    tree t;
+    ofb_judged verdict = judge_by(book, words, order, order_words, &s, &t);
+    if (verdict.number != OFB_DONE)
+        return image_told(verdict.number, verdict.line, 0);
+    return image_by(&t, s.k, rules, rule_words);
 }
 
 /* Whether the book agrees with itself. */

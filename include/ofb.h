@@ -16,7 +16,7 @@
  * What is lent, for a call: a pointer, aligned for what it points to, and how many words or bytes stand there. The parts of one call may not overlap. A
  * part of length 0 has a pointer too, to anything that is aligned, and not NULL. Calls on different books may run at the same time.
  *
- * A call that answers another number than 0, and every call of ofb_judge, leaves all that was lent to it as it was.
+ * A call that answers another number than 0, and every call of ofb_judge and of ofb_choose, leaves all that was lent to it as it was.
  */
 #ifndef OFB_H
 #define OFB_H
@@ -48,7 +48,10 @@ enum {
     OFB_OTHER_K = 15,          /* the two books look differently deep */
     OFB_TOP_UNKNOWN = 20,      /* the part of every line is in the book, but the order's top is not among its tops */
     OFB_LOW_UNKNOWN = 21,      /* this line's part, all of its subtree, is not among the book's low parts; those of all lines below it are in the book */
-    OFB_MIDDLE_UNKNOWN = 22    /* this line's part is not among the book's middle parts; those of all lines below it are in the book */
+    OFB_MIDDLE_UNKNOWN = 22,   /* this line's part is not among the book's middle parts; those of all lines below it are in the book */
+    OFB_NO_IMAGE = 30,         /* no rule fits the order */
+    OFB_TWO_IMAGES = 31,       /* two rules that fit the order name different images */
+    OFB_NO_RULES = 32          /* these words are no rule list, or a rule's tree is deeper than k-1 */
 };
 
 /* An answer: its number; the line it speaks of, counted from 1, or 0; and how many words or bytes were written to an output that is not a book. */
@@ -66,6 +69,9 @@ typedef struct { uint16_t number; uint16_t line; uint32_t written; } ofb_answer;
  * Places are counted from 1 over the two words for each option: word 2n-1 is the code of option n, and word 2n how many children that has.
  */
 typedef struct { uint16_t number; uint16_t line; uint16_t below; uint16_t there; uint16_t place_below; uint16_t place_above; } ofb_judged;
+
+/* What choosing answers: a number; the line it speaks of, as ofb_judge has it, or 0; and the image, 1 to 65,535, with number 0, and otherwise 0. */
+typedef struct { uint16_t number; uint16_t line; uint32_t image; } ofb_image;
 
 /* A part of an order: the word at which it starts, counted from 0, and how many words it has. */
 typedef struct { uint32_t start; uint32_t words; } ofb_part;
@@ -97,6 +103,15 @@ ofb_answer ofb_join(uint16_t *book, size_t words, const uint16_t *other, size_t 
  * its answer has no `written`.
  */
 ofb_judged ofb_judge(const uint16_t *book, size_t words, const uint16_t *order, size_t order_words);
+
+/*
+ * Chooses the image to build an order with, by a list of rules that say of a part which image it asks for. A rule list is the number of its rules, 0 to 64, and
+ * then for each rule its image, 1 to 65,535, how many options its tree has, and the two words for each of these; the tree is laid out as an order, within
+ * an order's limits, and at most k-1 deep, for the book's k. Behind the last rule stands nothing. A rule fits an order if its tree is the part, low or middle, of
+ * one of the order's lines; the order's top is no part of it as such. The answer is 0 with the image if some rule fits and all that fit name this one.
+ * Refused by 4, 5, 1, 2, 20, 21, 22 with the line, as ofb_judge, and then by 32, 30, 31, looked for in this order. It writes nothing.
+ */
+ofb_image ofb_choose(const uint16_t *book, size_t words, const uint16_t *order, size_t order_words, const uint16_t *rules, size_t rule_words);
 
 /* Whether the book agrees with itself: its parts and counts are those of the orders that it holds. 0, or 4, 5, 9, looked for in this order. */
 ofb_answer ofb_check(const uint16_t *book, size_t words);
