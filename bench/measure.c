@@ -21,6 +21,7 @@ enum {
     COPIES_BYTES = 2 << 20,     /* the most bytes of the copies of a book to which a batch teaches */
     MOST_COPIES = 256,
     PAIRS = 64,                 /* pairs of books that are joined by turns */
+    CROWD = 32,                 /* orders with their books that are judged, and get an image, by turns */
     SIZES = 4,
     SHAPES = 3,
     MOST_ROWS = 136,
@@ -30,6 +31,7 @@ enum {
     RULE_WORDS = 2 + 2 * RULE_NODES,
     CHOSEN_IMAGE = 7,           /* the image of all rules that fit; each other rule has one of its own */
     OTHER_IMAGES = 100,
+    KINDS = 3,                  /* judging, and choosing by few and by many rules */
     TRIES = 400                 /* orders tried where the book is nearly as large as it should be */
 };
 
@@ -37,6 +39,12 @@ static const unsigned sizes[SIZES] = {500, 2000, 8000, 16000};
 static const unsigned shapes[SHAPES] = {5, 20, MOST_NODES};
 static const struct style practice = {4, MOST_CHILDREN, 10, 0, 4, 6, 8};
 static const struct style unheard = {4, MOST_CHILDREN, 10, 9000, 0, 0, 0};
+
+/* A rule list. */
+struct rules {
+    size_t words;
+    uint16_t at[1 + RULES * RULE_WORDS];
+};
 
 /* One line of the table. */
 struct row {
@@ -54,8 +62,7 @@ struct task {
     uint16_t book[BOOK_WORDS];
     uint16_t spare[BOOK_WORDS];
     struct order order;
-    uint16_t rules[1 + RULES * RULE_WORDS];
-    size_t rule_words;
+    struct rules few, many;     /* rules for the order, by which one image is chosen */
     uint8_t text[MOST_NODES * LINE_BYTES];
     size_t text_bytes;
     uint8_t file[FILE_HEAD + 2 * BOOK_WORDS];
@@ -79,6 +86,16 @@ struct pair {
 /* Makes so many calls of one function and gives the sum of their answers' numbers, which is 0 where all are done. */
 typedef unsigned long batch(const struct implementation *which, struct task *task, unsigned long calls);
 
+/*
+ * What choosing costs against judging, for a size of book and of order: the nanoseconds of a call of either implementation, of judging, of choosing by few rules
+ * and by many. They are means over a crowd of orders, each with a book and rules of its own, that take turns for the reason that pairs do.
+ */
+struct choice {
+    unsigned size, nodes;
+    double ns[2][KINDS];
+};
+
+static struct choice choices[SHAPES * SIZES];
 static struct row rows[MOST_ROWS];
 static unsigned rows_count;
 static const struct implementation *const both[2] = {&library, &plain};
@@ -127,13 +144,25 @@ static unsigned long batch_doubt(const struct implementation *which, struct task
     return sum;
 }
 
-/* Chooses the image for the order by the rules: 0 is given where each call names that of the rules that fit. */
-static unsigned long batch_choose(const struct implementation *which, struct task *task, unsigned long calls)
+/* Chooses the image for the order by a list: 0 is given where each call names that of the rules that fit. */
+static unsigned long choose_by(const struct implementation *which, struct task *task, const struct rules *rules, unsigned long calls)
 {
     unsigned long sum = 0;
     for (unsigned long i = 0; i < calls; i++)
-        sum += which->choose(task->book, task->slice, task->order.at, task->order.words, task->rules, task->rule_words).image != CHOSEN_IMAGE;
+        sum += which->choose(task->book, task->slice, task->order.at, task->order.words, rules->at, rules->words).image != CHOSEN_IMAGE;
     return sum;
+}
+
+/* Chooses the image for the order by few rules. */
+static unsigned long batch_choose_few(const struct implementation *which, struct task *task, unsigned long calls)
+{
+    return choose_by(which, task, &task->few, calls);
+}
+
+/* Chooses the image for the order by many rules. */
+static unsigned long batch_choose_many(const struct implementation *which, struct task *task, unsigned long calls)
+{
+    return choose_by(which, task, &task->many, calls);
 }
 
 /* Checks the book. */
@@ -344,17 +373,17 @@ static int has_code(const struct task *task, uint16_t code)
     return 0;
 }
 
-/* Says whether the task's list has a rule of this tree. */
-static int has_rule(const struct task *task, const struct order *tree)
+/* Says whether a list has a rule of this tree. */
+static int has_rule(const struct rules *rules, const struct order *tree)
 {
-    for (size_t at = 1; at < task->rule_words; at += 2 + 2 * (size_t)task->rules[at + 1])
-        if (2u * task->rules[at + 1] == tree->words && !memcmp(task->rules + at + 2, tree->at, 2 * tree->words))
+    for (size_t at = 1; at < rules->words; at += 2 + 2 * (size_t)rules->at[at + 1])
+        if (2u * rules->at[at + 1] == tree->words && !memcmp(rules->at + at + 2, tree->at, 2 * tree->words))
             return 1;
     return 0;
 }
 
-/* Adds a rule to the task's list, with the image by whether it fits the order, which the book has to pass. */
-static void add_rule(struct task *task, const struct order *tree)
+/* Adds a rule to a list, with the image by whether it fits the task's order, which the book has to pass. */
+static void add_rule(struct rules *rules, const struct task *task, const struct order *tree)
 {
     uint16_t alone[1 + RULE_WORDS] = {1, CHOSEN_IMAGE, (uint16_t)(tree->words / 2)};
     memcpy(alone + 3, tree->at, 2 * tree->words);
@@ -362,40 +391,95 @@ static void add_rule(struct task *task, const struct order *tree)
     unsigned number = plain.choose(task->book, task->slice, task->order.at, task->order.words, alone, 1 + words).number;
     demand(number == OFB_DONE || number == OFB_NO_IMAGE, "a measured rule is none");
     if (number == OFB_NO_IMAGE)
-        alone[1] = (uint16_t)(OTHER_IMAGES + task->rules[0]);
-    memcpy(task->rules + task->rule_words, alone + 1, 2 * words);
-    task->rule_words += words;
-    task->rules[0]++;
+        alone[1] = (uint16_t)(OTHER_IMAGES + rules->at[0]);
+    memcpy(rules->at + rules->words, alone + 1, 2 * words);
+    rules->words += words;
+    rules->at[0]++;
 }
 
 /*
  * Makes a list of so many rules as one would write it: parts of 1 to 4 nodes, no two the same. Of four rules one is a part of the task's order, as far as it has
- * such, one has a top that stands in it, and two have a top that does not. Of the others the parts are those of orders like the ones that the book holds.
+ * such, one has a top that stands in it, and two have a top that does not. All but the first are parts of orders like the ones that the book holds.
  */
-static void make_rules(struct task *task, struct dice *dice, unsigned rules)
+static void make_rules(struct rules *rules, const struct task *task, struct dice *dice, unsigned number)
 {
-    task->rules[0] = 0;
-    task->rule_words = 1;
-    for (unsigned tries = 0; task->rules[0] < rules; tries++) {
+    rules->at[0] = 0;
+    rules->words = 1;
+    for (unsigned tries = 0; rules->at[0] < number; tries++) {
         demand(tries < TRIES * TRIES, "there are too few parts for rules");
-        unsigned turn = task->rules[0] % 4;
+        unsigned turn = rules->at[0] % 4;
         int own = turn == 0 && tries % TRIES < TRIES / 2;
         struct order order, tree = {0};
         order_grow(&order, dice, 5 + dice_below(dice, 16), &practice);
         const struct order *from = own ? &task->order : &order;
         put_cut(&tree, from, 2 * dice_below(dice, (unsigned)(from->words / 2)), task->k - 1u, 1);
-        if (tree.words <= 2 * RULE_NODES && has_code(task, tree.at[0]) == (turn % 2 == 0) && !has_rule(task, &tree))
-            add_rule(task, &tree);
+        if (tree.words <= 2 * RULE_NODES && has_code(task, tree.at[0]) == (turn % 2 == 0) && !has_rule(rules, &tree))
+            add_rule(rules, task, &tree);
     }
 }
 
 /* Measures choosing an image for the task's order by lists of few and of the most rules. */
 static void measure_choices(struct task *task, struct dice *dice, unsigned size, unsigned nodes)
 {
-    make_rules(task, dice, FEW_RULES);
-    measure_steady(add_row("choose 4", size, task, nodes), batch_choose, task);
-    make_rules(task, dice, RULES);
-    measure_steady(add_row("choose 64", size, task, nodes), batch_choose, task);
+    make_rules(&task->few, task, dice, FEW_RULES);
+    make_rules(&task->many, task, dice, RULES);
+    measure_steady(add_row("choose 4", size, task, nodes), batch_choose_few, task);
+    measure_steady(add_row("choose 64", size, task, nodes), batch_choose_many, task);
+}
+
+/* Makes a crowd of orders, each taught to a book of its own of about so many words, with rules for each. */
+static void make_crowd(struct task *crowd, const struct task *task, struct dice *dice, unsigned size, unsigned nodes)
+{
+    for (struct task *one = crowd; one < crowd + CROWD; one++) {
+        one->k = task->k;
+        one->copies = task->copies;
+        order_grow(&one->order, dice, nodes, &practice);
+        fill_book(one, dice, size);
+        demand(plain.teach(one->book, BOOK_WORDS, one->order.at, one->order.words).number == 0, "the measured order has no room");
+        fit_slice(one, one->book[1]);
+        make_rules(&one->few, one, dice, FEW_RULES);
+        make_rules(&one->many, one, dice, RULES);
+    }
+}
+
+/* Makes the same call for all of a crowd, so many times over, and gives the nanoseconds. */
+static double time_crowd(batch *run, const struct implementation *which, struct task *crowd, unsigned long turns)
+{
+    unsigned long sum = 0;
+    double start = now();
+    for (unsigned long i = 0; i < turns; i++)
+        for (unsigned one = 0; one < CROWD; one++)
+            sum += run(which, &crowd[one], 1);
+    double end = now();
+    demand(sum == 0, "a measured call was refused");
+    return end - start;
+}
+
+/* Measures judging and choosing for a crowd, by turns. */
+static void measure_crowd(struct choice *choice, struct task *crowd)
+{
+    static batch *const kinds[KINDS] = {batch_judge, batch_choose_few, batch_choose_many};
+    unsigned long turns = 1;
+    while (time_crowd(batch_judge, &plain, crowd, turns) < BATCH_NS)
+        turns *= 2;
+    for (unsigned i = 0; i < ROUNDS * 2 * KINDS; i++) {
+        double *least = &choice->ns[i / KINDS % 2][i % KINDS];
+        double ns = time_crowd(kinds[i % KINDS], both[i / KINDS % 2], crowd, turns) / (double)(turns * CROWD);
+        if (*least == 0 || ns < *least)
+            *least = ns;
+    }
+}
+
+/* Measures judging and choosing for crowds of all sizes. */
+static void measure_crowds(const struct task *task, struct task *crowd)
+{
+    struct dice dice = {23};
+    for (unsigned i = 0; i < SHAPES * SIZES; i++) {
+        choices[i].size = sizes[i % SIZES];
+        choices[i].nodes = shapes[i / SIZES];
+        make_crowd(crowd, task, &dice, choices[i].size, choices[i].nodes);
+        measure_crowd(&choices[i], crowd);
+    }
 }
 
 /* Measures the functions that need a book and an order. */
@@ -594,35 +678,33 @@ static void print_growth(const char *function, unsigned nodes)
     printf("\n");
 }
 
-/* Gives how long choosing takes, measured by judging the same order by the same book, in the library or in plain C. */
-static double by_judging(const char *function, unsigned size, unsigned nodes, unsigned which)
+/* Gives how long choosing by few or by many rules takes, measured by judging, in the library or in plain C. */
+static double by_judging(const struct choice *choice, unsigned kind, unsigned which)
 {
-    return find_row(function, size, nodes)->ns[which] / find_row("judge", size, nodes)->ns[which];
+    return choice->ns[which][kind] / choice->ns[which][0];
 }
 
-/* Prints how long choosing takes, measured by judging the same order, for the sizes of books. */
-static void print_choices(const char *function, unsigned nodes)
+/* Prints how long choosing takes, measured by judging, for one size of order. */
+static void print_choices(const char *function, unsigned kind, unsigned shape)
 {
     printf("%-12s", function);
-    print_count(nodes);
+    print_count(shapes[shape]);
     for (unsigned which = 0; which < 2; which++) {
         for (unsigned size = 0; size < SIZES; size++)
-            printf(" %7.2f", by_judging(function, sizes[size], nodes, which));
+            printf(" %7.2f", by_judging(&choices[shape * SIZES + size], kind, which));
         printf("%s", which ? "\n" : "  ");
     }
 }
 
-/* Prints the greatest time of choosing by the longer list, measured by judging the same order, in the library. */
+/* Prints the greatest time of choosing by the longer list, measured by judging, in the library. */
 static void print_greatest_choice(void)
 {
-    unsigned nodes = shapes[0], size = sizes[0];
-    for (unsigned i = 0; i < SHAPES * SIZES; i++)
-        if (by_judging("choose 64", sizes[i % SIZES], shapes[i / SIZES], 0) > by_judging("choose 64", size, nodes, 0)) {
-            size = sizes[i % SIZES];
-            nodes = shapes[i / SIZES];
-        }
-    printf("Choosing by %d rules takes at most %.2f times as long as judging (%u words used, %u nodes).\n", RULES,
-        by_judging("choose 64", size, nodes, 0), find_row("choose 64", size, nodes)->used, nodes);
+    const struct choice *greatest = &choices[0];
+    for (unsigned i = 1; i < SHAPES * SIZES; i++)
+        if (by_judging(&choices[i], KINDS - 1, 0) > by_judging(greatest, KINDS - 1, 0))
+            greatest = &choices[i];
+    printf("Choosing by %d rules takes at most %.2f times as long as judging (some %u words used, %u nodes).\n", RULES,
+        by_judging(greatest, KINDS - 1, 0), greatest->size, greatest->nodes);
 }
 
 /* Prints the head of a table that has two columns for each size of book. */
@@ -679,11 +761,11 @@ static void print_all(void)
     for (unsigned i = 0; i < ordered; i++)
         for (unsigned shape = 0; shape < SHAPES; shape++)
             print_growth(by_order[i], shapes[shape]);
-    printf("\nHow long choosing takes, measured by judging the same order by the same book: in the library, and in plain C.\n\n");
+    printf("\nHow long choosing takes, measured by judging the same orders by the same books, %d by turns: in the library, and in plain C.\n\n", CROWD);
     print_sizes_head();
-    for (unsigned i = ordered - 2; i < ordered; i++)
+    for (unsigned kind = 1; kind < KINDS; kind++)
         for (unsigned shape = 0; shape < SHAPES; shape++)
-            print_choices(by_order[i], shapes[shape]);
+            print_choices(by_order[ordered - KINDS + kind], kind, shape);
     printf("\n");
     print_greatest_choice();
     print_summary();
@@ -693,8 +775,9 @@ static void print_all(void)
 int main(int argc, char **argv)
 {
     struct task *task = calloc(1, sizeof *task);
+    struct task *crowd = calloc(CROWD, sizeof *crowd);
     struct pair *pairs = calloc(PAIRS, sizeof *pairs);
-    demand(task != NULL && pairs != NULL && (task->copies = malloc(COPIES_BYTES)) != NULL, "no memory");
+    demand(task != NULL && crowd != NULL && pairs != NULL && (task->copies = malloc(COPIES_BYTES)) != NULL, "no memory");
     task->k = 3;
     for (int i = 1; i < argc; i++) {
         if (!strcmp(argv[i], "indicative"))
@@ -704,10 +787,12 @@ int main(int argc, char **argv)
     }
     demand(task->k >= 2 && task->k <= 6, "K is 2 to 6");
     measure_all(task, pairs);
+    measure_crowds(task, crowd);
     printf("Books look %u deep. ", task->k);
     print_all();
     free(task->copies);
     free(pairs);
+    free(crowd);
     free(task);
     return 0;
 }

@@ -2,7 +2,8 @@
  * Prints what a book of built orders doubts: lets an empty book judge an order form; then teaches a form to each of two
  * books, joins the one to the other, and lets that judge three new forms, first with books that look 3 deep, then with
  * books that look 2 deep. Each form judged is printed with a mark at the line that is doubted, and then with what the
- * book knows instead: how each neighbour in the book of that which is unknown first differs from the form.
+ * book knows instead: how each neighbour in the book of that which is unknown first differs from the form. Of a form
+ * that passes it prints the image that it is built with, by its crystal.
  * It is linked with libofb.a. It ends with status 0, or with 1 after a refusal or if its output cannot be written.
  */
 #include <stdio.h>
@@ -21,6 +22,8 @@ static const char form_b[] = "0 1000\n1 2000\n2 0016\n1 3000\n2 3001\n2 3002\n";
 static const char form_c[] = "0 1000\n1 2000\n2 0010\n1 3000\n2 3001\n2 3002\n";
 static const char form_d[] = "0 1000\n1 2000\n2 0010\n1 3000\n";
 static const char form_e[] = "0 3000\n1 3001\n";
+/* Two rules, of one option each: 0010, the plain crystal, is built with image 7, and 0016, the oven, with 8. */
+static const uint16_t crystals[] = {2, 7, 1, 10, 0, 8, 1, 16, 0};
 static uint16_t desk[BOOK_WORDS], workshop[BOOK_WORDS];
 
 /* What the number of an answer means, for the calls made here. */
@@ -41,6 +44,9 @@ static const char *meaning(unsigned number)
     case OFB_TOP_UNKNOWN: return "no order taught begins like this one";
     case OFB_LOW_UNKNOWN: return "this option, with all that stands below it, is in no order taught";
     case OFB_MIDDLE_UNKNOWN: return "this option, with what the book sees below it, is in no order taught";
+    case OFB_NO_IMAGE: return "no rule fits the order";
+    case OFB_TWO_IMAGES: return "two rules that fit the order name different images";
+    case OFB_NO_RULES: return "the words are no list of rules for a book that looks this deep";
     default: return "this program does not know the number";
     }
 }
@@ -153,9 +159,17 @@ static void print_neighbours(const uint16_t *order, size_t words, ofb_judged ver
     if (below == 0 && above == 0) puts("The book knows none to compare it with.");
 }
 
+/* Prints the image that an order is built with, which the desk's book passes. */
+static void print_image(const uint16_t *order, size_t words)
+{
+    ofb_image choice = ofb_choose(desk, BOOK_WORDS, order, words, crystals, sizeof crystals / sizeof crystals[0]);
+    if (choice.number != OFB_DONE) refused("ofb_choose", choice.number, choice.line);
+    printf("It is built with image %u.\n", (unsigned)choice.image);
+}
+
 /*
  * Lets the desk's book judge a form, and prints the form with a mark at the line that is doubted, and then what the
- * book knows instead.
+ * book knows instead, or the image.
  */
 static void judge(const char *name, const char *text)
 {
@@ -172,7 +186,8 @@ static void judge(const char *name, const char *text)
         if (out[i] == '\n' && line++ == verdict.line) printf("  <-- %u: %s", verdict.number, meaning(verdict.number));
         putchar(out[i]);
     }
-    if (!passes) print_neighbours(order, words, verdict);
+    if (passes) print_image(order, words);
+    else print_neighbours(order, words, verdict);
 }
 
 /* Prints how deep the desk's book looks, and how much it holds. */

@@ -1,8 +1,9 @@
 //! Prints what a book of built orders doubts: lets an empty book judge an order form; then teaches a form to each of
 //! two books, joins the one to the other, and lets that judge three new forms, first with books that look 3 deep, then
 //! with books that look 2 deep. Each form judged is printed with a mark at the line that is doubted, and then with what
-//! the book knows instead: how each neighbour in the book of that which is unknown first differs from the form. It is
-//! linked with libofb.a. It ends with status 0, or with 1 after a refusal or if its output cannot be written.
+//! the book knows instead: how each neighbour in the book of that which is unknown first differs from the form. Of a
+//! form that passes it prints the image that it is built with, by its crystal. It is linked with libofb.a. It ends with
+//! status 0, or with 1 after a refusal or if its output cannot be written.
 
 use std::error::Error;
 use std::io::Write;
@@ -43,12 +44,29 @@ mod ofb {
         pub place_above: u16,
     }
 
+    /// What choosing answers: its number, the line it speaks of or 0, and the image, or 0 with a refusal.
+    #[repr(C)]
+    #[derive(Clone, Copy)]
+    pub struct Image {
+        pub number: u16,
+        pub line: u16,
+        pub image: u32,
+    }
+
     #[link(name = "ofb", kind = "static")]
     extern "C" {
         fn ofb_open(book: *mut u16, words: usize, k: u16) -> Answer;
         fn ofb_teach(book: *mut u16, words: usize, order: *const u16, count: usize) -> Answer;
         fn ofb_join(book: *mut u16, words: usize, other: *const u16, other_words: usize) -> Answer;
         fn ofb_judge(book: *const u16, words: usize, order: *const u16, count: usize) -> Judged;
+        fn ofb_choose(
+            book: *const u16,
+            words: usize,
+            order: *const u16,
+            count: usize,
+            rules: *const u16,
+            rule_words: usize,
+        ) -> Image;
         fn ofb_read_text(text: *const u8, bytes: usize, out: *mut u16, words: usize) -> Answer;
         fn ofb_write_text(order: *const u16, words: usize, out: *mut u8, bytes: usize) -> Answer;
     }
@@ -73,6 +91,12 @@ mod ofb {
         unsafe { ofb_judge(book.as_ptr(), book.len(), order.as_ptr(), order.len()) }
     }
 
+    /// Chooses the image to build an order with, by the book and a list of rules.
+    pub fn choose(book: &[u16], order: &[u16], rules: &[u16]) -> Image {
+        let (book, words) = (book.as_ptr(), book.len());
+        unsafe { ofb_choose(book, words, order.as_ptr(), order.len(), rules.as_ptr(), rules.len()) }
+    }
+
     /// Reads the text of an order form to the order's words, at the front of out.
     pub fn read_text(text: &[u8], out: &mut [u16]) -> Answer {
         unsafe { ofb_read_text(text.as_ptr(), text.len(), out.as_mut_ptr(), out.len()) }
@@ -89,6 +113,9 @@ const FORM_B: &str = "0 1000\n1 2000\n2 0016\n1 3000\n2 3001\n2 3002\n";
 const FORM_C: &str = "0 1000\n1 2000\n2 0010\n1 3000\n2 3001\n2 3002\n";
 const FORM_D: &str = "0 1000\n1 2000\n2 0010\n1 3000\n";
 const FORM_E: &str = "0 3000\n1 3001\n";
+
+/// Two rules, of one option each: 0010, the plain crystal, is built with image 7, and 0016, the oven, with 8.
+const CRYSTALS: [u16; 9] = [2, 7, 1, 10, 0, 8, 1, 16, 0];
 
 /// How many words each book has.
 const BOOK_WORDS: usize = 2000;
@@ -112,6 +139,9 @@ fn meaning(number: u16) -> &'static str {
         20 => "no order taught begins like this one",
         21 => "this option, with all that stands below it, is in no order taught",
         22 => "this option, with what the book sees below it, is in no order taught",
+        30 => "no rule fits the order",
+        31 => "two rules that fit the order name different images",
+        32 => "the words are no list of rules for a book that looks this deep",
         _ => "this program does not know the number",
     }
 }
@@ -247,8 +277,17 @@ fn print_neighbours(
     Ok(())
 }
 
+/// Prints the image that an order is built with, which the book passes.
+fn print_image(to: &mut dyn Write, book: &[u16], order: &[u16]) -> Result<(), Box<dyn Error>> {
+    let choice = ofb::choose(book, order, &CRYSTALS);
+    if choice.number != ofb::DONE {
+        return Err(refused("ofb_choose", choice.number, choice.line).into());
+    }
+    Ok(writeln!(to, "It is built with image {}.", choice.image)?)
+}
+
 /// Lets the book judge a form, and prints the form with a mark at the line that is doubted, and then what the book
-/// knows instead. The text of an order has at most 8 bytes for each option, as in "12 9999\n".
+/// knows instead, or the image. The text of an order has at most 8 bytes for each option, as in "12 9999\n".
 fn judge(to: &mut dyn Write, book: &[u16], name: &str, text: &str) -> Result<(), Box<dyn Error>> {
     let order = read_form(text)?;
     let verdict = ofb::judge(book, &order);
@@ -267,10 +306,11 @@ fn judge(to: &mut dyn Write, book: &[u16], name: &str, text: &str) -> Result<(),
         }
         writeln!(to)?;
     }
-    if !passes {
-        print_neighbours(to, book, &order, verdict)?;
+    if passes {
+        print_image(to, book, &order)
+    } else {
+        print_neighbours(to, book, &order, verdict)
     }
-    Ok(())
 }
 
 /// Prints how deep the book looks, and how much it holds.
