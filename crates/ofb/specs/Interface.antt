@@ -9,8 +9,10 @@ use Rattle.figures.specs.declared.Written.{Written}
 use Rattle.order.specs.Answers.{Writing, Piece}
 use Rattle.book.specs.Opening.{Outcome}
 use Rattle.book_judging.specs.declared.Judgement.{Judgement}
+use Rattle.book_choosing.specs.declared.Chosen.{Chosen}
 use Rattle.ofb.specs.declared.OfbAnswer.{OfbAnswer}
 use Rattle.ofb.specs.declared.OfbJudged.{OfbJudged}
+use Rattle.ofb.specs.declared.OfbImage.{OfbImage}
 use Rattle.ofb.specs.declared.OfbPart.{OfbPart}
 
 -- An answer, with nothing written to an output that is not a book.
@@ -32,6 +34,10 @@ toldJudgedOf j =
       «place_below» = j .near .low;
       «place_above» = j .near .high;
     }
+
+-- What choosing answers.
+abbrev pub toldImageOf : Chosen → OfbImage
+toldImageOf c = record { number = c .number; line = c .line; image = c .image }
 
 -- What a call answers in C, and the words or bytes of the slice that it may write, after it.
 pub record HandedToC : Type 0 where

@@ -1,4 +1,4 @@
-// The C interface of the library: the eleven functions of include/ofb.h, each of which calls the function below it and hands its answer on in C's
+// The C interface of the library: the twelve functions of include/ofb.h, each of which calls the function below it and hands its answer on in C's
 // numbers. A slice is a pointer and a length to C. Assumes nothing beyond each inner function's `requires`.
 ghost use mathlib.Core.Path.{_≡_};
 ghost use Prim.Native.Nat.{_^_, _<_};
@@ -6,13 +6,15 @@ ghost use Rattle.order.specs.Answers.{subtreeOf};
 ghost use Rattle.book.specs.Opening.{openOf};
 ghost use Rattle.section.specs.Near.{Small};
 ghost use Rattle.book_judging.specs.Expecting.{judgementOf};
+ghost use Rattle.book_choosing.specs.Choosing.{chooseOf};
 ghost use Rattle.book_teaching.specs.Calls.{teachOf, withdrawOf};
 ghost use Rattle.book_joining.specs.Joining.{joinOf};
 ghost use Rattle.book.specs.Checking.{agreeOf};
 ghost use Rattle.book_filing.specs.Files.{writeFileOf, readFileOf};
 ghost use Rattle.form.specs.Reading.{readOf};
 ghost use Rattle.form.specs.Writing.{writeOf};
-ghost use Rattle.ofb.specs.Interface.{toldOf, toldWrittenOf, toldJudgedOf, handed, outcomeInC, writingInC, partInC};
+ghost use Rattle.ofb.specs.Interface.{toldOf, toldWrittenOf, toldJudgedOf, toldImageOf, handed, outcomeInC, writingInC, partInC};
+use book_choosing::Chosen;
 use book_judging::Judgement;
 use figures::Answer;
 use figures::Written;
@@ -35,6 +37,14 @@ pub struct OfbJudged {
     pub there: u16,
     pub place_below: u16,
     pub place_above: u16,
+}
+
+// What choosing answers, as C has it: the number, the line, and the image, or 0.
+#[repr(C)]
+pub struct OfbImage {
+    pub number: u16,
+    pub line: u16,
+    pub image: u32,
 }
 
 // A part of an order, as C has it: the word at which it starts, and how many words it has.
@@ -85,6 +95,18 @@ fn told_judged(judged: Judgement) -> OfbJudged
     }
 }
 
+// What choosing answers, in C's numbers.
+fn told_image(chosen: Chosen) -> OfbImage
+    requires { ⌜ chosen .line < 2 ^ 16 ⌝ }
+    ensures { λ r. ⌜ r ≡ toldImageOf chosen ⌝ }
+{
+    OfbImage {
+        number: chosen.number,
+        line: chosen.line as u16,
+        image: chosen.image as u32,
+    }
+}
+
 // Opens an empty book: `book::open`.
 #[no_mangle]
 pub extern "C" fn ofb_open(book: &mut [u16], k: u16) -> OfbAnswer
@@ -128,6 +150,15 @@ pub extern "C" fn ofb_judge(book: &[u16], order: &[u16]) -> OfbJudged
 {
     let judged = book_judge::judge(book, order);
     told_judged(judged)
+}
+
+// Chooses the image to build an order with, by a book and a rule list: `book_choose::choose`.
+#[no_mangle]
+pub extern "C" fn ofb_choose(book: &[u16], order: &[u16], rules: &[u16]) -> OfbImage
+    ensures { λ r. ⌜ r ≡ toldImageOf (chooseOf (now (book .entry)) (now (order .entry)) (now (rules .entry))) ⌝ }
+{
+    let chosen = book_choose::choose(book, order, rules);
+    told_image(chosen)
 }
 
 // Whether a book agrees with itself: `book_check::check`.
