@@ -24,6 +24,7 @@ use Rattle.form.specs.Writing.{writeOf}
 use Rattle.book.specs.Decoding.{bookFormOf}
 use Rattle.book.specs.Opening.{outcome, openOf}
 use Rattle.book_judging.specs.Expecting.{judgementOf}
+use Rattle.book_choosing.specs.Choosing.{chooseOf}
 use Rattle.book_teaching.specs.Calls.{teachOf, withdrawOf}
 use Rattle.book_joining.specs.Joining.{joinOf}
 use Rattle.book.specs.Checking.{agreeOf}
@@ -39,6 +40,7 @@ use Rattle.form_write.proofs.write
 use Rattle.book_form.proofs.in_form as in-form
 use Rattle.book.proofs.open as book-open
 use Rattle.book_judge.proofs.judge
+use Rattle.book_choose.proofs.choose
 use Rattle.book_teach.proofs.teach
 use Rattle.book_teach.proofs.withdraw
 use Rattle.book_join.proofs.join
@@ -67,6 +69,8 @@ use Rattle.book.proofs.open.Statement as book-open-statement
 use Rattle.book.proofs.open.Met as book-open-met
 use Rattle.book_judge.proofs.judge.Statement as judge-statement
 use Rattle.book_judge.proofs.judge.Met as judge-met
+use Rattle.book_choose.proofs.choose.Statement as choose-statement
+use Rattle.book_choose.proofs.choose.Met as choose-met
 use Rattle.book_teach.proofs.teach.Statement as teach-statement
 use Rattle.book_teach.proofs.teach.Met as teach-met
 use Rattle.book_teach.proofs.withdraw.Statement as withdraw-statement
@@ -141,6 +145,10 @@ module _ {M : Type 1} where
   -- `book_judge::judge`
   pub judge-meets : judge-statement.statement M
   judge-meets = judge-met.met
+
+  -- `book_choose::choose`
+  pub choose-meets : choose-statement.statement M
+  choose-meets = choose-met.met
 
   -- `book_teach::teach`
   pub teach-meets : teach-statement.statement M
@@ -253,6 +261,11 @@ module _ {M : Type 1} (𝓤 : URA.URA M) (H : Wp.Heap 𝓤) (A : Atoms.Atoms �
   pub judge-says : (κs args g r : _) → let c = judge.spec 𝓤 H A mem run κs args in
       (c .ghost ≡ Unit {0}) × (c .requires g ≡ ⊤ₛ) × (c .ensures g r ≡ exits 𝓤 H A judge.signature (judge.ended .kept) κs args (λ end. ⌜ r ≡ judgementOf (now (args .0)) (now (args .1 .0)) ⌝))
   judge-says κs args g r = (refl, refl, refl)
+
+  -- `book_choose::choose`
+  pub choose-says : (κs args g r : _) → let c = choose.spec 𝓤 H A mem run κs args in
+      (c .ghost ≡ Unit {0}) × (c .requires g ≡ ⊤ₛ) × (c .ensures g r ≡ exits 𝓤 H A choose.signature (choose.ended .kept) κs args (λ end. ⌜ r ≡ chooseOf (now (args .0)) (now (args .1 .0)) (now (args .1 .1 .0)) ⌝))
+  choose-says κs args g r = (refl, refl, refl)
 
   -- `book_teach::teach`
   pub teach-says : (κs args g r : _) → let c = teach.spec 𝓤 H A mem run κs args in

@@ -1,5 +1,5 @@
--- What a program in C gets of the eleven functions of include/ofb.h: the theorems that the prover holds them to, what their contracts say, word for word (as
--- proofs/Contracts.antt does it for the functions below them), and that C gets number, line, count, what judging hands on and all that was lent as they are
+-- What a program in C gets of the twelve functions of include/ofb.h: the theorems that the prover holds them to, what their contracts say, word for word (as
+-- proofs/Contracts.antt does it for the functions below them), and that C gets number, line, count, what judging hands on, the image and all that was lent as they are
 -- below. So each demand holds of the C functions as it does of those below. Assumes nothing.
 use Prim.Native.Nat.{ℕ, _-_, _*_}
 use mathlib.Core.Path.{_≡_, refl, ap}
@@ -28,23 +28,28 @@ use Rattle.form.specs.Writing.{writeOf}
 use Rattle.book.specs.Opening.{Outcome, openOf}
 use Rattle.book_judging.specs.Expecting.{judgementOf}
 use Rattle.book_judging.specs.declared.Judgement.{Judgement}
+use Rattle.book_choosing.specs.Choosing.{chooseOf}
+use Rattle.book_choosing.specs.declared.Chosen.{Chosen}
 use Rattle.book_teaching.specs.Calls.{teachOf, withdrawOf}
 use Rattle.book_joining.specs.Joining.{joinOf}
 use Rattle.book.specs.Checking.{agreeOf}
 use Rattle.book_filing.specs.Files.{writeFileOf, readFileOf}
-use Rattle.ofb.specs.Interface.{toldOf, toldWrittenOf, toldJudgedOf, handed, outcomeInC, writingInC, partInC}
+use Rattle.ofb.specs.Interface.{toldOf, toldWrittenOf, toldJudgedOf, toldImageOf, handed, outcomeInC, writingInC, partInC}
 use Rattle.ofb.specs.declared.OfbAnswer.{OfbAnswer}
 use Rattle.ofb.specs.declared.OfbJudged.{OfbJudged}
+use Rattle.ofb.specs.declared.OfbImage.{OfbImage}
 use Rattle.ofb.specs.declared.OfbPart.{OfbPart}
 use Rattle.ofb.proofs.Parts.{part-none, part-some, part-stands}
 use Rattle.ofb.proofs.OfbAnswer as ofb-answer
 use Rattle.ofb.proofs.OfbJudged as ofb-judged
+use Rattle.ofb.proofs.OfbImage as ofb-image
 use Rattle.ofb.proofs.OfbPart as ofb-part
 use Rattle.ofb.proofs.ofb_open as ofb-open
 use Rattle.ofb.proofs.ofb_teach as ofb-teach
 use Rattle.ofb.proofs.ofb_withdraw as ofb-withdraw
 use Rattle.ofb.proofs.ofb_join as ofb-join
 use Rattle.ofb.proofs.ofb_judge as ofb-judge
+use Rattle.ofb.proofs.ofb_choose as ofb-choose
 use Rattle.ofb.proofs.ofb_check as ofb-check
 use Rattle.ofb.proofs.ofb_write_file as ofb-write-file
 use Rattle.ofb.proofs.ofb_read_file as ofb-read-file
@@ -61,6 +66,8 @@ use Rattle.ofb.proofs.ofb_join.Statement as ofb-join-statement
 use Rattle.ofb.proofs.ofb_join.Met as ofb-join-met
 use Rattle.ofb.proofs.ofb_judge.Statement as ofb-judge-statement
 use Rattle.ofb.proofs.ofb_judge.Met as ofb-judge-met
+use Rattle.ofb.proofs.ofb_choose.Statement as ofb-choose-statement
+use Rattle.ofb.proofs.ofb_choose.Met as ofb-choose-met
 use Rattle.ofb.proofs.ofb_check.Statement as ofb-check-statement
 use Rattle.ofb.proofs.ofb_check.Met as ofb-check-met
 use Rattle.ofb.proofs.ofb_write_file.Statement as ofb-write-file-statement
@@ -96,6 +103,10 @@ module _ {M : Type 1} where
   -- `ofb_judge`
   pub ofb-judge-meets : ofb-judge-statement.statement M
   ofb-judge-meets = ofb-judge-met.met
+
+  -- `ofb_choose`
+  pub ofb-choose-meets : ofb-choose-statement.statement M
+  ofb-choose-meets = ofb-choose-met.met
 
   -- `ofb_check`
   pub ofb-check-meets : ofb-check-statement.statement M
@@ -150,6 +161,11 @@ module _ {M : Type 1} (𝓤 : URA.URA M) (H : Wp.Heap 𝓤) (A : Atoms.Atoms �
   pub ofb-judge-says : (κs args g r : _) → let c = ofb-judge.spec 𝓤 H A mem run κs args in
       (c .ghost ≡ Unit {0}) × (c .requires g ≡ ⊤ₛ) × (c .ensures g r ≡ exits 𝓤 H A ofb-judge.signature (ofb-judge.ended .kept) κs args (λ end. ⌜ r ≡ toldJudgedOf (judgementOf (now (args .0)) (now (args .1 .0))) ⌝))
   ofb-judge-says κs args g r = (refl, refl, refl)
+
+  -- `ofb_choose`
+  pub ofb-choose-says : (κs args g r : _) → let c = ofb-choose.spec 𝓤 H A mem run κs args in
+      (c .ghost ≡ Unit {0}) × (c .requires g ≡ ⊤ₛ) × (c .ensures g r ≡ exits 𝓤 H A ofb-choose.signature (ofb-choose.ended .kept) κs args (λ end. ⌜ r ≡ toldImageOf (chooseOf (now (args .0)) (now (args .1 .0)) (now (args .1 .1 .0))) ⌝))
+  ofb-choose-says κs args g r = (refl, refl, refl)
 
   -- `ofb_check`
   pub ofb-check-says : (κs args g r : _) → let c = ofb-check.spec 𝓤 H A mem run κs args in
@@ -223,6 +239,19 @@ told-judged-back j i e =
         (record { answer = record { number = m; line = k }; near = near b y q w })
     same f g h t c d = cc
 
+-- Of what choosing answers C gets the number, the line and the image as they are.
+pub told-image-as-it-is : (c : Chosen) → (toldImageOf c .number ≡ c .number) × (toldImageOf c .line ≡ c .line) × (toldImageOf c .image ≡ c .image)
+told-image-as-it-is c = (refl, refl, refl)
+
+-- So nothing of it is lost: two that C gets as the same are the same.
+pub told-image-back : (c d : Chosen) → toldImageOf c ≡ toldImageOf d → c ≡ d
+told-image-back c d e = same (ap (λ (i : OfbImage). i .number) e) (ap (λ (i : OfbImage). i .line) e) (ap (λ (i : OfbImage). i .image) e)
+  where
+    -- Those of the same figures are the same.
+    same : {n m l k a b : ℕ} → n ≡ m → l ≡ k → a ≡ b
+        → _≡_ {A = Chosen} (record { number = n; line = l; image = a }) (record { number = m; line = k; image = b })
+    same f g h = cc
+
 -- A call that may write a book tells C its answer so, and leaves the words that the function below leaves.
 pub outcome-as-it-is : (o : Outcome) → (outcomeInC o .answer ≡ toldOf (o .answer)) × (outcomeInC o .lent ≡ o .words)
 outcome-as-it-is o = (refl, refl)
@@ -242,6 +271,11 @@ answer-laid = (refl, λ a. refl)
 pub judged-laid : (ofb-judged.struct .parts ≡ Field.u16-field ∷ Field.u16-field ∷ Field.u16-field ∷ Field.u16-field ∷ Field.u16-field ∷ Field.u16-field ∷ [])
     × ((j : OfbJudged) → ofb-judged.struct .as-values j ≡ (j .number, (j .line, (j .below, (j .there, (j .«place_below», (j .«place_above», tt)))))))
 judged-laid = (refl, λ j. refl)
+
+-- What choosing answers lies there as a number of 16 bits, a line of 16 bits and an image of 32, in this order.
+pub image-laid : (ofb-image.struct .parts ≡ Field.u16-field ∷ Field.u16-field ∷ Field.u32-field ∷ [])
+    × ((i : OfbImage) → ofb-image.struct .as-values i ≡ (i .number, (i .line, (i .image, tt))))
+image-laid = (refl, λ i. refl)
 
 -- A part lies there as its start and how many words it has, of 32 bits each, in this order.
 pub part-laid : (ofb-part.struct .parts ≡ Field.u32-field ∷ Field.u32-field ∷ []) × ((p : OfbPart) → ofb-part.struct .as-values p ≡ (p .start, (p .words, tt)))

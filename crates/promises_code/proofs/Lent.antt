@@ -17,6 +17,7 @@ use Rattle.form_write.proofs.write
 use Rattle.book_form.proofs.in_form as in-form
 use Rattle.book.proofs.open as book-open
 use Rattle.book_judge.proofs.judge
+use Rattle.book_choose.proofs.choose
 use Rattle.book_teach.proofs.teach
 use Rattle.book_teach.proofs.withdraw
 use Rattle.book_join.proofs.join
@@ -31,6 +32,7 @@ use Rattle.ofb.proofs.ofb_teach as ofb-teach
 use Rattle.ofb.proofs.ofb_withdraw as ofb-withdraw
 use Rattle.ofb.proofs.ofb_join as ofb-join
 use Rattle.ofb.proofs.ofb_judge as ofb-judge
+use Rattle.ofb.proofs.ofb_choose as ofb-choose
 use Rattle.ofb.proofs.ofb_check as ofb-check
 use Rattle.ofb.proofs.ofb_write_file as ofb-write-file
 use Rattle.ofb.proofs.ofb_read_file as ofb-read-file
@@ -100,6 +102,10 @@ book-open-lent = refl
 pub judge-lent : judge.signature .params ≡ words-read 0 tt ∷ words-read 1 tt ∷ []
 judge-lent = refl
 
+-- `book_choose::choose`
+pub choose-lent : choose.signature .params ≡ words-read 0 tt ∷ words-read 1 tt ∷ words-read 2 tt ∷ []
+choose-lent = refl
+
 -- `book_teach::teach`
 pub teach-lent : teach.signature .params ≡ words-written 0 tt ∷ words-read 1 tt ∷ []
 teach-lent = refl
@@ -157,6 +163,10 @@ ofb-join-lent = refl
 -- `ofb_judge`
 pub ofb-judge-lent : ofb-judge.signature .params ≡ words-read 0 tt ∷ words-read 1 tt ∷ []
 ofb-judge-lent = refl
+
+-- `ofb_choose`
+pub ofb-choose-lent : ofb-choose.signature .params ≡ words-read 0 tt ∷ words-read 1 tt ∷ words-read 2 tt ∷ []
+ofb-choose-lent = refl
 
 -- `ofb_check`
 pub ofb-check-lent : ofb-check.signature .params ≡ words-read 0 tt ∷ []
