@@ -4,8 +4,8 @@
 -- That a call ends, reads and writes only within what it was lent and wraps no sum is the theorem of each function, which the prover checks before it
 -- passes a crate: promises_code/proofs/Contracts.antt cites those of the public functions (`teach-meets` and the like), and shows that their
 -- contracts ask nothing and say just the equations that stand here (`teach-says` and the like). What is lent by `&` comes back as it was, by the
--- same theorem: so `order_check::check`, `order_cuts::subtree`, `book_form::in_form`, `book_judge::judge`, `book_check::check` and
--- `desk_input::opening`, which are lent nothing to write (promises_code/proofs/Lent.antt), change nothing. Of what the others leave this file
+-- same theorem: so `order_check::check`, `order_cuts::subtree`, `book_form::in_form`, `book_judge::judge`, `book_choose::choose`, `book_check::check`
+-- and `desk_input::opening`, which are lent nothing to write (promises_code/proofs/Lent.antt), change nothing. Of what the others leave this file
 -- speaks. Assumes nothing.
 use Prim.Native.Nat.{ℕ, suc, _-_, _≤_, _<_}
 use mathlib.Core.Path.{_≡_, refl, sym, ap, subst, _∙_}
