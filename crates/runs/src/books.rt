@@ -5,6 +5,7 @@
 //   teach W W ..      the order of these words is taught to the kept book
 //   withdraw W W ..   the order of these words is withdrawn from it
 //   ask W W ..        the order of these words is judged by it; this also says what the book expected
+//   choose N W W ..   the image for an order, the first N words behind N, is chosen by it and by the rule list that the others are
 //   agrees            it is checked to agree with itself
 //   join              the other book, with which it changes places by `swap`, is joined to it
 //   show              says every word of it
@@ -148,6 +149,25 @@ pub fn ask(given: &[u16], held: &[u16]) {
     say::word(judged.place_below);
     say::text(b" and ");
     say::word(judged.place_above);
+    say::text(b", ");
+    state(kept::all(held));
+}
+
+// Runs a case of `choose`: says the answer, the image, and how the book stands.
+pub fn choose(given: &[u16], held: &[u16]) {
+    if given.len() == 0 {
+        say::not_understood();
+        return;
+    }
+    let end = 1 + wide::number(given[0]);
+    if given.len() < end {
+        say::not_understood();
+        return;
+    }
+    let chosen = ofb::ofb_choose(kept::all(held), &given[1..end], &given[end..]);
+    say::heard(chosen.number, chosen.line as usize);
+    say::text(b", image ");
+    say::count(chosen.image as usize);
     say::text(b", ");
     state(kept::all(held));
 }

@@ -25,6 +25,7 @@ fn with_words(kind: u64, given: &[u16], book: &mut [u16], other: &mut [u16], fil
         kinds::SHOW => books::show(given, book),
         kinds::TEACH | kinds::WITHDRAW | kinds::AGREES => books::call(kind, given, book),
         kinds::ASK => books::ask(given, book),
+        kinds::CHOOSE => books::choose(given, book),
         kinds::JOIN => books::join(given, book, other),
         kinds::FILE => stored::lay(given, 0, file),
         kinds::MORE => stored::more(given, file),

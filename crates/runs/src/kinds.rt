@@ -35,6 +35,8 @@ pub const WITHDRAW: u64 = 23_09_20_08_04_18_01_23;
 
 pub const ASK: u64 = 1_19_11;
 
+pub const CHOOSE: u64 = 3_08_15_15_19_05;
+
 pub const AGREES: u64 = 1_07_18_05_05_19;
 
 pub const JOIN: u64 = 10_15_09_14;
