@@ -9,7 +9,8 @@ ghost use Rattle.order.specs.Reading.{causeOf};
 ghost use Rattle.order.specs.Levels.{LinesLevelled};
 ghost use Rattle.order.specs.Spans.{GoneOver};
 ghost use Rattle.book_choosing.specs.Choosing.{unchosen, chooseOf};
-ghost use Rattle.book_choosing.specs.Walking.{ruleAtOf, cutFrom, alsoOf, toldOf, chosenFor};
+ghost use Rattle.words.specs.Base.{if_then_else_};
+ghost use Rattle.book_choosing.specs.Walking.{ruleAtOf, cutFrom, alsoOf, wouldChange, toldOf, chosenFor};
 use book_choosing::Chosen;
 use book_choosing::Named;
 use book_choosing::RuleAt;
@@ -92,6 +93,41 @@ fn also(named: Named, image: u16) -> Named
     }
 }
 
+// Whether a rule with this image would change what is named: not where two differ already, and not where it is named already.
+fn would_change(named: Named, image: u16) -> bool
+    ensures { λ r. ⌜ r ≡ wouldChange named image ⌝ }
+{
+    match named {
+        Named::Nothing => true,
+        Named::One(first) => image != first,
+        Named::Two => false,
+    }
+}
+
+// What is named once a rule was looked at too. Whether it fits is found out only where that matters.
+fn with_rule(
+    order: &[u16],
+    spans: &[u16],
+    levels: &[u8],
+    d: usize,
+    named: Named,
+    image: u16,
+    tree: &[u16],
+) -> Named
+    requires { ⌜ GoneOver (now order) (now spans) ⌝ }
+    requires { ⌜ LinesLevelled (now order) (now levels) ⌝ }
+    requires { ⌜ 0 < length (now tree) ⌝ }
+    ensures { λ r. ⌜ r ≡ (if cutFrom (now (order .entry)) d (now (tree .entry)) 0 then alsoOf named image else named) ⌝ }
+{
+    if !would_change(named, image) {
+        return named;
+    }
+    if has_cut(order, spans, levels, d, tree) {
+        return also(named, image);
+    }
+    named
+}
+
 // What is chosen by what the rules that fit name.
 fn told(named: Named) -> Chosen
     ensures { λ r. ⌜ r ≡ toldOf named ⌝ }
@@ -130,10 +166,9 @@ fn by_rules(order: &[u16], spans: &[u16], levels: &[u8], k: Depth, rules: &[u16]
         let RuleAt::Ends(end) = rule_at(rules, at, k, &mut stack) else {
             return unchosen(numbers::NO_RULES);
         };
-        let start = at + 2;
-        if has_cut(order, spans, levels, d, &rules[start..end]) {
-            named = also(named, rules[at]);
-        }
+        let image = rules[at];
+        let tree = &rules[at + 2..end];
+        named = with_rule(order, spans, levels, d, named, image, tree);
         at = end;
         left -= 1;
     }

@@ -20,7 +20,7 @@ use Rattle.order.proofs.Causes.{has-tree}
 use Rattle.order.proofs.Writing.{two}
 use Rattle.book_choosing.specs.Rules.{ImageRule, soundRule, ruleBefore, rulesFrom, rulesOf, byRules}
 use Rattle.book_choosing.specs.Choosing.{ruleFits, imagesFor, unchosen, allAre, oneImage, chosenBy}
-use Rattle.book_choosing.specs.Walking.{rulePast, ruleWithin, ruleAtOf, cutFrom, alsoOf, alsoAll, toldOf, chosenFor, chosenFrom}
+use Rattle.book_choosing.specs.Walking.{rulePast, ruleWithin, ruleAtOf, cutFrom, alsoOf, wouldChange, alsoAll, toldOf, chosenFor, chosenFrom}
 use Rattle.book_choosing.specs.declared.Chosen.{Chosen}
 use Rattle.book_choosing.specs.declared.RuleAt.{RuleAt}
 use Rattle.book_choosing.specs.declared.RuleAt.the-variants.{NoRule, Ends}
@@ -136,6 +136,19 @@ unfolding soundRule _and_
 image-sound k r l g = rw (le-leb least-image (r .image) l, le-leb (r .image) greatest-image g)
 
 -- ---- what is named
+
+-- A rule that would not change what is named leaves it.
+pub named-stays : (named : Named) (i : ℕ) → wouldChange named i ≡ false → alsoOf named i ≡ named
+unfolding wouldChange alsoOf if_then_else_
+named-stays Nothing i e = no-test (sym e)
+named-stays (One j) i e = by-test (eqb i j) (λ h. rw h) (λ h. no-test (sym (rw h at e)))
+named-stays Two i e = refl
+
+-- Whether such a rule fits does not matter.
+pub fits-or-not : (b : Bool) (named : Named) (i : ℕ) → alsoOf named i ≡ named → named ≡ (if b then alsoOf named i else named)
+unfolding if_then_else_
+fits-or-not true named i e = sym e
+fits-or-not false named i e = refl
 
 -- Once two differ nothing changes that.
 two-stay : (is : List ℕ) → alsoAll Two is ≡ Two
@@ -278,11 +291,11 @@ module _ (k : ℕ) (os rs : List ℕ) (sound : causeOf os ≡ done) where
           go none = refl
           go (some l) = ap toldOf (f l)
 
-      -- One that fits is named too.
-      pub rule-fits : cutFrom os (k - 1) (rule .tree) 0 ≡ true → chosenFrom k os rs named left at ≡ chosenFrom k os rs (alsoOf named (getD rs at 0)) (left - 1) end
-      unfolding alsoAll
-      rule-fits e = behind (alsoOf named (getD rs at 0)) (λ l. ap (alsoAll named) (images-fit k t rule l (fits-by-cut ∙ e)))
-
-      -- Any other is passed over.
-      pub rule-passed : cutFrom os (k - 1) (rule .tree) 0 ≡ false → chosenFrom k os rs named left at ≡ chosenFrom k os rs named (left - 1) end
-      rule-passed e = behind named (λ l. ap (alsoAll named) (images-past k t rule l (fits-by-cut ∙ e)))
+      -- It is named too if it fits.
+      pub rule-looked-at : chosenFrom k os rs named left at
+          ≡ chosenFrom k os rs (if cutFrom os (k - 1) (rule .tree) 0 then alsoOf named (getD rs at 0) else named) (left - 1) end
+      unfolding alsoAll if_then_else_
+      rule-looked-at =
+          by-test (cutFrom os (k - 1) (rule .tree) 0)
+          (λ e. rw e (behind (alsoOf named (getD rs at 0)) (λ l. ap (alsoAll named) (images-fit k t rule l (fits-by-cut ∙ e)))))
+          (λ e. rw e (behind named (λ l. ap (alsoAll named) (images-past k t rule l (fits-by-cut ∙ e)))))

@@ -1,7 +1,7 @@
 -- Inner: no promise rests on these definitions.
 -- What the functions of `book_choose` find at each rule and at each line. Assumes nothing: these are definitions.
 use Prim.Native.Nat.{ℕ, _+_, _*_, _-_}
-use mathlib.Core.Bool.{Bool, false, not}
+use mathlib.Core.Bool.{Bool, true, false, not}
 use mathlib.Core.List.{List, [], _∷_, map}
 use lib.Dec.{leb, eqb}
 use lib.ListN.{length, getD, take, drop}
@@ -42,6 +42,12 @@ unfoldable pub alsoOf : Named → ℕ → Named
 alsoOf Nothing i = One i
 alsoOf (One j) i = if eqb i j then One j else Two
 alsoOf Two i = Two
+
+-- Whether one more rule with this image changes what is named.
+unfoldable pub wouldChange : Named → ℕ → Bool
+wouldChange Nothing i = true
+wouldChange (One j) i = not (eqb i j)
+wouldChange Two i = false
 
 -- What is chosen by what is named.
 unfoldable pub toldOf : Named → Chosen

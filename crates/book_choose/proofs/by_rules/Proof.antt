@@ -1,17 +1,17 @@
 -- `book_choose::by_rules` meets its contract: at each rule the rules left and what is named so far decide. Assumes nothing.
 use Prim.Native.Nat.{ℕ, _+_, _-_, _≤_}
 use mathlib.Core.Path.{_≡_, refl, ap, ap₂, sym, _∙_}
-use mathlib.Core.Logic.{⊎-elim}
 use native.Mathlib.Omega.{arith}
 use borrow.Author.Needs.{needs}
-use lib.ListN.{length, drop, length-drop}
+use lib.ListN.{length, getD, drop, length-drop}
 use lib.Seq.{length-take-le}
+use Rattle.words.specs.Base.{if_then_else_}
 use Rattle.figures.specs.Limits.{most-nodes}
-use Rattle.book_choosing.specs.Walking.{ruleWithin, cutFrom, chosenFor, chosenFrom}
+use Rattle.book_choosing.specs.Walking.{ruleWithin, cutFrom, alsoOf, chosenFor, chosenFrom}
 use Rattle.book_choosing.specs.declared.Chosen.{Chosen}
 use Rattle.book_choosing.specs.declared.RuleAt.the-variants.{NoRule}
 use Rattle.book_choosing.specs.declared.Named.{Named}
-use Rattle.book_choosing.proofs.Turns.{OneThere, AtRule, rule-found, no-words, too-many-rules, all-left, words-behind, all-looked-at, no-rule, rule-fits, rule-passed}
+use Rattle.book_choosing.proofs.Turns.{OneThere, AtRule, rule-found, no-words, too-many-rules, all-left, words-behind, all-looked-at, no-rule, rule-looked-at}
 use Rattle.book_choose.proofs.by_rules.Statement.{statement}
 use Rattle.book_choose.proofs.by_rules.Tie as tie
 
@@ -64,35 +64,35 @@ stands : (c : tie.After-known-told Inv-loop μ-loop) →
     OneThere (a .k .k) (a .rules .now) (l .loop .at) (c .before .end .given .0 .0)
 stands c = rule-found _ _ _ _ _ (c .before .before .before .before .rule-at .ensures .0) (c .before .end .given .1)
 
-add-start : tie.Need-add-start Inv-loop μ-loop
-add-start c = let s = stands c in omega (arith, s .some-nodes, s .lies)
+mul-image : tie.Need-mul-image Inv-loop μ-loop
+mul-image c = let s = stands c in omega (arith, s .some-nodes, s .lies)
 
-mul-has-cut : tie.Need-mul-has-cut Inv-loop μ-loop
-mul-has-cut c = let s = stands c in omega (arith, s .some-nodes, s .lies)
+shared-slice-read-image : tie.Need-shared-slice-read-image Inv-loop μ-loop
+shared-slice-read-image c = let s = stands (c .before) in omega (arith, s .some-nodes, s .lies)
 
-sub-has-cut : tie.Need-sub-has-cut Inv-loop μ-loop
-sub-has-cut c = let s = stands c in omega (arith, s .some-nodes, s .lies)
+add-tree : tie.Need-add-tree Inv-loop μ-loop
+add-tree c = let s = stands (c .before) in omega (arith, s .some-nodes, s .lies)
 
-part-has-cut-start : tie.Need-part-has-cut-start Inv-loop μ-loop
-part-has-cut-start c = let s = stands c in omega (arith, s .some-nodes, s .lies)
+mul-tree : tie.Need-mul-tree Inv-loop μ-loop
+mul-tree c = let s = stands (c .before) in omega (arith, s .some-nodes, s .lies)
 
-part-has-cut-end : tie.Need-part-has-cut-end Inv-loop μ-loop
-part-has-cut-end c = stands c .lies
+sub-tree : tie.Need-sub-tree Inv-loop μ-loop
+sub-tree c = let s = stands (c .before) in omega (arith, s .some-nodes, s .lies)
 
-has-cut-requires : tie.Need-has-cut-requires Inv-loop μ-loop
-has-cut-requires c κs =
-    let t = stands (c .before) in
-    let l = c .before .before .before .before .before .before .before .before in
+part-tree-start : tie.Need-part-tree-start Inv-loop μ-loop
+part-tree-start c = let s = stands (c .before) in omega (arith, s .some-nodes, s .lies)
+
+part-tree-end : tie.Need-part-tree-end Inv-loop μ-loop
+part-tree-end c = stands (c .before) .lies
+
+with-rule-requires : tie.Need-with-rule-requires Inv-loop μ-loop
+with-rule-requires c κs =
+    let t = stands (c .before .before) in
+    let l = c .before .before .before .before .before .before .before .before .before in
     let s = l .before .before .before .before .before .before .before .before .before in
     let rest = length-drop (l .loop .at + 2) (s .args .rules .now) in
-    let long = length-take-le (c .before .before .end .given .0 .0 - (l .loop .at + 2)) (drop (l .loop .at + 2) (s .args .rules .now)) (omega (arith, t .lies, rest)) in
+    let long = length-take-le (c .before .before .before .end .given .0 .0 - (l .loop .at + 2)) (drop (l .loop .at + 2) (s .args .rules .now)) (omega (arith, t .lies, rest)) in
     (s .pre .0, (s .pre .1 .0, omega (arith, t .some-nodes, long)))
-
-mul-also : tie.Need-mul-also Inv-loop μ-loop
-mul-also c = let s = stands (c .before .before .before) in omega (arith, s .some-nodes, s .lies)
-
-shared-slice-read-also : tie.Need-shared-slice-read-also Inv-loop μ-loop
-shared-slice-read-also c = let s = stands (c .before .before .before .before) in omega (arith, s .some-nodes, s .lies)
 
 loop-less : tie.Need-loop-less Inv-loop μ-loop
 loop-less c = omega (arith, c .before .before .before .before .before .before .before .before .before .loop-test .taken)
@@ -103,18 +103,17 @@ loop-again c =
     let r = c .before .before .before .before .before .before .before in
     let l = r .before .before .before in
     let s = l .before .before .before .before .before .before .before .before .before in
-    let more = r .before .before .loop-test .taken in
     let end = c .before .before .before .before .end .given .0 .0 in
-    let d = l .before .of-middles .ensures in
     let tree = ruleWithin (s .args .rules .now) (l .loop .at) end .tree in
-    let on : Named → Chosen = λ n. chosenFrom (s .args .k .k) (s .args .order .now) (s .args .rules .now) n (l .loop .left - 1) end in
-    let cut = sym (ap (λ (n : ℕ). cutFrom (s .args .order .now) n tree 0) d) ∙ sym (c .before .has-cut .ensures) in (
+    let also : Named = alsoOf (l .loop .named) (getD (s .args .rules .now) (l .loop .at) 0) in
+    let with-cut : ℕ → Chosen = λ d.
+    chosenFrom (s .args .k .k) (s .args .order .now) (s .args .rules .now) (if cutFrom (s .args .order .now) d tree 0 then also else l .loop .named) (l .loop .left - 1) end in (
       t .lies,
       r .rule-at .ensures .1 ∙ l .loop .inv .1,
-      l .loop .inv .2 ∙ ⊎-elim
-          (λ w. rule-fits _ _ _ (s .pre .0 .sound) _ _ _ more _ (s .pre .1 .1 .0) t (cut ∙ w .0 .taken) ∙ ap on (sym (w .2 .ensures) ∙ sym (w .3)))
-          (λ w. rule-passed _ _ _ (s .pre .0 .sound) _ _ _ more _ (s .pre .1 .1 .0) t (cut ∙ w .0 .left) ∙ ap on (sym (w .1)))
-          (c .if3 .came),
+      l .loop .inv .2
+          ∙ rule-looked-at _ _ _ (s .pre .0 .sound) _ _ _ (r .before .before .loop-test .taken) _ (s .pre .1 .1 .0) t
+          ∙ ap with-cut (sym (l .before .of-middles .ensures))
+          ∙ ap (λ (n : Named). chosenFrom (s .args .k .k) (s .args .order .now) (s .args .rules .now) n (l .loop .left - 1) end) (sym (c .with-rule .ensures)),
     )
 
 returns-4 : tie.Need-returns-4 Inv-loop μ-loop
@@ -125,7 +124,7 @@ returns-4 c =
     c .unchosen4 .ensures
     ∙ sym (l .loop .inv .2
     ∙ ap (λ (n : ℕ). chosenFrom (s .args .k .k) (s .args .order .now) (s .args .rules .now) (l .loop .named) n (l .loop .at)) none
-    ∙ words-behind _ _ _ (s .pre .0 .sound) _ _ (omega (arith, l .loop .inv .0, c .before .if4 .taken)))
+    ∙ words-behind _ _ _ (s .pre .0 .sound) _ _ (omega (arith, l .loop .inv .0, c .before .if3 .taken)))
 
 returns-5 : tie.Need-returns-5 Inv-loop μ-loop
 returns-5 c =
@@ -134,7 +133,7 @@ returns-5 c =
     let none : l .loop .left ≡ 0 = omega (arith, c .before .before .loop-test .left) in
     c .told .ensures
     ∙ sym (l .loop .inv .2
-    ∙ ap₂ (λ (n at : ℕ). chosenFrom (s .args .k .k) (s .args .order .now) (s .args .rules .now) (l .loop .named) n at) none (c .before .if4 .left)
+    ∙ ap₂ (λ (n at : ℕ). chosenFrom (s .args .k .k) (s .args .order .now) (s .args .rules .now) (l .loop .named) n at) none (c .before .if3 .left)
     ∙ all-looked-at _ _ _ (s .pre .0 .sound) _)
 
 pub by-rules-spec : {M : Type 1} → statement M
@@ -154,15 +153,15 @@ by-rules-spec =
     rule-at-requires
     (λ c. search needs) (λ c. search needs) (λ c κs. search needs)
     returns-3
-    add-start
-    mul-has-cut
-    sub-has-cut
-    part-has-cut-start
-    part-has-cut-end
-    has-cut-requires
-    mul-also
-    shared-slice-read-also
-    (λ c κs. search needs) (λ c. search needs)
+    mul-image
+    shared-slice-read-image
+    add-tree
+    mul-tree
+    sub-tree
+    part-tree-start
+    part-tree-end
+    with-rule-requires
+    (λ c. search needs)
     loop-less
     loop-again
     (λ c κs. search needs)
