@@ -32,6 +32,7 @@ enum {
     CHOSEN_IMAGE = 7,           /* the image of all rules that fit; each other rule has one of its own */
     OTHER_IMAGES = 100,
     KINDS = 3,                  /* judging, and choosing by few and by many rules */
+    DESK_SIZE = 8000,           /* a book of about as many words as the desk's, which is 8,192 */
     TRIES = 400                 /* orders tried where the book is nearly as large as it should be */
 };
 
@@ -696,15 +697,23 @@ static void print_choices(const char *function, unsigned kind, unsigned shape)
     }
 }
 
-/* Prints the greatest time of choosing by the longer list, measured by judging, in the library. */
-static void print_greatest_choice(void)
+/* Gives the size of book and of order at which choosing by the longer list takes longest, measured by judging, of books of at least so many words. */
+static const struct choice *greatest_choice(unsigned least)
 {
-    const struct choice *greatest = &choices[0];
-    for (unsigned i = 1; i < SHAPES * SIZES; i++)
-        if (by_judging(&choices[i], KINDS - 1, 0) > by_judging(greatest, KINDS - 1, 0))
+    const struct choice *greatest = NULL;
+    for (unsigned i = 0; i < SHAPES * SIZES; i++)
+        if (choices[i].size >= least && (!greatest || by_judging(&choices[i], KINDS - 1, 0) > by_judging(greatest, KINDS - 1, 0)))
             greatest = &choices[i];
-    printf("Choosing by %d rules takes at most %.2f times as long as judging (some %u words used, %u nodes).\n", RULES,
-        by_judging(greatest, KINDS - 1, 0), greatest->size, greatest->nodes);
+    return greatest;
+}
+
+/* Prints the greatest time of choosing by the longer list, measured by judging, in the library: by books as large as a desk's, and by all. */
+static void print_greatest_choices(void)
+{
+    const struct choice *desk = greatest_choice(DESK_SIZE), *any = greatest_choice(0);
+    printf("Choosing by %d rules takes at most %.2f times as long as judging by books of %d words and more (some %u words used, %u nodes),\n"
+        "and at most %.2f times by smaller ones (some %u words used, %u nodes), where the list is nearly as long as the book.\n", RULES,
+        by_judging(desk, KINDS - 1, 0), DESK_SIZE, desk->size, desk->nodes, by_judging(any, KINDS - 1, 0), any->size, any->nodes);
 }
 
 /* Prints the head of a table that has two columns for each size of book. */
@@ -767,7 +776,7 @@ static void print_all(void)
         for (unsigned shape = 0; shape < SHAPES; shape++)
             print_choices(by_order[ordered - KINDS + kind], kind, shape);
     printf("\n");
-    print_greatest_choice();
+    print_greatest_choices();
     print_summary();
 }
 

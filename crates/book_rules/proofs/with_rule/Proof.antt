@@ -1,11 +1,11 @@
--- `book_choose::with_rule` meets its contract: a rule that would not change what is named leaves it, fitting or not. Assumes nothing.
+-- `book_rules::with_rule` meets its contract: a rule that would not change what is named leaves it, fitting or not. Assumes nothing.
 use mathlib.Core.Path.{_≡_, refl, sym, _∙_}
 use borrow.Author.Tests.{not-true}
 use borrow.Author.Needs.{needs}
 use Rattle.words.specs.Base.{if_then_else_}
 use Rattle.book_choosing.proofs.Turns.{named-stays, fits-or-not}
-use Rattle.book_choose.proofs.with_rule.Statement.{statement}
-use Rattle.book_choose.proofs.with_rule.Tie as tie
+use Rattle.book_rules.proofs.with_rule.Statement.{statement}
+use Rattle.book_rules.proofs.with_rule.Tie as tie
 
 returns : tie.Need-returns
 returns c = fits-or-not _ _ _ (named-stays _ _ (sym (c .before .would-change .ensures) ∙ not-true _ (c .if1 .taken)))

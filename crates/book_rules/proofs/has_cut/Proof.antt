@@ -1,4 +1,4 @@
--- `book_choose::has_cut` meets its contract: at each line the lines left decide. Assumes nothing.
+-- `book_rules::has_cut` meets its contract: at each line the lines left decide. Assumes nothing.
 use Prim.Native.Nat.{_-_}
 use mathlib.Core.Path.{_≡_, refl, sym, _∙_}
 use mathlib.Core.Logic.{⊎-elim}
@@ -6,8 +6,8 @@ use native.Mathlib.Omega.{arith}
 use borrow.Author.Needs.{needs}
 use Rattle.book_choosing.specs.Walking.{cutFrom}
 use Rattle.book_choosing.proofs.Cuts.{cut-none, cut-here, cut-past, code-past}
-use Rattle.book_choose.proofs.has_cut.Statement.{statement}
-use Rattle.book_choose.proofs.has_cut.Tie as tie
+use Rattle.book_rules.proofs.has_cut.Statement.{statement}
+use Rattle.book_rules.proofs.has_cut.Tie as tie
 
 -- Whether one of all lines has the cut is whether one of those left has it.
 abbrev Inv-loop : tie.InvT-loop

@@ -1,11 +1,11 @@
--- `book_choose::also` meets its contract, by what was named. Assumes nothing.
+-- `book_rules::also` meets its contract, by what was named. Assumes nothing.
 use mathlib.Core.Path.{_≡_, refl}
 use borrow.Author.Tests.{eq-eqb, ne-eqb}
 use borrow.Author.Needs.{needs}
 use Rattle.words.specs.Base.{if_then_else_}
 use Rattle.book_choosing.specs.Walking.{alsoOf}
-use Rattle.book_choose.proofs.also.Statement.{statement}
-use Rattle.book_choose.proofs.also.Tie as tie
+use Rattle.book_rules.proofs.also.Statement.{statement}
+use Rattle.book_rules.proofs.also.Tie as tie
 
 returns : tie.Need-returns
 unfolding alsoOf

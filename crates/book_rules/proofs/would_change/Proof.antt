@@ -1,9 +1,9 @@
--- `book_choose::would_change` meets its contract, by what is named. Assumes nothing.
+-- `book_rules::would_change` meets its contract, by what is named. Assumes nothing.
 use mathlib.Core.Path.{_≡_, refl}
 use borrow.Author.Needs.{needs}
 use Rattle.book_choosing.specs.Walking.{wouldChange}
-use Rattle.book_choose.proofs.would_change.Statement.{statement}
-use Rattle.book_choose.proofs.would_change.Tie as tie
+use Rattle.book_rules.proofs.would_change.Statement.{statement}
+use Rattle.book_rules.proofs.would_change.Tie as tie
 
 returns : tie.Need-returns
 unfolding wouldChange

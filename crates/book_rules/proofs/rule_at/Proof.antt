@@ -1,4 +1,4 @@
--- `book_choose::rule_at` meets its contract: each test that led to a return tells what stands at the word. Assumes nothing.
+-- `book_rules::rule_at` meets its contract: each test that led to a return tells what stands at the word. Assumes nothing.
 use Prim.Native.Nat.{_+_, _-_}
 use mathlib.Core.Path.{_≡_, refl, ap, sym, _∙_}
 use mathlib.Core.Bool.{Bool}
@@ -10,8 +10,8 @@ use Rattle.order.specs.Fits.{fitsOf}
 use Rattle.book_choosing.specs.Rules.{soundRule}
 use Rattle.book_choosing.specs.Walking.{rulePast, ruleWithin}
 use Rattle.book_choosing.proofs.Turns.{told-short, told-cut-off, told-fault, told-rule, image-fault, image-sound}
-use Rattle.book_choose.proofs.rule_at.Statement.{statement}
-use Rattle.book_choose.proofs.rule_at.Tie as tie
+use Rattle.book_rules.proofs.rule_at.Statement.{statement}
+use Rattle.book_rules.proofs.rule_at.Tie as tie
 
 returns : tie.Need-returns
 returns c = (told-short _ _ _ (c .if1 .taken), refl)
