@@ -1,18 +1,17 @@
 -- The search for a tree among the cuts of an order's lines: at each line the lines left decide. Assumes nothing.
 use Prim.Native.Nat.{ℕ, zero, suc, _+_, _*_, _/_, _≤_, _<_}
 use mathlib.Core.Path.{_≡_, refl, ap, sym, _∙_}
-use mathlib.Core.Bool.{Bool, true, false}
-use mathlib.Core.List.{List, [], _∷_, _++_, map}
+use mathlib.Core.Bool.{true, false}
+use mathlib.Core.List.{List, [], _++_, map}
 use native.Mathlib.Nat.{add-zero}
 use native.Mathlib.Omega.{arith}
-use borrow.Author.Tests.{eqb-true}
 use lib.ListN.{length, drop, getD, drop-of-length-le}
 use lib.Seq.{getD-drop}
-use Rattle.words.specs.Base.{if_then_else_, _and_, sameWords}
+use Rattle.words.specs.Base.{if_then_else_, sameWords}
 use Rattle.words.proofs.Tests.{words-same, fails}
 use Rattle.figures.specs.Numbers.{done}
-use Rattle.order.specs.Trees.{Tree, node, Forest, words, cut, subtrees}
-use Rattle.order.specs.Reading.{byOrder, orderOf, causeOf}
+use Rattle.order.specs.Trees.{Tree, node, words, cut, subtrees}
+use Rattle.order.specs.Reading.{byOrder, causeOf}
 use Rattle.order.specs.Standing.{cutOf}
 use Rattle.order.specs.Answers.{treeAt}
 use Rattle.order.proofs.Lines.{Spot, line-spot, cut-spot, tree-next}

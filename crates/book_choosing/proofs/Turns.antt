@@ -13,7 +13,7 @@ use Rattle.words.specs.Base.{_and_, if_then_else_, keep}
 use Rattle.words.proofs.Tests.{by-test, either, no-test, and-right}
 use Rattle.figures.specs.Limits.{most-rules, least-image, greatest-image, least-k}
 use Rattle.figures.specs.Numbers.{done, no-rules}
-use Rattle.order.specs.Trees.{Tree, subtrees}
+use Rattle.order.specs.Trees.{Tree}
 use Rattle.order.specs.Reading.{byOrder, orderOf, causeOf}
 use Rattle.order.specs.Fits.{fitsOf}
 use Rattle.order.proofs.Causes.{has-tree}
@@ -292,10 +292,15 @@ module _ (k : ℕ) (os rs : List ℕ) (sound : causeOf os ≡ done) where
           go (some l) = ap toldOf (f l)
 
       -- It is named too if it fits.
-      pub rule-looked-at : chosenFrom k os rs named left at
+      looked-at : chosenFrom k os rs named left at
           ≡ chosenFrom k os rs (if cutFrom os (k - 1) (rule .tree) 0 then alsoOf named (getD rs at 0) else named) (left - 1) end
       unfolding alsoAll if_then_else_
-      rule-looked-at =
+      looked-at =
           by-test (cutFrom os (k - 1) (rule .tree) 0)
           (λ e. rw e (behind (alsoOf named (getD rs at 0)) (λ l. ap (alsoAll named) (images-fit k t rule l (fits-by-cut ∙ e)))))
           (λ e. rw e (behind named (λ l. ap (alsoAll named) (images-past k t rule l (fits-by-cut ∙ e)))))
+
+      -- So what is named then, by the cuts at k-1, and the rules behind it decide.
+      pub rule-looked-at : (d : ℕ) (now : Named) → d ≡ k - 1 → now ≡ (if cutFrom os d (rule .tree) 0 then alsoOf named (getD rs at 0) else named)
+          → chosenFrom k os rs named left at ≡ chosenFrom k os rs now (left - 1) end
+      rule-looked-at d now e f = rw (f, e) looked-at

@@ -3,14 +3,11 @@ use Prim.Native.Nat.{ℕ, _+_, _-_, _≤_}
 use mathlib.Core.Path.{_≡_, refl, ap, ap₂, sym, _∙_}
 use native.Mathlib.Omega.{arith}
 use borrow.Author.Needs.{needs}
-use lib.ListN.{length, getD, drop, length-drop}
+use lib.ListN.{length, drop, length-drop}
 use lib.Seq.{length-take-le}
-use Rattle.words.specs.Base.{if_then_else_}
 use Rattle.figures.specs.Limits.{most-nodes}
-use Rattle.book_choosing.specs.Walking.{ruleWithin, cutFrom, alsoOf, chosenFor, chosenFrom}
-use Rattle.book_choosing.specs.declared.Chosen.{Chosen}
+use Rattle.book_choosing.specs.Walking.{chosenFor, chosenFrom}
 use Rattle.book_choosing.specs.declared.RuleAt.the-variants.{NoRule}
-use Rattle.book_choosing.specs.declared.Named.{Named}
 use Rattle.book_choosing.proofs.Turns.{OneThere, AtRule, rule-found, no-words, too-many-rules, all-left, words-behind, all-looked-at, no-rule, rule-looked-at}
 use Rattle.book_choose.proofs.by_rules.Statement.{statement}
 use Rattle.book_choose.proofs.by_rules.Tie as tie
@@ -103,17 +100,10 @@ loop-again c =
     let r = c .before .before .before .before .before .before .before in
     let l = r .before .before .before in
     let s = l .before .before .before .before .before .before .before .before .before in
-    let end = c .before .before .before .before .end .given .0 .0 in
-    let tree = ruleWithin (s .args .rules .now) (l .loop .at) end .tree in
-    let also : Named = alsoOf (l .loop .named) (getD (s .args .rules .now) (l .loop .at) 0) in
-    let with-cut : ℕ → Chosen = λ d.
-    chosenFrom (s .args .k .k) (s .args .order .now) (s .args .rules .now) (if cutFrom (s .args .order .now) d tree 0 then also else l .loop .named) (l .loop .left - 1) end in (
+    let more = r .before .before .loop-test .taken in (
       t .lies,
       r .rule-at .ensures .1 ∙ l .loop .inv .1,
-      l .loop .inv .2
-          ∙ rule-looked-at _ _ _ (s .pre .0 .sound) _ _ _ (r .before .before .loop-test .taken) _ (s .pre .1 .1 .0) t
-          ∙ ap with-cut (sym (l .before .of-middles .ensures))
-          ∙ ap (λ (n : Named). chosenFrom (s .args .k .k) (s .args .order .now) (s .args .rules .now) n (l .loop .left - 1) end) (sym (c .with-rule .ensures)),
+      l .loop .inv .2 ∙ rule-looked-at _ _ _ (s .pre .0 .sound) _ _ _ more _ (s .pre .1 .1 .0) t _ _ (l .before .of-middles .ensures) (c .with-rule .ensures),
     )
 
 returns-4 : tie.Need-returns-4 Inv-loop μ-loop

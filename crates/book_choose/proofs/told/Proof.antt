@@ -1,5 +1,5 @@
 -- `book_choose::told` meets its contract, by what is named. Assumes nothing.
-use mathlib.Core.Path.{_≡_, refl, _∙_}
+use mathlib.Core.Path.{refl}
 use borrow.Author.Needs.{needs}
 use Rattle.book_choosing.specs.Walking.{toldOf}
 use Rattle.book_choose.proofs.told.Statement.{statement}

@@ -1,5 +1,5 @@
 -- `book_rules::also` meets its contract, by what was named. Assumes nothing.
-use mathlib.Core.Path.{_≡_, refl}
+use mathlib.Core.Path.{refl}
 use borrow.Author.Tests.{eq-eqb, ne-eqb}
 use borrow.Author.Needs.{needs}
 use Rattle.words.specs.Base.{if_then_else_}

@@ -1,11 +1,10 @@
 -- `book_rules::rule_at` meets its contract: each test that led to a return tells what stands at the word. Assumes nothing.
-use Prim.Native.Nat.{_+_, _-_}
+use Prim.Native.Nat.{_+_}
 use mathlib.Core.Path.{_≡_, refl, ap, sym, _∙_}
 use mathlib.Core.Bool.{Bool}
 use native.Mathlib.Omega.{arith}
 use borrow.Author.Tests.{not-true, not-false}
 use borrow.Author.Needs.{needs}
-use lib.ListN.{length}
 use Rattle.order.specs.Fits.{fitsOf}
 use Rattle.book_choosing.specs.Rules.{soundRule}
 use Rattle.book_choosing.specs.Walking.{rulePast, ruleWithin}

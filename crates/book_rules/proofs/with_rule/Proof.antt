@@ -1,5 +1,5 @@
 -- `book_rules::with_rule` meets its contract: a rule that would not change what is named leaves it, fitting or not. Assumes nothing.
-use mathlib.Core.Path.{_≡_, refl, sym, _∙_}
+use mathlib.Core.Path.{refl, sym, _∙_}
 use borrow.Author.Tests.{not-true}
 use borrow.Author.Needs.{needs}
 use Rattle.words.specs.Base.{if_then_else_}

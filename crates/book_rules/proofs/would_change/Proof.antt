@@ -1,5 +1,5 @@
 -- `book_rules::would_change` meets its contract, by what is named. Assumes nothing.
-use mathlib.Core.Path.{_≡_, refl}
+use mathlib.Core.Path.{refl}
 use borrow.Author.Needs.{needs}
 use Rattle.book_choosing.specs.Walking.{wouldChange}
 use Rattle.book_rules.proofs.would_change.Statement.{statement}

@@ -1,5 +1,5 @@
 -- `order_cuts::is_cut` meets its contract. The loop's invariant: what was gone over of the cut is the front of the tree. Assumes nothing.
-use mathlib.Core.Path.{subst, sym, _∙_}
+use mathlib.Core.Path.{subst, _∙_}
 use Prim.Native.Nat.{ℕ, _-_, _≤_}
 use native.Mathlib.Omega.{arith}
 use lib.ListN.{length, take, getD}
