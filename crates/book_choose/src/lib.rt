@@ -45,8 +45,8 @@ fn told(named: Named) -> Chosen
     }
 }
 
-// What is chosen for an order by a rule list, in one pass over the rules: each is looked at for its layout and for whether it fits, so that
-// a rule that is none is told even where two before it differ.
+// What is chosen for an order by a rule list, in one pass over the rules: all are looked at for their layout, so that a rule that is none is
+// told even where two before it differ.
 fn by_rules(order: &[u16], spans: &[u16], levels: &[u8], k: Depth, rules: &[u16]) -> Chosen
     requires { ⌜ GoneOver (now order) (now spans) ⌝ }
     requires { ⌜ LinesLevelled (now order) (now levels) ⌝ }
@@ -106,6 +106,7 @@ pub fn choose(book: &[u16], order: &[u16], rules: &[u16]) -> Chosen
             image: 0,
         };
     }
+    // The k of a book by which an order passes is 2 to 6: the refusal is never met.
     let Asked::Allowed(k) = Depth::new(book[limits::K_WORD]) else {
         return unchosen(numbers::NOT_IN_FORM);
     };
