@@ -27,7 +27,7 @@ use Rattle.book.proofs.Sound.{why-only as form-only, on-any, head-says}
 use Rattle.book_judging.specs.Judging.{verdict, judgeOf}
 use Rattle.book_judging.specs.Verdicts.{PassesBy, Judged, no-book, no-order, judged}
 use Rattle.book_judging.proofs.Judgements.{by-verdict}
-use Rattle.book_judging.proofs.Answers.{judged-is, judged-only, answered-passes, passes-answered}
+use Rattle.book_judging.proofs.Answers.{numbered, judged-is, judged-only, answered-passes, passes-answered}
 use Rattle.book_judging.proofs.Figures.{judge-line-most}
 use Rattle.book_choosing.specs.Rules.{ImageRule, rulesOf, byRules}
 use Rattle.book_choosing.specs.Choosing.{imagesFor, chosen, refusedBy, unchosen, oneImage, chosenBy, afterVerdict, chooseOf}
@@ -70,12 +70,8 @@ module _ (ws os rs : List ℕ) (b : Book) (i : IsBook ws b) where
   choose-verdict t e = by-book ∙ rw e
 
   -- and the rules choose where it passes.
-  pub choose-passes : (t : Tree) → orderOf os ≡ order t → verdict b t .number ≡ done → chooseOf ws os rs ≡ chosenBy (b .k) t rs
+  choose-passes : (t : Tree) → orderOf os ≡ order t → verdict b t .number ≡ done → chooseOf ws os rs ≡ chosenBy (b .k) t rs
   choose-passes t e v = choose-verdict t e ∙ verdict-passes (verdict b t) (chosenBy (b .k) t rs) v
-
--- The number that an answer has.
-numbered : {a c : Answer} → a ≡ c → a .number ≡ c .number
-numbered e = ap (λ (x : Answer). x .number) e
 
 -- Whatever judging refuses choosing refuses, by the same number with the same line.
 pub choose-judges : (ws os rs : List ℕ) → (judgeOf ws os .number ≡ done → ⊥) → chooseOf ws os rs ≡ refusedBy (judgeOf ws os)
@@ -129,6 +125,10 @@ module _ (k : ℕ) (t : Tree) (rs : List ℕ) where
   chosen-some l e = rw e
 
   module _ (two : 2 ≤ k) where
+    -- A list's rules choose what its images have a reason for.
+    by-rules-of : (c : Chosen) (l : List ImageRule) → IsRules k rs l → ByImages (imagesFor k t l) c → chosenBy k t rs ≡ c
+    by-rules-of c l i why = chosen-some l (rules-only k rs l i) ∙ images-only (imagesFor k t l) c why
+
     -- What is chosen for an order that passes is chosen by a row,
     choice-is : Choice k t rs (chosenBy k t rs)
     choice-is = by-list (rulesOf k rs) refl
@@ -151,10 +151,6 @@ module _ (k : ℕ) (t : Tree) (rs : List ℕ) where
         by-list : (o : Option (List ImageRule)) → rulesOf k rs ≡ o → Choice k t rs (chosenBy k t rs)
         by-list none e = no-list (chosen-none e) (no-rules-is k rs e)
         by-list (some l) e = by-images l e (images-is (imagesFor k t l))
-
-    -- A list's rules choose what its images have a reason for.
-    by-rules-of : (c : Chosen) (l : List ImageRule) → IsRules k rs l → ByImages (imagesFor k t l) c → chosenBy k t rs ≡ c
-    by-rules-of c l i why = chosen-some l (rules-only k rs l i) ∙ images-only (imagesFor k t l) c why
 
     -- and by no other.
     choice-only : (c : Chosen) → Choice k t rs c → chosenBy k t rs ≡ c

@@ -22,11 +22,11 @@ use Rattle.book_choosing.specs.Choices.{FitsBy, as-low, as-middle}
 -- ---- the words of one of some trees
 
 -- A tree of the list whose words these are.
-abbrev pub OneOf : List ℕ → List Tree → Type 0
+abbrev OneOf : List ℕ → List Tree → Type 0
 OneOf ws ts = (u : Tree) × (u ∈ ts) × (words u ≡ ws)
 
 -- Words that pass are those of a tree of the list,
-pub one-of : (ws : List ℕ) (ts : List Tree) → isOneOf ws ts ≡ true → OneOf ws ts
+one-of : (ws : List ℕ) (ts : List Tree) → isOneOf ws ts ≡ true → OneOf ws ts
 unfolding isOneOf if_then_else_
 one-of ws [] e = no-test e
 one-of ws (t ∷ ts) e =
@@ -35,7 +35,7 @@ one-of ws (t ∷ ts) e =
     (λ h. let r = one-of ws ts (rw h at e) in (r .0, there (r .1), r .2))
 
 -- and the words of a tree of the list pass.
-pub of-one : {ts : List Tree} {u : Tree} (ws : List ℕ) → u ∈ ts → words u ≡ ws → isOneOf ws ts ≡ true
+of-one : {ts : List Tree} {u : Tree} (ws : List ℕ) → u ∈ ts → words u ≡ ws → isOneOf ws ts ≡ true
 unfolding isOneOf if_then_else_
 of-one {ts} {u} ws (here {x} e) s = let h : sameWords (words x) ws ≡ true = rw (sym s ∙ ap words e) (same-words (words x)) in rw h
 of-one {ts} {u} ws (there {x} m) s = by-test (sameWords (words x) ws) (λ h. rw h) (λ h. rw h (of-one ws m s))

@@ -1,5 +1,5 @@
 -- Inner: no promise rests on these definitions.
--- What the functions of `book_choose` find at each rule and at each line. Assumes nothing: these are definitions.
+-- What the functions of `book_rules` and `book_choose` find at each rule and at each line. Assumes nothing: these are definitions.
 use Prim.Native.Nat.{ℕ, _+_, _*_, _-_}
 use mathlib.Core.Bool.{Bool, true, false, not}
 use mathlib.Core.List.{List, [], _∷_, map}

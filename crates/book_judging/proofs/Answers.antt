@@ -21,6 +21,10 @@ use Rattle.book_judging.specs.Verdicts.{Passes, Doubted, Lent, PassesBy,
 use Rattle.book_judging.proofs.Judgements.{by-cause, by-verdict, judge-unheld}
 use Rattle.book_judging.proofs.Verdicts.{verdict-is, verdict-one}
 
+-- The number that an answer has.
+pub numbered : {a c : Answer} → a ≡ c → a .number ≡ c .number
+numbered e = ap (λ (x : Answer). x .number) e
+
 module _ (ws os : List ℕ) where
   -- Judging answers by a row of 01's table.
   pub judged-is : Judged ws os (judgeOf ws os)
@@ -71,10 +75,6 @@ module _ (ws os : List ℕ) where
   passes-answered p = judged-only (answered done) (row (p .lent) (passing refl (p .passes)))
 
   -- ---- the verdicts 20, 21 and 22
-
-  -- The number that an answer has.
-  numbered : {a c : Answer} → a ≡ c → a .number ≡ c .number
-  numbered e = ap (λ (x : Answer). x .number) e
 
   -- An answer of 20 or more is a verdict.
   verdict-row : top-unknown ≤ judgeOf ws os .number → (l : Lent ws os) × Verdict (l .book) (l .tree) (judgeOf ws os)

@@ -34,7 +34,7 @@ write-two got out n c v e h =
 -- The cut at d of the subtree of a line, whose level is `own`, is written up to line `at`, over the front of out₀, which has room for it.
 pub record Putting (os : List ℕ) (line own d end : ℕ) (out₀ out : List ℕ) (at count : ℕ) : Type 0 where
   got : List ℕ
-  pub walking : Walking os line own d end at got
+  walking : Walking os line own d end at got
   size : length got ≡ count
   is : out ≡ over got out₀
   room : length (cutOf os (line * 2) d) ≤ length out₀
