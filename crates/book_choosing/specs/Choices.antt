@@ -1,5 +1,6 @@
--- The rows of 02, "Choose the firmware image": why an image is chosen or refused, by document 000's l and p and by the words of a list of rules, apart
--- from the tests of `chooseOf`. That choosing answers exactly by these rows is shown in proofs/Choices.antt. Assumes nothing: these are definitions.
+-- The rows of 02, "Choose the firmware image": why an image is chosen or refused, by document 000's l and p and by the words of a list of rules,
+-- apart from the tests of `chooseOf`. That choosing answers exactly by these rows is shown in proofs/Choices.antt. Assumes nothing: these are
+-- definitions.
 use Prim.Native.Nat.{ℕ, _/_, _-_, _≤_}
 use mathlib.Core.Path.{_≡_}
 use mathlib.Core.List.{List, [], _∷_, _++_}

@@ -1,5 +1,5 @@
--- The numbers of 01, "Numbers the desk hears", and of 02 that an order, a part, a form, a book, a file, two books or a rule list can be answered with.
--- Assumes nothing: these are definitions.
+-- The numbers of 01, "Numbers the desk hears", and of 02 that an order, a part, a form, a book, a file, two books or a rule list can be answered
+-- with. Assumes nothing: these are definitions.
 use Prim.Native.Nat.{ℕ}
 
 -- done

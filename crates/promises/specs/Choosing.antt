@@ -1,5 +1,5 @@
--- What each number of choosing an image says (02, "Choose the firmware image"), by document 000's l and p and by the words of a list of rules. That each
--- is answered exactly then is shown in proofs/Choosing.antt. Assumes nothing: these are definitions.
+-- What each number of choosing an image says (02, "Choose the firmware image"), by document 000's l and p and by the words of a list of rules. That
+-- each is answered exactly then is shown in proofs/Choosing.antt. Assumes nothing: these are definitions.
 use Prim.Native.Nat.{ℕ}
 use mathlib.Core.Path.{_≡_}
 use mathlib.Core.List.{List}
