@@ -41,6 +41,7 @@ module _ {x y : List ℕ} where
 
 -- Of two words not each is lower than the other.
 not_both : {a b : Option ℕ} → LowerWord a b → LowerWord b a → ⊥
+not_both (ended {y = y}) x4 = elim x4 [ ]
 not_both (less h) (less k) = omega arith
 
 module _ (a b : ℕ) (x y : List ℕ) where

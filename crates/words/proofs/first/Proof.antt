@@ -13,14 +13,18 @@ none : (ws : List ℕ) → length ws ≡ 0 → 0 ≡ get_or ws 0 0
 none [] e = refl
 none (w ∷ ws) e = absurd (omega arith)
 
-returns : tie.Need-returns
-returns c = none c.before.args.words.now c.if1.true
+returns : tie.Need-returns-then-words-eq0
+returns c = none c.args.words.now c.if-words-eq0.true
 
-shared-slice-read-result : tie.Need-shared-slice-read-result
+shared-slice-read-result : tie.Need-bounds-words-0
 shared-slice-read-result c = search rules
 
-returns-2 : tie.Need-returns-2
+returns-2 : tie.Need-returns
 returns-2 c = search rules
 
 pub first_spec : {M : Type 1} → statement M
-first_spec = tie.close (tie.spec returns shared-slice-read-result returns-2)
+first_spec = tie.close
+    (tie.spec
+    returns
+    shared-slice-read-result
+    returns-2)

@@ -9,46 +9,50 @@ use borrow.Author.Rules.{rules}
 use Rattle.words.proofs.standing.Statement.{statement}
 use Rattle.words.proofs.standing.Tie as tie
 
-abbrev invariant-loop : tie.invariant-loop
+abbrev invariant-loop : tie.invariant-loop-i
 invariant-loop a b i₀ i = (i ≤ length a) × (i ≤ length b) × (signed_of a b ≡ signed_from i (drop i a) (drop i b))
 
-abbrev decreases-loop : tie.decreases-loop
+abbrev decreases-loop : tie.decreases-loop-i
 decreases-loop a b i₀ i = length a - i
 
-loop-holds : tie.Need-loop-init invariant-loop decreases-loop
+loop-holds : tie.Need-loop-i-init invariant-loop decreases-loop
 unfolding signed_of
 loop-holds c = (omega arith, omega arith, refl)
 
-returns : tie.Need-returns invariant-loop decreases-loop
-returns c = let k = c.before.before in side_told k.before.args.a.now k.before.args.b.now k.loop.i _ k.loop.invariant.2 (place-longer k.before.args.a.now k.before.args.b.now k.loop.i (omega arith) (omega arith))
+returns : tie.Need-returns-then-b-i invariant-loop decreases-loop
+returns c = let k = c in side_told k.args.a.now k.args.b.now k.loop-i.i _ k.loop-i.invariant.2 (place-longer k.args.a.now k.args.b.now k.loop-i.i (omega arith) (omega arith))
 
-returns-2 : tie.Need-returns-2 invariant-loop decreases-loop
-returns-2 c = let k = c.before.before.before.before.before in side_told k.before.args.a.now k.before.args.b.now k.loop.i _ k.loop.invariant.2 (place-lower k.before.args.a.now k.before.args.b.now k.loop.i (omega arith) (omega arith) (omega arith))
+returns-2 : tie.Need-returns-then-x-y invariant-loop decreases-loop
+returns-2 c = let k = c in side_told k.args.a.now k.args.b.now k.loop-i.i _ k.loop-i.invariant.2 (place-lower k.args.a.now k.args.b.now k.loop-i.i (omega arith) (omega arith) (omega arith))
 
-returns-3 : tie.Need-returns-3 invariant-loop decreases-loop
-returns-3 c = let k = c.before.before.before.before.before.before in side_told k.before.args.a.now k.before.args.b.now k.loop.i _ k.loop.invariant.2 (place-higher k.before.args.a.now k.before.args.b.now k.loop.i (omega arith) (omega arith) (omega arith))
+returns-3 : tie.Need-returns-then-y-x invariant-loop decreases-loop
+returns-3 c = let k = c in side_told k.args.a.now k.args.b.now k.loop-i.i _ k.loop-i.invariant.2 (place-higher k.args.a.now k.args.b.now k.loop-i.i (omega arith) (omega arith) (omega arith))
 
-loop-again : tie.Need-loop-preserved invariant-loop decreases-loop
-loop-again c = let k = c.before.before.before.before.before.before in (omega arith, omega arith, k.loop.invariant.2 ∙ place_same k.before.args.a.now k.before.args.b.now k.loop.i (omega arith) (omega arith) (omega arith) (omega arith))
+loop-again : tie.Need-loop-i-preserved invariant-loop decreases-loop
+loop-again c = let k = c in (omega arith, omega arith, k.loop-i.invariant.2 ∙ place_same k.args.a.now k.args.b.now k.loop-i.i (omega arith) (omega arith) (omega arith) (omega arith))
 
-returns-4 : tie.Need-returns-4 invariant-loop decreases-loop
-returns-4 c = let k = c.before.before in side_told k.before.args.a.now k.before.args.b.now k.loop.i _ k.loop.invariant.2 (place-shorter k.before.args.a.now k.before.args.b.now k.loop.i (omega arith) (omega arith))
+returns-4 : tie.Need-returns-then-i-b invariant-loop decreases-loop
+returns-4 c = let k = c in side_told k.args.a.now k.args.b.now k.loop-i.i _ k.loop-i.invariant.2 (place-shorter k.args.a.now k.args.b.now k.loop-i.i (omega arith) (omega arith))
 
-returns-5 : tie.Need-returns-5 invariant-loop decreases-loop
-returns-5 c = let k = c.before.before in side_told k.before.args.a.now k.before.args.b.now k.loop.i _ k.loop.invariant.2 (place_end k.before.args.a.now k.before.args.b.now k.loop.i (omega arith) (omega arith))
+returns-5 : tie.Need-returns invariant-loop decreases-loop
+returns-5 c = let k = c in side_told k.args.a.now k.args.b.now k.loop-i.i _ k.loop-i.invariant.2 (place_end k.args.a.now k.args.b.now k.loop-i.i (omega arith) (omega arith))
 
-pub standing-spec : {M : Type 1} → statement M
-standing-spec =
+pub standing_spec : {M : Type 1} → statement M
+standing_spec =
     tie.close
     (tie.spec
     invariant-loop
     decreases-loop
     loop-holds
     returns
-    (λ c. search rules) (λ c. search rules) (λ c. search rules) (λ c. search rules)
+    (λ c. search rules)
+    (λ c. search rules)
+    (λ c. search rules)
+    (λ c. search rules)
     returns-2
     returns-3
-    (λ c. search rules) (λ c. search rules)
+    (λ c. search rules)
+    (λ c. search rules)
     loop-again
     returns-4
     returns-5)
