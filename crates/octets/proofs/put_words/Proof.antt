@@ -10,34 +10,39 @@ use Rattle.octets.proofs.put_words.Statement.{statement}
 use Rattle.octets.proofs.put_words.Tie as tie
 
 -- The first bytes are those of the words that are done, and there are two for each word.
-abbrev invariant-loop : tie.invariant-loop
+abbrev invariant-loop : tie.invariant-loop-i
 invariant-loop words out₀ i₀ out i = (i ≤ length words) × (length out ≡ 2 * length words) × (take (2 * i) out ≡ bytes_of (take i words))
 
 -- The words that are left.
-abbrev decreases-loop : tie.decreases-loop
+abbrev decreases-loop : tie.decreases-loop-i
 decreases-loop words out₀ i₀ out i = length words - i
 
-loop-holds : tie.Need-loop-init invariant-loop decreases-loop
-loop-holds c = (omega arith, c.before.before.requires, unfold bytes_of in refl)
+loop-holds : tie.Need-loop-i-init invariant-loop decreases-loop
+loop-holds c = (omega arith, c.requires, unfold bytes_of in refl)
 
-loop-again : tie.Need-loop-preserved invariant-loop decreases-loop
+loop-again : tie.Need-loop-i-preserved invariant-loop decreases-loop
 loop-again c =
-    let k = c.before.before.before.before.before.before in
-    let ws = k.before.before.before.args.words.now in
-    let t = bytes-turn ws k.loop.out _ k.loop.i (omega arith) k.loop.invariant.1 k.loop.invariant.2 c.before.before.put_word.ensures in
+    let k = c in
+    let ws = k.args.words.now in
+    let t = bytes-turn ws k.loop-i.out _ k.loop-i.i (omega arith) k.loop-i.invariant.1 k.loop-i.invariant.2 c.put_word.ensures in
     (omega arith, t.0, t.1)
 
 returns : tie.Need-returns invariant-loop decreases-loop
-returns c = bytes-done _ _ c.before.loop.i (omega arith) c.before.loop.invariant.1 c.before.loop.invariant.2
+returns c = bytes-done _ _ c.loop-i.i (omega arith) c.loop-i.invariant.1 c.loop-i.invariant.2
 
-pub put-words-spec : {M : Type 1} → statement M
-put-words-spec =
+pub put_words_spec : {M : Type 1} → statement M
+put_words_spec =
     tie.close
     (tie.spec
     invariant-loop
     decreases-loop
     loop-holds
-    (λ c. search rules) (λ c. search rules) (λ c. search rules) (λ c κs. search rules) (λ c. search rules) (λ c. search rules)
+    (λ c. search rules)
+    (λ c. search rules)
+    (λ c. search rules)
+    (λ c. search rules)
+    (λ c. search rules)
+    (λ c. search rules)
     loop-again
     (λ c. search rules)
     returns)

@@ -18,45 +18,50 @@ all-over : (s d : List ℕ) → length s ≡ length d → over s d ≡ s
 all-over s d n = rw (n, drop-length, append-nil)
 
 -- After i turns the first i words are written.
-abbrev invariant-loop : tie.invariant-loop
+abbrev invariant-loop : tie.invariant-loop-i
 invariant-loop bytes out₀ i₀ out i = (i ≤ length out₀) × (out ≡ fronted (words_of bytes) out₀ i) × (length out ≡ length out₀)
 
 -- The words that are left to write.
-abbrev decreases-loop : tie.decreases-loop
+abbrev decreases-loop : tie.decreases-loop-i
 decreases-loop bytes out₀ i₀ out i = length out₀ - i
 
-loop-holds : tie.Need-loop-init invariant-loop decreases-loop
-loop-holds c = (search rules, fronted_none (words_of c.before.before.args.bytes.now) c.before.before.args.out.now, refl)
+loop-holds : tie.Need-loop-i-init invariant-loop decreases-loop
+loop-holds c = (search rules, fronted_none (words_of c.args.bytes.now) c.args.out.now, refl)
 
-loop-again : tie.Need-loop-preserved invariant-loop decreases-loop
+loop-again : tie.Need-loop-i-preserved invariant-loop decreases-loop
 loop-again c =
-    let k = c.before.before in
-    let x = k.before.before.before in
+    let k = c in
+    let x = k in
     let bytes = x.args.bytes.now in
     let d = x.args.out.now in
-    let i = k.loop.i in
+    let i = k.loop-i.i in
     let h : i < length d = omega arith in
     let n : length (words_of bytes) ≡ length d = words_long bytes (length d) x.requires in
     let at : 2 * i + 1 < length bytes = omega (arith, x.requires) in
-    (omega arith, fronted_turn (words_of bytes) d k.loop.out i _ k.loop.invariant.1 (omega arith) h (c.word_at.ensures ∙ sym (word_is bytes i at)), simp length-set (omega arith))
+    (omega arith, fronted_turn (words_of bytes) d k.loop-i.out i _ k.loop-i.invariant.1 (omega arith) h (c.word_at.ensures ∙ sym (word_is bytes i at)), simp length-set (omega arith))
 
 returns : tie.Need-returns invariant-loop decreases-loop
 returns c =
-    let k = c.before in
-    let x = k.before.before.before in
+    let k = c in
+    let x = k in
     let bytes = x.args.bytes.now in
     let d = x.args.out.now in
     let n : length (words_of bytes) ≡ length d = words_long bytes (length d) x.requires in
-    fronted_done (words_of bytes) d k.loop.out k.loop.i k.loop.invariant.1 (omega arith) (omega arith) ∙ all-over (words_of bytes) d n
+    fronted_done (words_of bytes) d k.loop-i.out k.loop-i.i k.loop-i.invariant.1 (omega arith) (omega arith) ∙ all-over (words_of bytes) d n
 
-pub take-words-spec : {M : Type 1} → statement M
-take-words-spec =
+pub take_words_spec : {M : Type 1} → statement M
+take_words_spec =
     tie.close
     (tie.spec
     invariant-loop
     decreases-loop
     loop-holds
-    (λ c. search rules) (λ c κs. search rules) (λ c. search rules) (λ c. search rules) (λ c. search rules) (λ c. search rules)
+    (λ c. search rules)
+    (λ c. search rules)
+    (λ c. search rules)
+    (λ c. search rules)
+    (λ c. search rules)
+    (λ c. search rules)
     loop-again
     (λ c. search rules)
     returns)

@@ -13,51 +13,52 @@ use Rattle.section.proofs.place_at.Statement.{statement}
 use Rattle.section.proofs.place_at.Tie as tie
 
 -- The entry lies within the book.
-room : (c : tie.Else1) → let x = c.before.before.before.args in x.at + 2 + 2 * get_or x.book.now x.at 0 ≤ length x.book.now
-room c = c.before.before.before.requires (omega (arith, c.if1.false))
+room : (c : tie.Else-some-eq0) → let x = c.args in x.at + 2 + 2 * get_or x.book.now x.at 0 ≤ length x.book.now
+room c = c.requires (omega (arith, c.if-some-eq0.false))
 
 -- The size of the place at which its tree differs from the key, as it is read back.
-sized : (c : tie.After-compare) → let x = c.before.before.before.before.before.before.args in let end = c.before.before.past.result in
+sized : (c : tie.After-compare) → let x = c.args in let end = c.past-end.result in
     size_of (to_z w64 (of_z w64 c.compare.result)) ≡ size_of (signed_of (take (end - (x.at + 2)) (drop (x.at + 2) x.book.now)) x.key.now)
-sized c = ap size_of (read_back c.compare.result c.compare.type-inv ∙ c.compare.ensures)
+sized c = ap size_of (read_back c.compare.result c.compare.type_inv ∙ c.compare.ensures)
 
-returns : tie.Need-returns
-returns c = let x = c.before.before.before.args in sym (place_none x.key.now x.book.now x.at x.some c.if1.true)
+returns : tie.Need-returns-then-some-eq0
+returns c = let x = c.args in sym (place_none x.key.now x.book.now x.at x.some c.if-some-eq0.true)
 
-add_start : tie.Need-overflow-add-start
+add_start : tie.Need-overflow_add-start
 add_start c = omega (arith, room c)
 
-past-requires : tie.Need-past-requires
+past-requires : tie.Need-past-end-requires
 past-requires c κs = room c
 
-mul-compare : tie.Need-overflow-mul-compare
-mul-compare c = omega (arith, c.past.ensures, room c.before)
+mul-compare : tie.Need-offset_bounds-book-start
+mul-compare c = omega (arith, c.past-end.ensures, room c.before)
 
-part-compare-end : tie.Need-slice-bounds-compare-end
-part-compare-end c = omega (arith, c.past.ensures, room c.before)
+part-compare-end : tie.Need-slice_bounds-compare-end
+part-compare-end c = omega (arith, c.past-end.ensures, room c.before)
 
 size-requires : tie.Need-size-requires
 size-requires c κs =
-    let s = c.before.before.before.before.before.before in
-    let end = c.before.before.past.result in
-    omega (arith, sized c, size-most (take (end - (s.args.at + 2)) (drop (s.args.at + 2) s.args.book.now)) s.args.key.now, s.well-formed.1.1.1.0.1)
+    let s = c in
+    let end = c.past-end.result in
+    omega (arith, sized c, size-most (take (end - (s.args.at + 2)) (drop (s.args.at + 2) s.args.book.now)) s.args.key.now, s.well_formed.1.1.1.0.1)
 
-returns-2 : tie.Need-returns-2
+returns-2 : tie.Need-returns
 returns-2 c =
-    let x = c.before.before.before.before.before.before.before.args in
-    let p = c.before.before.before.past in
-    c.size.ensures ∙ sized c.before ∙ sym (place-first x.key.now x.book.now x.at x.some p.result (omega (arith, c.before.before.before.before.if1.false)) p.ensures)
+    let x = c.args in
+    let p = c.past-end in
+    c.size.ensures ∙ sized c.before ∙ sym (place-first x.key.now x.book.now x.at x.some p.result (omega (arith, c.if-some-eq0.false)) p.ensures)
 
-pub place-at-spec : {M : Type 1} → statement M
-place-at-spec =
+pub place_at_spec : {M : Type 1} → statement M
+place_at_spec =
     tie.close
     (tie.spec
     returns
     add_start
     past-requires
     mul-compare
-    (λ c. search rules) (λ c. search rules)
+    (λ c. search rules)
+    (λ c. search rules)
     part-compare-end
-    (λ c κs. search rules)
+    (λ c. search rules)
     size-requires
     returns-2)
