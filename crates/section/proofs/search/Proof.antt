@@ -23,9 +23,9 @@ abbrev book : tie.At-loop-left invariant-loop decreases-loop → List ℕ
 book k = k.args.book.now
 
 -- The entry at `at` and those behind it lie within the book.
-room : (c : tie.In-loop-left invariant-loop decreases-loop) → let k = c.before in let end = k.loop.at + 2 + 2 * get_or (book k) k.loop.at 0 in
-    end + span (k.loop.left - 1) (drop end (book k)) ≤ length (book k)
-room c = let k = c in searched_room _ _ _ _ _ _ _ k.loop-left.invariant _ c.loop-left-test.true refl
+room : (c : tie.In-loop-left invariant-loop decreases-loop) → let k = c.before in let end = k.loop-left.at + 2 + 2 * get_or (book k) k.loop-left.at 0 in
+    end + span (k.loop-left.left - 1) (drop end (book k)) ≤ length (book k)
+room c = let k = c.before in searched_room _ _ _ _ _ _ _ k.loop-left.invariant _ c.loop-left-test.true refl
 
 loop-holds : tie.Need-loop-left-init invariant-loop decreases-loop
 loop-holds c = searched_none _ _ _ _ c.requires
