@@ -33,7 +33,7 @@ at_in (t ∷ ts) zero {s} e = let z : s ≡ t = cc in here z
 at_in (t ∷ ts) (suc i) e = there (at_in ts i e)
 
 -- Each member of a list has a place.
-pub in_at : {ts : List Tree} {s : Tree} → s ∈ ts → (i : ℕ) × (tree_at ts i ≡ found s)
+pub in_at : {s : Tree} {ts : List Tree} → s ∈ ts → (i : ℕ) × (tree_at ts i ≡ found s)
 unfolding tree_at
 in_at (here e) = (0, ap found (sym e))
 in_at (there m) = let r = in_at m in (suc r.0, r.1)
