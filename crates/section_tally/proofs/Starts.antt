@@ -20,7 +20,7 @@ use Rattle.section_tally.specs.Tallying.{starts_of, listed, Indexed}
 pub length-starts : (at n : ℕ) (ws : List ℕ) → length (starts_of at n ws) ≡ n
 unfolding starts_of
 length-starts at zero ws = refl
-length-starts at (suc n) ws = rw (length-starts _ n _) refl
+length-starts at (suc n) ws = rw (length-starts (at + width ws) n (drop (width ws) ws)) refl
 
 -- The places of n entries, the first apart.
 starts-step : (at n : ℕ) (ws : List ℕ) → 0 < n → starts_of at n ws ≡ at ∷ starts_of (at + width ws) (n - 1) (drop (width ws) ws)

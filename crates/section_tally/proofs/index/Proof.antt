@@ -44,45 +44,47 @@ module _ (book : List ℕ) (from n : ℕ) (starts₀ starts : List ℕ) (at i en
       }
 
 -- The places so far are written, and those of the entries left are to be.
-abbrev invariant-loop : tie.invariant-loop
+abbrev invariant-loop : tie.invariant-loop-i
 invariant-loop book from n starts₀ at₀ i₀ starts at i = State book from n starts₀ starts at i
 
 -- Each turn leaves one entry fewer.
-abbrev decreases-loop : tie.decreases-loop
+abbrev decreases-loop : tie.decreases-loop-i
 decreases-loop book from n starts₀ at₀ i₀ starts at i = n - i
 
-loop-holds : tie.Need-loop-init invariant-loop decreases-loop
+loop-holds : tie.Need-loop-i-init invariant-loop decreases-loop
 loop-holds c =
     let x = c.before.before in
     record { few = omega arith; fits = rw sub-zero x.requires.0; left = rw sub-zero; written = fronted_none _ _; long = refl }
 
-cast-starts : tie.Need-overflow-cast-starts invariant-loop decreases-loop
-cast-starts c = let s = c.before.loop.invariant in omega (arith, s.fits, c.before.before.before.before.requires.1.0)
+cast-starts : tie.Need-overflow_cast-starts invariant-loop decreases-loop
+cast-starts c = let s = c.loop-i.invariant in omega (arith, s.fits, c.requires.1.0)
 
-past-requires : tie.Need-past-requires invariant-loop decreases-loop
-past-requires c κs = omega (arith, room _ _ _ _ _ _ _ _ c.before.loop.invariant c.loop-test.true refl)
+past-requires : tie.Need-past-at-requires invariant-loop decreases-loop
+past-requires c κs = omega (arith, room _ _ _ _ _ _ _ _ c.loop-i.invariant c.loop-i-test.true refl)
 
-loop-again : tie.Need-loop-preserved invariant-loop decreases-loop
-loop-again c = let k = c.before.before in turn _ _ _ _ _ _ _ c.past.result k.loop.invariant c.before.loop-test.true c.past.ensures k.before.before.before.requires.1.1
+loop-again : tie.Need-loop-i-preserved invariant-loop decreases-loop
+loop-again c = let k = c.before.before in turn _ _ _ _ _ _ _ c.past-at.result k.loop-i.invariant c.loop-i-test.true c.past-at.ensures k.requires.1.1
 
 returns : tie.Need-returns invariant-loop decreases-loop
 returns c =
     let k = c.before in
-    let x = k.before.before.before.args in
+    let x = k.args in
     let long = length-starts x.from x.n (drop x.from x.book.now) in
-    fronted_done _ _ _ _ k.loop.invariant.written (omega arith) (omega arith)
+    fronted_done _ _ _ _ k.loop-i.invariant.written (omega arith) (omega arith)
 
-pub index-spec : {M : Type 1} → statement M
-index-spec =
+pub index_spec : {M : Type 1} → statement M
+index_spec =
     tie.close
     (tie.spec
     invariant-loop
     decreases-loop
     loop-holds
     cast-starts
-    (λ c. search rules) (λ c. search rules)
+    (λ c. search rules)
+    (λ c. search rules)
     past-requires
-    (λ c. search rules) (λ c. search rules)
+    (λ c. search rules)
+    (λ c. search rules)
     loop-again
     (λ c. search rules)
     returns)

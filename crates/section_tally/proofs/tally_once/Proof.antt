@@ -48,83 +48,83 @@ stored-fits n turn r ms cs i is other inside few =
 -- ---- at each place
 
 -- What the function was called with, seen from where the entry is found.
-abbrev called : tie.After-i → tie.Start
-called w = w.before.before.before.before.before.before.before.before
+abbrev called : tie.In-Number → tie.Start
+called w = w.before.before.before.before.before.before.before
 
 -- The entry's number.
-abbrev number : tie.After-i → ℕ
-number w = w.i.given.0.0
+abbrev number : tie.In-Number → ℕ
+number w = w.in-Number.i
 
 -- It is the one that is sought.
-found : (w : tie.After-i) → let x = (called w).args in sought_in x.key.now (listed x.starts.now x.book.now) ≡ Number (number w)
-found w = sym w.before.before.find-entry.ensures ∙ w.i.given.1
+found : (w : tie.In-Number) → let x = (called w).args in sought_in x.key.now (listed x.starts.now x.book.now) ≡ Number (number w)
+found w = sym w.find_entry.ensures ∙ w.in-Number.is
 
 -- It has a count.
-counted : (w : tie.After-i) → number w < length (called w).args.counts.now
+counted : (w : tie.In-Number) → number w < length (called w).args.counts.now
 counted w = let x = (called w).args in omega (arith, (called w).requires.1.0.0, length-listed x.starts.now x.book.now, (sought_has _ _ (number w) (found w)).0)
 
 -- It has a mark.
-noted : (w : tie.After-i) → number w < length (called w).args.marks.now
+noted : (w : tie.In-Number) → number w < length (called w).args.marks.now
 noted w = omega (arith, counted w, (called w).requires.1.0.0, (called w).requires.1.0.1)
 
 -- The key has an entry.
-there : (w : tie.After-i) → let x = (called w).args in true ≡ has x.key.now (listed x.starts.now x.book.now)
+there : (w : tie.In-Number) → let x = (called w).args in true ≡ has x.key.now (listed x.starts.now x.book.now)
 there w = sym (sought_has _ _ (number w) (found w)).1
 
-find-entry-requires : tie.Need-find-entry-requires
-find-entry-requires c κs = c.before.before.before.before.before.requires.0
+find-entry-requires : tie.Need-find_entry-requires
+find-entry-requires c κs = c.requires.0
 
-enum_told : tie.Need-enum-told
+enum_told : tie.Need-enum_told-1
 enum_told c = search rules
 
-returns : tie.Need-returns
+returns : tie.Need-returns-in_default
 returns c =
-    let missing = sym c.before.before.find-entry.ensures ∙ c.enum_told.given.1 in
+    let missing = sym c.find_entry.ensures ∙ c.in_default.is in
     (sym (sought_lacks _ _ missing), (one-missing _ _ _ _ _ missing, one-missing _ _ _ _ _ missing))
 
-mul-mark : tie.Need-overflow-mul-mark
-mul-mark c = let l = noted c.before in search rules
+mul-mark : tie.Need-offset_bounds-marks-i
+mul-mark c = let l = noted c in search rules
 
-slice-read-mark : tie.Need-slice-read-mark
-slice-read-mark c = noted c.before.before
+slice-read-mark : tie.Need-bounds-marks-i
+slice-read-mark c = noted c.before
 
-mul-count : tie.Need-overflow-mul-count
-mul-count c = let l = counted c.before.before.before in search rules
+mul-count : tie.Need-offset_bounds-counts-i
+mul-count c = let l = counted c.before.before in search rules
 
-slice-read-count : tie.Need-slice-read-count
-slice-read-count c = counted c.before.before.before.before
+slice-read-count : tie.Need-bounds-counts-i
+slice-read-count c = counted c.before.before.before
 
-add-counts : tie.Need-overflow-add-counts
+add-counts : tie.Need-overflow_add-counts
 add-counts c =
-    let w = c.before.before.before.before in
-    omega (arith, stored-fits _ _ _ _ _ (number w) (found w) c.before.if1.true (counted w) (called w).requires.1.1)
+    let w = c.before.before.before in
+    omega (arith, stored-fits _ _ _ _ _ (number w) (found w) c.if-mark-turn.true (counted w) (called w).requires.1.1)
 
-mul-counts : tie.Need-overflow-mul-counts
-mul-counts c = let l = counted c.before.before.before.before in search rules
+mul-counts : tie.Need-offset_bounds-counts-i-then-mark-turn
+mul-counts c = let l = counted c.before.before.before in search rules
 
-slice-write-counts : tie.Need-slice-write-counts
-slice-write-counts c = counted c.before.before.before.before
+slice-write-counts : tie.Need-bounds-counts-i-then-mark-turn
+slice-write-counts c = counted c.before.before.before
 
-mul-marks : tie.Need-overflow-mul-marks
-mul-marks c = let l = noted c.before.before.before.before in search rules
+mul-marks : tie.Need-offset_bounds-marks-i-then-mark-turn
+mul-marks c = let l = noted c.before.before.before in search rules
 
-slice-write-marks : tie.Need-slice-write-marks
-slice-write-marks c = noted c.before.before.before.before
+slice-write-marks : tie.Need-bounds-marks-i-then-mark-turn
+slice-write-marks c = noted c.before.before.before
 
-returns-2 : tie.Need-returns-2
+returns-2 : tie.Need-returns-then-mark-turn
 returns-2 c =
-    let w = c.before.before.before.before in
-    let other = c.before.if1.true in
+    let w = c.before.before.before in
+    let other = c.if-mark-turn.true in
     (there w, (one-changed _ _ _ _ _ (number w) (found w) other, one-changed _ _ _ _ _ (number w) (found w) other))
 
-returns-3 : tie.Need-returns-3
+returns-3 : tie.Need-returns-else-mark-turn
 returns-3 c =
-    let w = c.before.before.before in
-    let same = c.if1.false in
+    let w = c.before.before in
+    let same = c.if-mark-turn.false in
     (there w, (one_kept _ _ _ _ _ (number w) (found w) same, one_kept _ _ _ _ _ (number w) (found w) same))
 
-pub tally-once-spec : {M : Type 1} → statement M
-tally-once-spec =
+pub tally_once_spec : {M : Type 1} → statement M
+tally_once_spec =
     tie.close
     (tie.spec
     find-entry-requires
@@ -140,6 +140,7 @@ tally-once-spec =
     slice-write-counts
     mul-marks
     slice-write-marks
-    (λ c. search rules) (λ c. search rules)
+    (λ c. search rules)
+    (λ c. search rules)
     returns-2
     returns-3)
