@@ -92,6 +92,7 @@ add-all_enter o os es s h = add-below o.count o.key (add_all os es) (below-add_a
 -- Of entries that fit, each counts at most 65,535.
 pub fitting-entry : (es : List Entry) → fitting es ≡ true → (e : Entry) → e ∈ es → e.count ≤ greatest_count
 unfolding fitting
+fitting-entry [] h e x'' = elim x'' [ ]
 fitting-entry (i ∷ es) h e (here q) = rw q (leb-true i.count greatest_count (and_left (leb i.count greatest_count) (fitting es) h))
 fitting-entry (i ∷ es) h e (there m) = fitting-entry es (and_right (leb i.count greatest_count) (fitting es) h) e m
 

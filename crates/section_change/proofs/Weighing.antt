@@ -86,6 +86,7 @@ lacking_size (o ∷ os) es p s =
 -- Where no words are lacking each of the other's entries has its key in the section.
 pub lacking_none : (os es : List Entry) → lacking_words os es ≡ 0 → (o : Entry) → o ∈ os → has o.key es ≡ true
 unfolding lacking_words if◌then◌else◌
+lacking_none [] es h i x'' = elim x'' [ ]
 lacking_none (o ∷ os) es h i (here q) = by_test (has o.key es) (λ t. rw q t) (λ t. absurd (omega (arith, rw t at h)))
 lacking_none (o ∷ os) es h i (there m) = lacking_none os es (omega (arith, h)) i m
 

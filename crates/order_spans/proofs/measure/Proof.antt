@@ -12,70 +12,70 @@ use Rattle.order.proofs.Spanning.{Back, back_start, back_unsound, back_lacking, 
 use Rattle.order_spans.proofs.measure.Statement.{statement}
 use Rattle.order_spans.proofs.measure.Tie as tie
 
-abbrev invariant-loop : tie.invariant-loop
+abbrev invariant-loop : tie.invariant-loop-line
 invariant-loop order spans₀ line₀ first₀ top₀ run₀ spans line first top run = Back order spans₀ spans line × FirstSpan order spans line first top run
 
-abbrev decreases-loop : tie.decreases-loop
+abbrev decreases-loop : tie.decreases-loop-line
 decreases-loop order spans₀ line₀ first₀ top₀ run₀ spans line first top run = line
 
-loop-holds : tie.Need-loop-init invariant-loop decreases-loop
+loop-holds : tie.Need-loop-line-init invariant-loop decreases-loop
 loop-holds c =
-    let p = c.before.before.requires in
+    let p = c.requires in
     (back_start _ _ p.1 p.2 p.0, front-start _ _ p.1)
 
-returns : tie.Need-returns invariant-loop decreases-loop
+returns : tie.Need-returns-then-not-node_ok invariant-loop decreases-loop
 returns c =
-    let l = c.before.before.before.before.before.before.loop in
-    let more = c.before.before.before.before.before.loop-test.true in
-    let e = sym c.before.node_ok.ensures ∙ not-true _ c.if2.true in
-    let m = no_tree _ l.spans (back_unsound _ _ _ _ l.invariant.0 _ _ _ more refl refl (sym c.before.before.if1.true) e) in
+    let l = c.loop-line in
+    let more = c.loop-line-test.true in
+    let e = sym c.node_ok.ensures ∙ not-true _ c.if-not-node_ok.true in
+    let m = no_tree _ l.spans (back_unsound _ _ _ _ l.invariant.0 _ _ _ more refl refl (sym c.if-children-eq0.true) e) in
     (m.0, (m.1, l.invariant.0.kept))
 
-add-run : tie.Need-overflow-add-run invariant-loop decreases-loop
+add-run : tie.Need-overflow_add-run invariant-loop decreases-loop
 add-run c =
-    let l = c.before.before.before.before.before.before.before.before.before.before.loop in
+    let l = c.loop-line in
     omega (arith, front-small _ _ _ _ _ _ _ l.invariant.0 l.invariant.1, l.invariant.0.short)
 
-returns-2 : tie.Need-returns-2 invariant-loop decreases-loop
+returns-2 : tie.Need-returns-then-not-node_ok-2 invariant-loop decreases-loop
 returns-2 c =
-    let l = c.before.before.before.before.before.before.loop in
-    let more = c.before.before.before.before.before.loop-test.true in
-    let e = sym c.before.node-ok2.ensures ∙ not-true _ c.if3.true in
+    let l = c.loop-line in
+    let more = c.loop-line-test.true in
+    let e = sym c.node_ok-else-children-eq0.ensures ∙ not-true _ c.if-not-node_ok-2.true in
     let m = no_tree _ l.spans (back_unsound _ _ _ _ l.invariant.0 _ _ _ more refl refl refl e) in
     (m.0, (m.1, l.invariant.0.kept))
 
-enum_told : tie.Need-enum-told invariant-loop decreases-loop
+enum_told : tie.Need-enum_told-1 invariant-loop decreases-loop
 enum_told c = search rules
 
-returns-3 : tie.Need-returns-3 invariant-loop decreases-loop
+returns-3 : tie.Need-returns-in_default invariant-loop decreases-loop
 returns-3 c =
-    let l = c.before.before.before.before.before.before.before.before.before.before.loop in
-    let more = c.before.before.before.before.before.before.before.before.before.loop-test.true in
-    let e = sym c.enum_told.given.1 ∙ c.before.before.over-children.ensures in
+    let l = c.loop-line in
+    let more = c.loop-line-test.true in
+    let e = sym c.in_default.is ∙ c.over_children.ensures in
     let m = no_tree _ l.spans (back_lacking _ _ _ _ l.invariant.0 _ _ _ more refl refl refl e) in
     (m.0, (m.1, l.invariant.0.kept))
 
 -- What the node comes to is small.
-small : (c : tie.After-known-told invariant-loop decreases-loop) →
-    let n = length c.before.before.before.before.before.before.before.before.before.before.before.before.before.before.args.order.now / 2 in
-    (c.before.end.given.0.0 ≤ n) × (c.before.end.given.0.1.0 ≤ n)
+small : (c : tie.In-To invariant-loop decreases-loop) →
+    let n = length c.args.order.now / 2 in
+    (c.in-To.end ≤ n) × (c.in-To.depth ≤ n)
 small c =
-    let l = c.before.before.before.before.before.before.before.before.before.before.before.loop in
-    back_small _ _ _ _ _ _ _ l.invariant.0 (sym c.before.end.given.1 ∙ c.before.before.before.over-children.ensures)
+    let l = c.loop-line in
+    back_small _ _ _ _ _ _ _ l.invariant.0 (sym c.in-To.is ∙ c.over_children.ensures)
 
-put-span-requires-2 : tie.Need-put-span-requires-2 invariant-loop decreases-loop
+put-span-requires-2 : tie.Need-put_span-requires-else-children-eq0 invariant-loop decreases-loop
 put-span-requires-2 c κs =
-    let l = c.before.before.before.before.before.before.before.before.before.before.before.before.loop in
+    let l = c.loop-line in
     let m = small c.before in
-    (c.before.before.before.before.before.before.before.before.before.before.before.loop-test.true, omega (arith, l.invariant.0.low, l.invariant.0.room), omega (arith, m.0, l.invariant.0.short), omega (arith, m.1, l.invariant.0.short))
+    (c.loop-line-test.true, omega (arith, l.invariant.0.low, l.invariant.0.room), omega (arith, m.0, l.invariant.0.short), omega (arith, m.1, l.invariant.0.short))
 
-cast-top : tie.Need-overflow-cast-top invariant-loop decreases-loop
-cast-top c = omega (arith, (small c.before.before.before.before).1, c.before.before.before.before.before.before.before.before.before.before.before.before.before.before.before.loop.invariant.0.short)
+cast-top : tie.Need-overflow_cast-top invariant-loop decreases-loop
+cast-top c = omega (arith, (small c.before.before.before.before).1, c.loop-line.invariant.0.short)
 
-loop-again : tie.Need-loop-preserved invariant-loop decreases-loop
+loop-again : tie.Need-loop-line-preserved invariant-loop decreases-loop
 loop-again c =
-    let l = c.before.before.before.before.loop in
-    let more = c.before.before.before.loop-test.true in
+    let l = c.loop-line in
+    let more = c.loop-line-test.true in
     ⊎_elim
     (λ w.
     let n = sym w.0.taken in
@@ -91,40 +91,51 @@ loop-again c =
       back_next _ _ _ _ l.invariant.0 _ _ _ more refl refl refl _ _ e g,
       front-node _ _ _ _ l.invariant.0 _ _ _ more refl refl refl _ _ _ _ _ l.invariant.1 e (omega (arith, w.0.left)) g,
     ))
-    c.if1.branch
+    c.if-children-eq0.branch
 
 whole-requires : tie.Need-whole-requires invariant-loop decreases-loop
 whole-requires c κs =
-    let l = c.before.before.loop in
-    ((l.invariant.0.short, l.invariant.0.even, l.invariant.0.room), back_all _ _ _ _ l.invariant.0 (omega (arith, c.before.loop-test.false)))
+    let l = c.loop-line in
+    ((l.invariant.0.short, l.invariant.0.even, l.invariant.0.room), back_all _ _ _ _ l.invariant.0 (omega (arith, c.loop-line-test.false)))
 
-returns-4 : tie.Need-returns-4 invariant-loop decreases-loop
+returns-4 : tie.Need-returns invariant-loop decreases-loop
 returns-4 c =
-    let l = c.before.before.before.loop in
-    let all = back_all _ _ _ _ l.invariant.0 (omega (arith, c.before.before.loop-test.false)) in
+    let l = c.loop-line in
+    let all = back_all _ _ _ _ l.invariant.0 (omega (arith, c.loop-line-test.false)) in
     (c.whole.ensures, (whole-listed _ _ l.invariant.0.even l.invariant.0.room all, l.invariant.0.kept))
 
-pub measure-spec : {M : Type 1} → statement M
-measure-spec =
+pub measure_spec : {M : Type 1} → statement M
+measure_spec =
     tie.close
     (tie.spec
     invariant-loop
     decreases-loop
     loop-holds
-    (λ c. search rules) (λ c. search rules) (λ c. search rules) (λ c. search rules) (λ c. search rules) (λ c. search rules)
-    (λ c. search rules) (λ c. search rules) (λ c κs. search rules) (λ c. search rules)
+    (λ c. search rules)
+    (λ c. search rules)
+    (λ c. search rules)
+    (λ c. search rules)
+    (λ c. search rules)
+    (λ c. search rules)
+    (λ c. search rules)
+    (λ c. search rules)
+    (λ c. search rules)
+    (λ c. search rules)
     returns
-    (λ c κs. search rules)
+    (λ c. search rules)
     add-run
-    (λ c κs. search rules) (λ c. search rules)
+    (λ c. search rules)
+    (λ c. search rules)
     returns-2
-    (λ c κs. search rules) (λ c. search rules)
+    (λ c. search rules)
+    (λ c. search rules)
     enum_told
     (λ c. search rules)
     returns-3
     put-span-requires-2
     cast-top
-    (λ c. search rules) (λ c. search rules)
+    (λ c. search rules)
+    (λ c. search rules)
     loop-again
     whole-requires
     (λ c. search rules)

@@ -7,31 +7,33 @@ use Rattle.order.proofs.Spanning.{whole-none, whole-more, whole-one}
 use Rattle.order_spans.proofs.whole.Statement.{statement}
 use Rattle.order_spans.proofs.whole.Tie as tie
 
-returns : tie.Need-returns
+returns : tie.Need-returns-then-order-lt2
 unfolding measured_of
 returns c =
-    let p = c.before.before.before.requires in
-    rw (whole-none _ _ p.0.1 p.0.2 p.1 c.if1.true) refl
+    let p = c.requires in
+    rw (whole-none _ _ p.0.1 p.0.2 p.1 c.if-order-lt2.true) refl
 
-returns-2 : tie.Need-returns-2
+returns-2 : tie.Need-returns-then-end-order
 unfolding measured_of
 returns-2 c =
-    let p = c.before.before.before.before.before.before.requires in
-    let low = c.before.before.before.if1.false in
-    rw (whole-more _ _ p.0.1 p.0.2 p.1 (omega arith) (λ e. omega (arith, c.before.wide.ensures, c.if2.true))) refl
+    let p = c.requires in
+    let low = c.if-order-lt2.false in
+    rw (whole-more _ _ p.0.1 p.0.2 p.1 (omega arith) (λ e. omega (arith, c.wide-end.ensures, c.if-end-order.true))) refl
 
-returns-3 : tie.Need-returns-3
+returns-3 : tie.Need-returns
 returns-3 c =
-    let p = c.before.before.before.before.before.before.before.before.requires in
-    let low = c.before.before.before.before.before.if1.false in
-    rw c.wide2.ensures (sym (whole-one _ _ p.0.1 p.0.2 p.1 (omega arith) (omega (arith, c.before.before.before.wide.ensures, c.before.before.if2.false))))
+    let p = c.requires in
+    let low = c.if-order-lt2.false in
+    rw c.wide-depth.ensures (sym (whole-one _ _ p.0.1 p.0.2 p.1 (omega arith) (omega (arith, c.wide-end.ensures, c.if-end-order.false))))
 
-pub whole-spec : {M : Type 1} → statement M
-whole-spec =
+pub whole_spec : {M : Type 1} → statement M
+whole_spec =
     tie.close
     (tie.spec
     returns
-    (λ c. search rules) (λ c κs. search rules)
+    (λ c. search rules)
+    (λ c. search rules)
     returns-2
-    (λ c. search rules) (λ c κs. search rules)
+    (λ c. search rules)
+    (λ c. search rules)
     returns-3)

@@ -17,19 +17,19 @@ use Rattle.section_change.proofs.add_all.Statement.{statement}
 use Rattle.section_change.proofs.add_all.Tie as tie
 
 -- The place that the sweep has reached, whatever words the book began with before the gap was opened.
-abbrev invariant-loop : tie.invariant-loop
+abbrev invariant-loop : tie.invariant-loop-rest
 invariant-loop book₀ many used other more lacking to₀ kept₀ at₀ left₀ from₀ rest₀ count₀ book to kept at left from rest count =
     (ws : List ℕ) → Ready ws many used other more lacking → book₀ ≡ take lacking ws ++ (take used ws ++ drop (lacking + used) ws)
     → Adds ws many used other more lacking book to kept at left from rest count
 
 -- Each turn passes an entry of one of the two.
-abbrev decreases-loop : tie.decreases-loop
+abbrev decreases-loop : tie.decreases-loop-rest
 decreases-loop book₀ many used other more lacking to₀ kept₀ at₀ left₀ from₀ rest₀ count₀ book to kept at left from rest count = left + rest
 
 -- What the pass asks is what the caller has shown.
-ready : (c : tie.After-open-gap-arg invariant-loop decreases-loop) → let x = c.before.before.before.args in Ready x.book.now x.many x.used x.other.now x.more x.lacking
+ready : (c : tie.After-open_gap-arg-1 invariant-loop decreases-loop) → let x = c.args in Ready x.book.now x.many x.used x.other.now x.more x.lacking
 ready c =
-    let pre = c.before.before.before.requires in
+    let pre = c.requires in
     record {
       laid = pre.0.0;
       sorted = pre.0.1;
@@ -41,192 +41,186 @@ ready c =
     }
 
 -- The place that the sweep has reached, from the words that the book began with.
-reached : (k : tie.At-loop invariant-loop decreases-loop) → let x = k.before.before.before.before.before.before.before.args in
-    Adds x.book.now x.many x.used x.other.now x.more x.lacking k.loop.book k.loop.to k.loop.auto k.loop.at k.loop.left k.loop.from k.loop.rest k.loop.count
-reached k = k.loop.invariant _ (ready k.before.before.before.before) k.before.before.before.open-gap.ensures
+reached : (k : tie.At-loop-rest invariant-loop decreases-loop) → let x = k.args in
+    Adds x.book.now x.many x.used x.other.now x.more x.lacking k.loop-rest.book k.loop-rest.to k.loop-rest.kept k.loop-rest.at k.loop-rest.left k.loop-rest.from k.loop-rest.rest k.loop-rest.count
+reached k = k.loop-rest.invariant _ (ready k.before.before.before.before) k.open_gap.ensures
 
 -- The words of the other section.
-abbrev other : tie.At-loop invariant-loop decreases-loop → List ℕ
-other k = k.before.before.before.before.before.before.before.args.other.now
+abbrev other : tie.At-loop-rest invariant-loop decreases-loop → List ℕ
+other k = k.args.other.now
 
 -- The first of the other's entries left, and those behind it, lie within its words.
-room : (c : tie.In-loop invariant-loop decreases-loop) → let k = c.before in let end = k.loop.from + 2 + 2 * get_or (other k) k.loop.from 0 in
-    end + span (k.loop.rest - 1) (drop end (other k)) ≤ length (other k)
-room c = let k = c.before in adds_inside _ _ _ _ _ _ _ _ _ _ _ _ _ _ (reached k) _ c.loop-test.true refl
+room : (c : tie.In-loop-rest invariant-loop decreases-loop) → let end = c.loop-rest.from + 2 + 2 * get_or (other c.before) c.loop-rest.from 0 in
+    end + span (c.loop-rest.rest - 1) (drop end (other c.before)) ≤ length (other c.before)
+room c = adds_inside _ _ _ _ _ _ _ _ _ _ _ _ _ _ (reached c.before) _ c.loop-rest-test.true refl
 
 -- The entries left lie within the words used, these within the book, and there are no more entries than words.
-within : (k : tie.At-loop invariant-loop decreases-loop) → let x = k.before.before.before.before.before.before.before.args in
-    (k.loop.at + span k.loop.left (drop k.loop.at k.loop.book) ≤ x.used + x.lacking) × (x.used + x.lacking ≤ length k.loop.book) × (k.loop.count ≤ length k.loop.book)
+within : (k : tie.At-loop-rest invariant-loop decreases-loop) → let x = k.args in
+    (k.loop-rest.at + span k.loop-rest.left (drop k.loop-rest.at k.loop-rest.book) ≤ x.used + x.lacking) × (x.used + x.lacking ≤ length k.loop-rest.book) × (k.loop-rest.count ≤ length k.loop-rest.book)
 within k = adds_within _ _ _ _ _ _ _ _ _ _ _ _ _ _ (reached k)
 
 -- The first of them lies within the book.
-first : (k : tie.At-loop invariant-loop decreases-loop) → 0 < k.loop.left → k.loop.at + 2 + 2 * get_or k.loop.book k.loop.at 0 ≤ length k.loop.book
+first : (k : tie.At-loop-rest invariant-loop decreases-loop) → 0 < k.loop-rest.left → k.loop-rest.at + 2 + 2 * get_or k.loop-rest.book k.loop-rest.at 0 ≤ length k.loop-rest.book
 first k h = adds_first _ _ _ _ _ _ _ _ _ _ _ _ _ _ (reached k) h
 
 -- How the first entry left stands to the key, as it was told.
-abbrev Told : (k : tie.At-loop invariant-loop decreases-loop) → ℕ → Compared → Type 0
+abbrev Told : (k : tie.At-loop-rest invariant-loop decreases-loop) → ℕ → Compared → Type 0
 Told k end o =
-    first_against (take (end - (k.loop.from + 2)) (drop (k.loop.from + 2) (other k))) (entries k.loop.left (drop k.loop.at k.loop.book)) ≡ o
+    first_against (take (end - (k.loop-rest.from + 2)) (drop (k.loop-rest.from + 2) (other k))) (entries k.loop-rest.left (drop k.loop-rest.at k.loop-rest.book)) ≡ o
 
 -- In the first arm it is lower.
-is-lower : (c : tie.After-enum-told invariant-loop decreases-loop) → let p = c.before.before.before.before.before in Told p.before.before p.past.result Lower
-is-lower c = sym c.before.before.first-against.ensures ∙ c.enum_told.given.1
+is-lower : (c : tie.In-Lower invariant-loop decreases-loop) → Told c.before.before.before.before.before c.past-end.result Lower
+is-lower c = sym c.first_against.ensures ∙ c.in-Lower.is
 
 -- In the second it is equal.
-is-equal : (c : tie.After-enum-told2 invariant-loop decreases-loop) → let p = c.before.before.before.before.before in Told p.before.before p.past.result Equal
-is-equal c = sym c.before.before.first-against.ensures ∙ c.enum-told2.given.1
+is-equal : (c : tie.In-Equal invariant-loop decreases-loop) → Told c.before.before.before.before.before c.past-end.result Equal
+is-equal c = sym c.first_against.ensures ∙ c.in-Equal.is
 
 -- In the third it is higher, or there is none.
-is-higher : (c : tie.After-enum-told3 invariant-loop decreases-loop) → let p = c.before.before.before.before.before in Told p.before.before p.past.result Higher
-is-higher c = sym c.before.before.first-against.ensures ∙ c.enum-told3.given.1
+is-higher : (c : tie.In-Higher invariant-loop decreases-loop) → Told c.before.before.before.before.before c.past-end.result Higher
+is-higher c = sym c.first_against.ensures ∙ c.in-Higher.is
 
 -- One is left if it is lower.
-some-lower : (c : tie.After-enum-told invariant-loop decreases-loop) → 0 < c.before.before.before.before.before.before.before.loop.left
+some-lower : (c : tie.In-Lower invariant-loop decreases-loop) → 0 < c.loop-rest.left
 some-lower c = against_some _ _ _ Lower (is-lower c) (λ h. never cc)
 
 -- One is left if it is equal.
-some-equal : (c : tie.After-enum-told2 invariant-loop decreases-loop) → 0 < c.before.before.before.before.before.before.before.loop.left
+some-equal : (c : tie.In-Equal invariant-loop decreases-loop) → 0 < c.loop-rest.left
 some-equal c = against_some _ _ _ Equal (is-equal c) (λ h. never cc)
 
 -- An equal entry lies within the book.
-equal-here : (c : tie.After-enum-told2 invariant-loop decreases-loop) → let k = c.before.before.before.before.before.before.before in
-    k.loop.at + 2 + 2 * get_or k.loop.book k.loop.at 0 ≤ length k.loop.book
-equal-here c = first c.before.before.before.before.before.before.before (some-equal c)
+equal-here : (c : tie.In-Equal invariant-loop decreases-loop) → 
+    c.loop-rest.at + 2 + 2 * get_or c.loop-rest.book c.loop-rest.at 0 ≤ length c.loop-rest.book
+equal-here c = first c.before.before.before.before.before (some-equal c)
 
-open-gap-requires : tie.Need-open-gap-requires invariant-loop decreases-loop
+open-gap-requires : tie.Need-open_gap-requires invariant-loop decreases-loop
 open-gap-requires c κs = ready_room _ _ _ _ _ _ (ready c)
 
-loop-holds : tie.Need-loop-init invariant-loop decreases-loop
+loop-holds : tie.Need-loop-rest-init invariant-loop decreases-loop
 loop-holds c = λ ws r now. adds_start ws _ _ _ _ _ r _ now
 
-add_start : tie.Need-overflow-add-start invariant-loop decreases-loop
+add_start : tie.Need-overflow_add-start invariant-loop decreases-loop
 add_start c = omega (arith, room c)
 
-past-requires : tie.Need-past-requires invariant-loop decreases-loop
+past-requires : tie.Need-past-end-requires invariant-loop decreases-loop
 past-requires c κs = omega (arith, room c)
 
-mul-first-against : tie.Need-overflow-mul-first-against invariant-loop decreases-loop
-mul-first-against c = omega (arith, room c.before.before, c.before.before.before.before.before.before.before.before.before.before.well-formed)
+mul-first-against : tie.Need-offset_bounds-other-start invariant-loop decreases-loop
+mul-first-against c = omega (arith, room c.before, c.well_formed)
 
-part-first-against-end : tie.Need-slice-bounds-first-against-end invariant-loop decreases-loop
-part-first-against-end c = omega (arith, room c.before.before)
+part-first-against-end : tie.Need-slice_bounds-first_against-end invariant-loop decreases-loop
+part-first-against-end c = omega (arith, room c.before)
 
-first-against-requires : tie.Need-first-against-requires invariant-loop decreases-loop
-first-against-requires c κs = omega (arith, within c.before.before.before.before)
+first-against-requires : tie.Need-first_against-requires invariant-loop decreases-loop
+first-against-requires c κs = omega (arith, within c.before.before.before)
 
-enum_told : tie.Need-enum-told invariant-loop decreases-loop
+enum_told : tie.Need-enum_told-1 invariant-loop decreases-loop
 enum_told c = search rules
 
-past-requires-2 : tie.Need-past-requires-2 invariant-loop decreases-loop
-past-requires-2 c κs = first c.before.before.before.before.before.before.before.before (some-lower c.before)
+past-requires-2 : tie.Need-past-at-requires invariant-loop decreases-loop
+past-requires-2 c κs = first c.before.before.before.before.before (some-lower c)
 
-sub-left : tie.Need-overflow-sub-left invariant-loop decreases-loop
-sub-left c = some-lower c.before.before
+sub-left : tie.Need-overflow_sub-left invariant-loop decreases-loop
+sub-left c = some-lower c.before
 
-loop-less : tie.Need-loop-smaller invariant-loop decreases-loop
-loop-less c = omega (arith, some-lower c.before.before)
+loop-less : tie.Need-loop-rest-smaller-in-Lower invariant-loop decreases-loop
+loop-less c = omega (arith, some-lower c.before)
 
-loop-again : tie.Need-loop-preserved invariant-loop decreases-loop
+loop-again : tie.Need-loop-rest-preserved-in-Lower invariant-loop decreases-loop
 loop-again c =
-    let e = c.before.before in
-    let p = e.before.before.before.before.before in
-    let k = p.before.before in
-    λ ws r now. adds_lower ws _ _ _ _ _ _ _ _ _ _ _ _ _ (k.loop.invariant ws r now) p.past.result p.before.loop-test.true p.past.ensures (is-lower e) (some-lower e) c.past2.result c.past2.ensures
+    
+    
+    λ ws r now. adds_lower ws _ _ _ _ _ _ _ _ _ _ _ _ _ (c.loop-rest.invariant ws r now) c.past-end.result c.loop-rest-test.true c.past-end.ensures (is-lower c.before) (some-lower c.before) c.past-at.result c.past-at.ensures
 
-mul-raise : tie.Need-overflow-mul-raise invariant-loop decreases-loop
-mul-raise c = let k = c.before.before.before.before.before.before.before in omega (arith, equal-here c, (reached k).gap.long, k.before.before.before.before.before.before.before.well-formed)
+mul-raise : tie.Need-offset_bounds-book-at invariant-loop decreases-loop
+mul-raise c = omega (arith, equal-here c, (reached c.before.before.before.before.before).gap.long, c.well_formed)
 
-sub-raise : tie.Need-overflow-sub-raise invariant-loop decreases-loop
+sub-raise : tie.Need-slice_bounds-raise-count invariant-loop decreases-loop
 sub-raise c = omega (arith, equal-here c)
 
-part-raise-start : tie.Need-slice-bounds-raise-start invariant-loop decreases-loop
+part-raise-start : tie.Need-slice_bounds-raise-start invariant-loop decreases-loop
 part-raise-start c = omega (arith, equal-here c)
 
-add-raise : tie.Need-overflow-add-raise invariant-loop decreases-loop
-add-raise c = omega (arith, room c.before.before.before.before.before.before.before)
+add-raise : tie.Need-overflow_add-from invariant-loop decreases-loop
+add-raise c = omega (arith, room c.before.before.before.before.before)
 
-mul-raise-2 : tie.Need-overflow-mul-raise-2 invariant-loop decreases-loop
-mul-raise-2 c = omega (arith, room c.before.before.before.before.before.before.before)
+mul-raise-2 : tie.Need-offset_bounds-other-from invariant-loop decreases-loop
+mul-raise-2 c = omega (arith, room c.before.before.before.before.before)
 
-shared-slice-read-raise : tie.Need-shared-slice-read-raise invariant-loop decreases-loop
-shared-slice-read-raise c = omega (arith, room c.before.before.before.before.before.before.before.before)
+shared-slice-read-raise : tie.Need-bounds-other-from invariant-loop decreases-loop
+shared-slice-read-raise c = omega (arith, room c.before.before.before.before.before.before)
 
 raise-requires : tie.Need-raise-requires invariant-loop decreases-loop
 raise-requires c κs =
-    let e = c.before.before in
-    let p = e.before.before.before.before.before in
-    let k = p.before.before in
-    adds_fits _ _ _ _ _ _ _ _ _ _ _ _ _ _ (reached k) p.past.result p.before.loop-test.true p.past.ensures (is-equal e) (some-equal e)
+    
+    
+    adds_fits _ _ _ _ _ _ _ _ _ _ _ _ _ _ (reached c.before.before.before.before.before.before.before) c.past-end.result c.loop-rest-test.true c.past-end.ensures (is-equal c.before.before) (some-equal c.before.before)
 
-past-requires-3 : tie.Need-past-requires-3 invariant-loop decreases-loop
+past-requires-3 : tie.Need-past-at-requires-in-Equal invariant-loop decreases-loop
 past-requires-3 c κs =
-    let r = c.before.before.before in
-    let e = r.before.before.before in
-    let p = e.before.before.before.before.before in
-    let k = p.before.before in
-    let a = adds_raised _ _ _ _ _ _ _ _ _ _ _ _ _ _ (reached k) p.past.result p.before.loop-test.true p.past.ensures r.raise.new.0 r.raise.ensures (some-equal e) in
-    omega (arith, a.0, a.1, equal-here e)
+    
+    
+    
+    let a = adds_raised _ _ _ _ _ _ _ _ _ _ _ _ _ _ (reached c.before.before.before.before.before.before.before.before.before.before) c.past-end.result c.loop-rest-test.true c.past-end.ensures c.raise.new.part c.raise.ensures (some-equal c.before.before.before.before.before) in
+    omega (arith, a.0, a.1, equal-here c.before.before.before.before.before)
 
-sub-left-2 : tie.Need-overflow-sub-left-2 invariant-loop decreases-loop
-sub-left-2 c = some-equal c.before.before.before.before.before.before.before
+sub-left-2 : tie.Need-overflow_sub-left-in-Equal invariant-loop decreases-loop
+sub-left-2 c = some-equal c.before.before.before.before.before.before
 
-sub-rest : tie.Need-overflow-sub-rest invariant-loop decreases-loop
-sub-rest c = c.before.before.before.before.before.before.before.before.before.before.before.before.before.loop-test.true
+sub-rest : tie.Need-overflow_sub-rest invariant-loop decreases-loop
+sub-rest c = c.loop-rest-test.true
 
-loop-less-2 : tie.Need-loop-smaller-2 invariant-loop decreases-loop
-loop-less-2 c = omega (arith, some-equal c.before.before.before.before.before.before.before, c.before.before.before.before.before.before.before.before.before.before.before.before.before.loop-test.true)
+loop-less-2 : tie.Need-loop-rest-smaller-in-Equal invariant-loop decreases-loop
+loop-less-2 c = omega (arith, some-equal c.before.before.before.before.before.before, c.loop-rest-test.true)
 
-loop-again-2 : tie.Need-loop-preserved-2 invariant-loop decreases-loop
+loop-again-2 : tie.Need-loop-rest-preserved-in-Equal invariant-loop decreases-loop
 loop-again-2 c =
-    let r = c.before.before.before.before in
-    let e = r.before.before.before in
-    let p = e.before.before.before.before.before in
-    let k = p.before.before in
-    λ ws ready now. adds_equal ws _ _ _ _ _ _ _ _ _ _ _ _ _ (k.loop.invariant ws ready now) p.past.result p.before.loop-test.true p.past.ensures r.raise.new.0 r.raise.ensures (is-equal e) (some-equal e) c.past3.result c.past3.ensures
+    
+    
+    
+    λ ws ready now. adds_equal ws _ _ _ _ _ _ _ _ _ _ _ _ _ (c.loop-rest.invariant ws ready now) c.past-end.result c.loop-rest-test.true c.past-end.ensures c.raise.new.part c.raise.ensures (is-equal c.before.before.before.before.before.before) (some-equal c.before.before.before.before.before.before) c.past-at-in-Equal.result c.past-at-in-Equal.ensures
 
-mul-enter-behind : tie.Need-overflow-mul-enter-behind invariant-loop decreases-loop
-mul-enter-behind c = omega (arith, room c.before.before.before.before.before.before.before, c.before.before.before.before.before.before.before.before.before.before.before.before.before.before.before.well-formed)
+mul-enter-behind : tie.Need-offset_bounds-other-from-in-Higher invariant-loop decreases-loop
+mul-enter-behind c = omega (arith, room c.before.before.before.before.before, c.well_formed)
 
-part-enter-behind-end : tie.Need-slice-bounds-enter-behind-end invariant-loop decreases-loop
-part-enter-behind-end c = omega (arith, room c.before.before.before.before.before.before.before)
+part-enter-behind-end : tie.Need-slice_bounds-enter_behind-end invariant-loop decreases-loop
+part-enter-behind-end c = omega (arith, room c.before.before.before.before.before)
 
-enter-behind-requires : tie.Need-enter-behind-requires invariant-loop decreases-loop
+enter-behind-requires : tie.Need-enter_behind-to-requires invariant-loop decreases-loop
 enter-behind-requires c κs =
-    let e = c.before.before in
-    let p = e.before.before.before.before.before in
-    let k = p.before.before in
-    let g = (reached k).gap in
-    let fits = adds_room _ _ _ _ _ _ _ _ _ _ _ _ _ _ (reached k) p.past.result p.before.loop-test.true p.past.ensures (is-higher e) in
-    (simp (length-take, length-drop) (omega (arith, fits, room p.before)), g.mid, g.high)
+    
+    
+    let g = (reached c.before.before.before.before.before.before.before).gap in
+    let fits = adds_room _ _ _ _ _ _ _ _ _ _ _ _ _ _ (reached c.before.before.before.before.before.before.before) c.past-end.result c.loop-rest-test.true c.past-end.ensures (is-higher c.before.before) in
+    (simp (length-take, length-drop) (omega (arith, fits, room c.before.before.before.before.before.before)), g.mid, g.high)
 
-add-count : tie.Need-overflow-add-count invariant-loop decreases-loop
-add-count c = let k = c.before.before.before.before.before.before.before.before.before.before.before.before in omega (arith, within k, (reached k).gap.long, k.before.before.before.before.before.before.before.well-formed)
+add-count : tie.Need-overflow_add-count invariant-loop decreases-loop
+add-count c = omega (arith, within c.before.before.before.before.before.before.before.before.before.before, (reached c.before.before.before.before.before.before.before.before.before.before).gap.long, c.well_formed)
 
-sub-rest-2 : tie.Need-overflow-sub-rest-2 invariant-loop decreases-loop
-sub-rest-2 c = c.before.before.before.before.before.before.before.before.before.before.before.loop-test.true
+sub-rest-2 : tie.Need-overflow_sub-rest-in-Higher invariant-loop decreases-loop
+sub-rest-2 c = c.loop-rest-test.true
 
-loop-less-3 : tie.Need-loop-smaller-3 invariant-loop decreases-loop
-loop-less-3 c = omega (arith, c.before.before.before.before.before.before.before.before.before.before.before.loop-test.true)
+loop-less-3 : tie.Need-loop-rest-smaller invariant-loop decreases-loop
+loop-less-3 c = omega (arith, c.loop-rest-test.true)
 
-loop-again-3 : tie.Need-loop-preserved-3 invariant-loop decreases-loop
+loop-again-3 : tie.Need-loop-rest-preserved invariant-loop decreases-loop
 loop-again-3 c =
-    let b = c.before.before in
-    let e = b.before.before.before in
-    let p = e.before.before.before.before.before in
-    let k = p.before.before in
-    λ ws r now. adds_higher ws _ _ _ _ _ _ _ _ _ _ _ _ _ (k.loop.invariant ws r now) p.past.result p.before.loop-test.true p.past.ensures (is-higher e) b.enter_behind.new.0 b.enter_behind.result b.enter_behind.ensures.0 b.enter_behind.ensures.1 b.enter_behind.auto.0
+    
+    
+    
+    λ ws r now. adds_higher ws _ _ _ _ _ _ _ _ _ _ _ _ _ (c.loop-rest.invariant ws r now) c.past-end.result c.loop-rest-test.true c.past-end.ensures (is-higher c.before.before.before.before.before) c.enter_behind-to.new.book c.enter_behind-to.result c.enter_behind-to.ensures.0 c.enter_behind-to.ensures.1 c.enter_behind-to.auto.book
 
-add-uses : tie.Need-overflow-add-uses invariant-loop decreases-loop
-add-uses c = let k = c.before in omega (arith, within k, (reached k).gap.long, k.before.before.before.before.before.before.before.well-formed)
+add-uses : tie.Need-overflow_add-uses invariant-loop decreases-loop
+add-uses c = omega (arith, within c.before, (reached c.before).gap.long, c.well_formed)
 
-same_length : tie.Need-same-length invariant-loop decreases-loop
+same_length : tie.Need-shape_of-book invariant-loop decreases-loop
 same_length c = (reached c.before).gap.long
 
 returns : tie.Need-returns invariant-loop decreases-loop
-returns c = let k = c.before in adds_end _ _ _ _ _ _ _ _ _ _ _ _ _ _ (reached k) (ready k.before.before.before.before).laid c.loop-test.false
+returns c = adds_end _ _ _ _ _ _ _ _ _ _ _ _ _ _ (reached c.before) (ready c.before.before.before.before.before).laid c.loop-rest-test.false
 
-pub add-all-spec : {M : Type 1} → statement M
-add-all-spec =
+pub add_all_spec : {M : Type 1} → statement M
+add_all_spec =
     tie.close
     (tie.spec
     invariant-loop
@@ -236,7 +230,8 @@ add-all-spec =
     add_start
     past-requires
     mul-first-against
-    (λ c. search rules) (λ c. search rules)
+    (λ c. search rules)
+    (λ c. search rules)
     part-first-against-end
     first-against-requires
     enum_told
@@ -260,7 +255,8 @@ add-all-spec =
     loop-again-2
     (λ c. search rules)
     mul-enter-behind
-    (λ c. search rules) (λ c. search rules)
+    (λ c. search rules)
+    (λ c. search rules)
     part-enter-behind-end
     enter-behind-requires
     add-count

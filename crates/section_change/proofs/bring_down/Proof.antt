@@ -13,7 +13,7 @@ use Rattle.section_change.proofs.bring_down.Statement.{statement}
 use Rattle.section_change.proofs.bring_down.Tie as tie
 
 slide-requires : tie.Need-slide-requires
-slide-requires c κs = simp (length-take, length-drop) (omega (arith, c.before.before.requires))
+slide-requires c κs = simp (length-take, length-drop) (omega (arith, c.requires))
 
 -- The book once the part that was lent has come back.
 came-back : (book last : List ℕ) (to kept at : ℕ) → to ≤ kept → kept ≤ at → at ≤ length book → let part = take (length book - to) (drop to book) in
@@ -25,15 +25,20 @@ came-back book last to kept at low mid high now =
 
 returns : tie.Need-returns
 returns c =
-    let s = c.before.before.before.before.before in
-    let x = s.args in
-    (came-back x.book.now _ x.to x.kept x.at s.requires.0 s.requires.1 s.requires.2 c.before.before.slide.ensures, refl)
+    let x = c.args in
+    (came-back x.book.now _ x.to x.kept x.at c.requires.0 c.requires.1 c.requires.2 c.slide.ensures, refl)
 
-pub bring-down-spec : {M : Type 1} → statement M
-bring-down-spec =
+pub bring_down_spec : {M : Type 1} → statement M
+bring_down_spec =
     tie.close
     (tie.spec
-    (λ c. search rules) (λ c. search rules) (λ c. search rules) (λ c. search rules) (λ c. search rules) (λ c. search rules)
+    (λ c. search rules)
+    (λ c. search rules)
+    (λ c. search rules)
+    (λ c. search rules)
+    (λ c. search rules)
+    (λ c. search rules)
     slide-requires
-    (λ c. search rules) (λ c. search rules)
+    (λ c. search rules)
+    (λ c. search rules)
     returns)

@@ -11,13 +11,13 @@ use Rattle.words.specs.Base.{over}
 use Rattle.section_change.proofs.enter.Statement.{statement}
 use Rattle.section_change.proofs.enter.Tie as tie
 
-open-gap-requires : tie.Need-open-gap-requires
+open-gap-requires : tie.Need-open_gap-requires
 open-gap-requires c κs = omega arith
 
 copy-requires : tie.Need-copy-requires
 copy-requires c κs = search rules
 
-same_length : tie.Need-same-length
+same_length : tie.Need-shape_of-part
 same_length c = search rules
 
 -- The words written over the gap, once what stood in front has moved.
@@ -30,8 +30,13 @@ entered part gap entry last used fits opened copied =
 
 returns : tie.Need-returns
 returns c =
-    let x = c.before.before.before.before.before.before.before.before.before.before.args in
-    entered x.part.now _ x.entry.now _ x.used (search rules) c.before.before.before.before.before.before.open-gap.ensures c.before.before.copy.ensures
+    let x = c.args in
+    entered x.part.now _ x.entry.now _ x.used (search rules) c.open_gap.ensures c.copy.ensures
 
 pub enter_spec : {M : Type 1} → statement M
-enter_spec = tie.close (tie.spec open-gap-requires copy-requires same_length returns)
+enter_spec = tie.close
+    (tie.spec
+    open-gap-requires
+    copy-requires
+    same_length
+    returns)

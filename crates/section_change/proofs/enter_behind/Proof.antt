@@ -27,15 +27,20 @@ came-back book down entry last to kept at end low mid high moved is now =
 
 returns : tie.Need-returns
 returns c =
-    let b = c.before.before.before.before.before.before in
-    let s = b.before.before.before.before in
-    let x = s.args in
-    (came-back x.book.now _ x.entry.now _ x.to x.kept x.at _ s.requires.0 s.requires.1 s.requires.2 b.bring-down.ensures.0 b.bring-down.ensures.1 c.before.before.copy.ensures, ap (λ (n : ℕ). n + length x.entry.now) b.bring-down.ensures.1)
+    
+    let x = c.args in
+    (came-back x.book.now _ x.entry.now _ x.to x.kept x.at _ c.requires.0 c.requires.1 c.requires.2 c.bring_down-end.ensures.0 c.bring_down-end.ensures.1 c.copy.ensures, ap (λ (n : ℕ). n + length x.entry.now) c.bring_down-end.ensures.1)
 
-pub enter-behind-spec : {M : Type 1} → statement M
-enter-behind-spec =
+pub enter_behind_spec : {M : Type 1} → statement M
+enter_behind_spec =
     tie.close
     (tie.spec
-    (λ c κs. search rules) (λ c. search rules) (λ c. search rules) (λ c. search rules) (λ c. search rules) (λ c κs. search rules)
-    (λ c. search rules) (λ c. search rules)
+    (λ c. search rules)
+    (λ c. search rules)
+    (λ c. search rules)
+    (λ c. search rules)
+    (λ c. search rules)
+    (λ c. search rules)
+    (λ c. search rules)
+    (λ c. search rules)
     returns)

@@ -7,36 +7,40 @@ use Rattle.section_change.proofs.Lowering.{lessened-words_out, lessened-words_le
 use Rattle.section_change.proofs.lessen.Statement.{statement}
 use Rattle.section_change.proofs.lessen.Tie as tie
 
-bring-down-requires : tie.Need-bring-down-requires
+bring-down-requires : tie.Need-bring_down-end-requires
 bring-down-requires c κs =
-    let s = c.before.before.before.before.before.before in
-    (s.requires.0, s.requires.1, omega (arith, s.requires.2))
+    (c.requires.0, c.requires.1, omega (arith, c.requires.2))
 
-returns : tie.Need-returns
+returns : tie.Need-returns-then-count-le1
 returns c =
-    let i = c.before.before.before.before in
-    let k = i.before.before in
-    let x = k.before.before.before.args in
-    let b = c.before.before.bring-down in (
-      b.ensures.0 ∙ sym (lessened-words_out x.to x.kept x.at x.book.now i.if1.true),
-      ap₂ (λ (m n : ℕ). record { to = m; kept = n; next = n; out = 1 }) b.ensures.1 k.past.ensures ∙ sym (lessened-by_out x.to x.kept x.at x.book.now i.if1.true),
+    
+    let x = c.args in
+    let b = c.bring_down-end in (
+      b.ensures.0 ∙ sym (lessened-words_out x.to x.kept x.at x.book.now c.if-count-le1.true),
+      ap₂ (λ (m n : ℕ). record { to = m; kept = n; next = n; out = 1 }) b.ensures.1 c.past-next.ensures ∙ sym (lessened-by_out x.to x.kept x.at x.book.now c.if-count-le1.true),
     )
 
-returns-2 : tie.Need-returns-2
+returns-2 : tie.Need-returns
 returns-2 c =
-    let k = c.before.before in
-    let x = k.before.before.before.args in (
-      sym (lessened-words_left x.to x.kept x.at x.book.now c.if1.false),
-      ap (λ (n : ℕ). record { to = x.to; kept = x.kept; next = n; out = 0 }) k.past.ensures ∙ sym (lessened-by_left x.to x.kept x.at x.book.now c.if1.false),
+    let x = c.args in (
+      sym (lessened-words_left x.to x.kept x.at x.book.now c.if-count-le1.false),
+      ap (λ (n : ℕ). record { to = x.to; kept = x.kept; next = n; out = 0 }) c.past-next.ensures ∙ sym (lessened-by_left x.to x.kept x.at x.book.now c.if-count-le1.false),
     )
 
-pub lessen-spec : {M : Type 1} → statement M
-lessen-spec =
+pub lessen_spec : {M : Type 1} → statement M
+lessen_spec =
     tie.close
     (tie.spec
-    (λ c κs. search rules) (λ c. search rules) (λ c. search rules) (λ c. search rules)
+    (λ c. search rules)
+    (λ c. search rules)
+    (λ c. search rules)
+    (λ c. search rules)
     bring-down-requires
     (λ c. search rules)
     returns
-    (λ c. search rules) (λ c. search rules) (λ c. search rules) (λ c. search rules) (λ c. search rules)
+    (λ c. search rules)
+    (λ c. search rules)
+    (λ c. search rules)
+    (λ c. search rules)
+    (λ c. search rules)
     returns-2)

@@ -49,7 +49,6 @@ module _ (m n : ℕ) (full full' : Bool) (fits : n ≤ greatest_count) where
   told_over : greatest_count - n < m → full' ≡ true → full' ≡ (if leb (m + n) greatest_count then full else true)
   unfolding if◌then◌else◌
   told_over h e = rw (lt-leb (m + n) greatest_count (omega arith)) e
-
   -- Together they do not.
   told_under : m ≤ greatest_count - n → full' ≡ full → full' ≡ (if leb (m + n) greatest_count then full else true)
   unfolding if◌then◌else◌
@@ -61,7 +60,6 @@ module _ (book : List ℕ) (many : ℕ) (other : List ℕ) (more at left from re
   -- It lies within the other's words, with those behind it.
   room : end + span (rest - 1) (drop end other) ≤ length other
   room = omega (arith, s.theirs, span-at other from rest end some ends)
-
   -- A lower entry of the book is passed.
   past-lower : (next : ℕ) → 0 < left → next ≡ at + 2 + 2 * get_or book at 0 → first_against (take (end - (from + 2)) (drop (from + 2) other)) (entries left (drop at book)) ≡ Lower
       → State book many other more next (left - 1) from rest lacking full
@@ -70,7 +68,6 @@ module _ (book : List ℕ) (many : ℕ) (other : List ℕ) (more at left from re
       let w = rw (entries_at book at left next l nexts) at s.weighs in
       let c = rw (entries_at book at left next l nexts) at h in
       record { mine = omega (arith, s.mine, span-at book at left next l nexts); theirs = s.theirs; few = s.few; weighs = weighs_past w (rw (entries_at other from rest end some ends) c) }
-
   -- Two entries of the same key are passed.
   past_equal : (next : ℕ) → 0 < left → next ≡ at + 2 + 2 * get_or book at 0 → first_against (take (end - (from + 2)) (drop (from + 2) other)) (entries left (drop at book)) ≡ Equal
       → (full' : Bool) → full' ≡ (if leb (get_or book (at + 1) 0 + get_or other (from + 1) 0) greatest_count then full else true)
@@ -84,7 +81,6 @@ module _ (book : List ℕ) (many : ℕ) (other : List ℕ) (more at left from re
         few = omega (arith, s.few);
         weighs = rw told (weighs_same w (compare_equal _ _ c));
       }
-
   -- An entry of the other's that the book lacks is passed.
   past-higher : first_against (take (end - (from + 2)) (drop (from + 2) other)) (entries left (drop at book)) ≡ Higher
       → State book many other more at left end (rest - 1) (lacking + (end - from)) full
@@ -102,136 +98,132 @@ all-weighed book many other more at left from zero lacking full s h = weighs_all
 all-weighed book many other more at left from (suc rest) lacking full s h = absurd (omega arith)
 
 -- The entries left of both lie within their words, and the weighing goes on.
-abbrev invariant-loop : tie.invariant-loop
+abbrev invariant-loop : tie.invariant-loop-rest
 invariant-loop book many other more at₀ left₀ from₀ rest₀ lacking₀ overfull₀ at left from rest lacking full = State book many other more at left from rest lacking full
 
 -- Each turn leaves one entry fewer of the one or of the other.
-abbrev decreases-loop : tie.decreases-loop
+abbrev decreases-loop : tie.decreases-loop-rest
 decreases-loop book many other more at₀ left₀ from₀ rest₀ lacking₀ overfull₀ at left from rest lacking full = left + rest
 
 -- The words of the book.
-abbrev book : tie.At-loop invariant-loop decreases-loop → List ℕ
-book k = k.before.before.before.args.book.now
+abbrev book : tie.At-loop-rest invariant-loop decreases-loop → List ℕ
+book k = k.args.book.now
 
 -- The words of the other.
-abbrev other : tie.At-loop invariant-loop decreases-loop → List ℕ
-other k = k.before.before.before.args.other.now
+abbrev other : tie.At-loop-rest invariant-loop decreases-loop → List ℕ
+other k = k.args.other.now
 
 -- The other's entry at `from` and those behind it lie within its words.
-other-room : (c : tie.In-loop invariant-loop decreases-loop) → let k = c.before in let end = k.loop.from + 2 + 2 * get_or (other k) k.loop.from 0 in
-    end + span (k.loop.rest - 1) (drop end (other k)) ≤ length (other k)
-other-room c = let k = c.before in room _ _ _ _ _ _ _ _ _ _ (k.loop.from + 2 + 2 * get_or (other k) k.loop.from 0) k.loop.invariant c.loop-test.true refl
+other-room : (c : tie.In-loop-rest invariant-loop decreases-loop) → let end = c.loop-rest.from + 2 + 2 * get_or (other c.before) c.loop-rest.from 0 in
+    end + span (c.loop-rest.rest - 1) (drop end (other c.before)) ≤ length (other c.before)
+other-room c = room _ _ _ _ _ _ _ _ _ _ (c.loop-rest.from + 2 + 2 * get_or (other c.before) c.loop-rest.from 0) c.loop-rest.invariant c.loop-rest-test.true refl
 
 -- The book's entry at `at` and those behind it lie within its words, if one is left.
-book-room : (k : tie.At-loop invariant-loop decreases-loop) → 0 < k.loop.left → let end = k.loop.at + 2 + 2 * get_or (book k) k.loop.at 0 in
-    end + span (k.loop.left - 1) (drop end (book k)) ≤ length (book k)
+book-room : (k : tie.At-loop-rest invariant-loop decreases-loop) → 0 < k.loop-rest.left → let end = k.loop-rest.at + 2 + 2 * get_or (book k) k.loop-rest.at 0 in
+    end + span (k.loop-rest.left - 1) (drop end (book k)) ≤ length (book k)
 book-room k some =
-    omega (arith, k.loop.invariant.mine, span-at (book k) k.loop.at k.loop.left (k.loop.at + 2 + 2 * get_or (book k) k.loop.at 0) some refl)
+    omega (arith, k.loop-rest.invariant.mine, span-at (book k) k.loop-rest.at k.loop-rest.left (k.loop-rest.at + 2 + 2 * get_or (book k) k.loop-rest.at 0) some refl)
 
 -- The first of the book's entries left is lower.
-is-lower : (c : tie.After-enum-told invariant-loop decreases-loop) → let p = c.before.before.before.before in let k = p.before.before in
-    first_against (take (p.past.result - (k.loop.from + 2)) (drop (k.loop.from + 2) (other k))) (entries k.loop.left (drop k.loop.at (book k))) ≡ Lower
-is-lower c = sym c.before.before.first-against.ensures ∙ c.enum_told.given.1
+is-lower : (c : tie.In-Lower invariant-loop decreases-loop) → 
+    first_against (take (c.past-end.result - (c.loop-rest.from + 2)) (drop (c.loop-rest.from + 2) (other c.before.before.before.before.before))) (entries c.loop-rest.left (drop c.loop-rest.at (book c.before.before.before.before.before))) ≡ Lower
+is-lower c = sym c.first_against.ensures ∙ c.in-Lower.is
 
 -- So there is one.
-lower-left : (c : tie.After-enum-told invariant-loop decreases-loop) → 0 < c.before.before.before.before.before.before.loop.left
+lower-left : (c : tie.In-Lower invariant-loop decreases-loop) → 0 < c.loop-rest.left
 lower-left c = lower-some _ _ _ (is-lower c)
 
 -- The first of the book's entries left is equal.
-is-equal : (c : tie.After-enum-told2 invariant-loop decreases-loop) → let p = c.before.before.before.before in let k = p.before.before in
-    first_against (take (p.past.result - (k.loop.from + 2)) (drop (k.loop.from + 2) (other k))) (entries k.loop.left (drop k.loop.at (book k))) ≡ Equal
-is-equal c = sym c.before.before.first-against.ensures ∙ c.enum-told2.given.1
+is-equal : (c : tie.In-Equal invariant-loop decreases-loop) → 
+    first_against (take (c.past-end.result - (c.loop-rest.from + 2)) (drop (c.loop-rest.from + 2) (other c.before.before.before.before.before))) (entries c.loop-rest.left (drop c.loop-rest.at (book c.before.before.before.before.before))) ≡ Equal
+is-equal c = sym c.first_against.ensures ∙ c.in-Equal.is
 
 -- So there is one.
-equal-left : (c : tie.After-enum-told2 invariant-loop decreases-loop) → 0 < c.before.before.before.before.before.before.loop.left
+equal-left : (c : tie.In-Equal invariant-loop decreases-loop) → 0 < c.loop-rest.left
 equal-left c = equal-some _ _ _ (is-equal c)
 
-loop-holds : tie.Need-loop-init invariant-loop decreases-loop
+loop-holds : tie.Need-loop-rest-init invariant-loop decreases-loop
 loop-holds c =
-    let x = c.before.before in
     record {
-      mine = omega (arith, x.requires.0.0);
-      theirs = omega (arith, x.requires.1.0);
+      mine = omega (arith, c.requires.0.0);
+      theirs = omega (arith, c.requires.1.0);
       few = omega arith;
-      weighs = weighs_none (entries x.args.more x.args.other.now) (entries x.args.many x.args.book.now) x.requires.1.1.0 x.requires.0.1 x.requires.1.1.1;
+      weighs = weighs_none (entries c.args.more c.args.other.now) (entries c.args.many c.args.book.now) c.requires.1.1.0 c.requires.0.1 c.requires.1.1.1;
     }
 
-add_start : tie.Need-overflow-add-start invariant-loop decreases-loop
+add_start : tie.Need-overflow_add-start invariant-loop decreases-loop
 add_start c = omega (arith, other-room c)
 
-past-requires : tie.Need-past-requires invariant-loop decreases-loop
+past-requires : tie.Need-past-end-requires invariant-loop decreases-loop
 past-requires c κs = omega (arith, other-room c)
 
-part-first-against-end : tie.Need-slice-bounds-first-against-end invariant-loop decreases-loop
+part-first-against-end : tie.Need-slice_bounds-first_against-end invariant-loop decreases-loop
 part-first-against-end c = omega (arith, other-room c.before)
 
-first-against-requires : tie.Need-first-against-requires invariant-loop decreases-loop
-first-against-requires c κs = c.before.before.before.loop.invariant.mine
+first-against-requires : tie.Need-first_against-requires invariant-loop decreases-loop
+first-against-requires c κs = c.loop-rest.invariant.mine
 
-enum_told : tie.Need-enum-told invariant-loop decreases-loop
+enum_told : tie.Need-enum_told-1 invariant-loop decreases-loop
 enum_told c = search rules
 
-past-requires-2 : tie.Need-past-requires-2 invariant-loop decreases-loop
-past-requires-2 c κs = omega (arith, book-room c.before.before.before.before.before.before (lower-left c))
+past-requires-2 : tie.Need-past-at-requires invariant-loop decreases-loop
+past-requires-2 c κs = omega (arith, book-room c.before.before.before.before.before (lower-left c))
 
-sub-left : tie.Need-overflow-sub-left invariant-loop decreases-loop
+sub-left : tie.Need-overflow_sub-left invariant-loop decreases-loop
 sub-left c = lower-left c.before
 
-loop-less : tie.Need-loop-smaller invariant-loop decreases-loop
+loop-less : tie.Need-loop-rest-smaller-in-Lower invariant-loop decreases-loop
 loop-less c = omega (arith, lower-left c.before)
 
-loop-again : tie.Need-loop-preserved invariant-loop decreases-loop
+loop-again : tie.Need-loop-rest-preserved-in-Lower invariant-loop decreases-loop
 loop-again c =
-    let p = c.before.before.before.before.before in
-    past-lower _ _ _ _ _ _ _ _ _ _ p.past.result p.before.before.loop.invariant p.before.loop-test.true p.past.ensures c.past2.result (lower-left c.before) c.past2.ensures (is-lower c.before)
+    past-lower _ _ _ _ _ _ _ _ _ _ c.past-end.result c.loop-rest.invariant c.loop-rest-test.true c.past-end.ensures c.past-at.result (lower-left c.before) c.past-at.ensures (is-lower c.before)
 
-add-if1 : tie.Need-overflow-add-if1 invariant-loop decreases-loop
-add-if1 c = omega (arith, other-room c.before.before.before.before.before)
+add-if1 : tie.Need-overflow_add-from invariant-loop decreases-loop
+add-if1 c = omega (arith, other-room c.before.before.before.before)
 
-shared-slice-read-if1 : tie.Need-shared-slice-read-if1 invariant-loop decreases-loop
-shared-slice-read-if1 c = omega (arith, other-room c.before.before.before.before.before.before)
+shared-slice-read-if1 : tie.Need-bounds-other-from invariant-loop decreases-loop
+shared-slice-read-if1 c = omega (arith, other-room c.before.before.before.before.before)
 
-sub-if1 : tie.Need-overflow-sub-if1 invariant-loop decreases-loop
-sub-if1 c = omega (arith, c.shared-slice-known3.given (c.before.before.before.before.before.before.before.loop.from + 1))
+sub-if1 : tie.Need-overflow_sub-other invariant-loop decreases-loop
+sub-if1 c = omega (arith, c.shared_slice_known-in-Equal-1.given (c.loop-rest.from + 1))
 
-add-if1-2 : tie.Need-overflow-add-if1-2 invariant-loop decreases-loop
-add-if1-2 c = omega (arith, book-room c.before.before.before.before.before.before.before (equal-left c.before))
+add-if1-2 : tie.Need-overflow_add-at invariant-loop decreases-loop
+add-if1-2 c = omega (arith, book-room c.before.before.before.before.before.before (equal-left c.before))
 
-shared-slice-read-if1-2 : tie.Need-shared-slice-read-if1-2 invariant-loop decreases-loop
-shared-slice-read-if1-2 c = omega (arith, book-room c.before.before.before.before.before.before.before.before (equal-left c.before.before))
+shared-slice-read-if1-2 : tie.Need-bounds-book-at invariant-loop decreases-loop
+shared-slice-read-if1-2 c = omega (arith, book-room c.before.before.before.before.before.before.before (equal-left c.before.before))
 
-past-requires-3 : tie.Need-past-requires-3 invariant-loop decreases-loop
-past-requires-3 c κs = omega (arith, book-room c.before.before.before.before.before.before.before.before.before (equal-left c.before.before.before))
+past-requires-3 : tie.Need-past-at-requires-in-Equal invariant-loop decreases-loop
+past-requires-3 c κs = omega (arith, book-room c.before.before.before.before.before.before.before.before (equal-left c.before.before.before))
 
-sub-left-2 : tie.Need-overflow-sub-left-2 invariant-loop decreases-loop
+sub-left-2 : tie.Need-overflow_sub-left-in-Equal invariant-loop decreases-loop
 sub-left-2 c = equal-left c.before.before.before.before
 
-loop-less-2 : tie.Need-loop-smaller-2 invariant-loop decreases-loop
+loop-less-2 : tie.Need-loop-rest-smaller-in-Equal invariant-loop decreases-loop
 loop-less-2 c = omega (arith, equal-left c.before.before.before.before)
 
 -- The other's count is at most 65,535.
-fits : (c : tie.Joined1 invariant-loop decreases-loop) → let k = c.before.before.before.before.before.before.before.before.before in get_or (other k) (k.loop.from + 1) 0 ≤ greatest_count
-fits c = let b = c.before.before in omega (arith, b.shared-slice-known3.given (b.before.before.before.before.before.before.before.loop.from + 1))
+fits : (c : tie.Joined-other-from invariant-loop decreases-loop) → get_or (other c.before.before.before.before.before.before.before.before) (c.loop-rest.from + 1) 0 ≤ greatest_count
+fits c = omega (arith, c.shared_slice_known-in-Equal-1.given (c.loop-rest.from + 1))
 
-loop-again-2 : tie.Need-loop-preserved-2 invariant-loop decreases-loop
+loop-again-2 : tie.Need-loop-rest-preserved-in-Equal invariant-loop decreases-loop
 loop-again-2 c =
-    let p = c.before.before.before.before.before.before.before.before in
-    past_equal _ _ _ _ _ _ _ _ _ _ p.past.result p.before.before.loop.invariant p.before.loop-test.true p.past.ensures c.past3.result (equal-left c.before.before.before.before) c.past3.ensures (is-equal c.before.before.before.before) c.before.if1.overfull
-    (⊎_elim (λ w. told_over _ _ _ _ (fits c.before) w.0.taken w.1) (λ w. told_under _ _ _ _ (fits c.before) w.0.left w.1) c.before.if1.branch)
+    past_equal _ _ _ _ _ _ _ _ _ _ c.past-end.result c.loop-rest.invariant c.loop-rest-test.true c.past-end.ensures c.past-at-in-Equal.result (equal-left c.before.before.before.before) c.past-at-in-Equal.ensures (is-equal c.before.before.before.before) c.if-other-from.overfull
+    (⊎_elim (λ w. told_over _ _ _ _ (fits c.before) w.0.taken w.1) (λ w. told_under _ _ _ _ (fits c.before) w.0.left w.1) c.if-other-from.branch)
 
-add-lacking : tie.Need-overflow-add-lacking invariant-loop decreases-loop
-add-lacking c = let p = c.before.before.before.before in omega (arith, p.before.before.loop.invariant.few, p.past.ensures, other-room p.before)
+add-lacking : tie.Need-overflow_add-lacking invariant-loop decreases-loop
+add-lacking c = omega (arith, c.loop-rest.invariant.few, c.past-end.ensures, other-room c.before.before.before.before)
 
-loop-again-3 : tie.Need-loop-preserved-3 invariant-loop decreases-loop
+loop-again-3 : tie.Need-loop-rest-preserved invariant-loop decreases-loop
 loop-again-3 c =
-    let p = c.before.before.before.before in
-    past-higher _ _ _ _ _ _ _ _ _ _ p.past.result p.before.before.loop.invariant p.before.loop-test.true p.past.ensures (sym c.before.before.first-against.ensures ∙ c.enum-told3.given.1)
+    past-higher _ _ _ _ _ _ _ _ _ _ c.past-end.result c.loop-rest.invariant c.loop-rest-test.true c.past-end.ensures (sym c.first_against.ensures ∙ c.in-Higher.is)
 
 returns : tie.Need-returns invariant-loop decreases-loop
-returns c = let k = c.before in all-weighed _ _ _ _ _ _ _ _ _ _ k.loop.invariant c.loop-test.false
+returns c = all-weighed _ _ _ _ _ _ _ _ _ _ c.loop-rest.invariant c.loop-rest-test.false
 
-pub weigh-spec : {M : Type 1} → statement M
-weigh-spec =
+pub weigh_spec : {M : Type 1} → statement M
+weigh_spec =
     tie.close
     (tie.spec
     invariant-loop
@@ -239,7 +231,9 @@ weigh-spec =
     loop-holds
     add_start
     past-requires
-    (λ c. search rules) (λ c. search rules) (λ c. search rules)
+    (λ c. search rules)
+    (λ c. search rules)
+    (λ c. search rules)
     part-first-against-end
     first-against-requires
     enum_told
@@ -260,8 +254,10 @@ weigh-spec =
     (λ c. search rules)
     loop-less-2
     loop-again-2
-    (λ c. search rules) (λ c. search rules)
+    (λ c. search rules)
+    (λ c. search rules)
     add-lacking
-    (λ c. search rules) (λ c. search rules)
+    (λ c. search rules)
+    (λ c. search rules)
     loop-again-3
     returns)
