@@ -6,7 +6,6 @@ use mathlib.Core.Logic.{⊎_elim}
 use native.Mathlib.Omega.{arith}
 use lib.ListN.{length}
 use borrow.Author.Rules.{rules}
-use borrow.Author.Tests.{not-false, not-true}
 use Rattle.order.specs.Spans.{FirstSpan}
 use Rattle.order.proofs.Spanning.{Back, back_start, back_unsound, back_lacking, back_next, back_equal, back_small, back_all, front-start, front-small, leaf_spans, front-leaf, front-node, whole-listed, no_tree}
 use Rattle.order_spans.proofs.measure.Statement.{statement}
@@ -27,7 +26,7 @@ returns : tie.Need-returns-then-not-node_ok invariant-loop decreases-loop
 returns c =
     let l = c.loop-line in
     let more = c.loop-line-test.true in
-    let e = sym c.node_ok.ensures ∙ not-true _ c.if-not-node_ok.true in
+    let e = sym c.node_ok.ensures ∙ c.if-not-node_ok.true in
     let m = no_tree _ l.spans (back_unsound _ _ _ _ l.invariant.0 _ _ _ more refl refl (sym c.if-children-eq0.true) e) in
     (m.0, (m.1, l.invariant.0.kept))
 
@@ -40,7 +39,7 @@ returns-2 : tie.Need-returns-then-not-node_ok-2 invariant-loop decreases-loop
 returns-2 c =
     let l = c.loop-line in
     let more = c.loop-line-test.true in
-    let e = sym c.node_ok-else-children-eq0.ensures ∙ not-true _ c.if-not-node_ok-2.true in
+    let e = sym c.node_ok-else-children-eq0.ensures ∙ c.if-not-node_ok-2.true in
     let m = no_tree _ l.spans (back_unsound _ _ _ _ l.invariant.0 _ _ _ more refl refl refl e) in
     (m.0, (m.1, l.invariant.0.kept))
 
@@ -78,20 +77,20 @@ loop-again c =
     let more = c.loop-line-test.true in
     ⊎_elim
     (λ w.
-    let n = sym w.0.taken in
-    let e = sym w.1.ensures ∙ not-false _ w.2.left in
-    back_equal _ _ _ _ _ _ _ _ _ _ _ (w.7 ∙ w.4.ensures) w.8 w.9 w.10 (
+    let n = sym w.if-children-eq0.true in
+    let e = sym w.node_ok.ensures ∙ w.if-not-node_ok.false in
+    back_equal _ _ _ _ _ _ _ _ _ _ _ (w.spans-is ∙ w.put_span.ensures) w.first-is w.top-is w.run-is (
       back_next _ _ _ _ l.invariant.0 _ _ _ more refl refl n _ _ e (leaf_spans _ _ _ _ l.invariant.0 _ _ _ more refl refl n refl),
       front-leaf _ _ _ _ l.invariant.0 _ _ _ more refl refl n _ _ _ l.invariant.1 e refl,
     ))
     (λ w.
-    let e = sym w.1.ensures ∙ not-false _ w.2.left in
-    let g = sym w.6.given.1 ∙ w.4.ensures in
-    back_equal _ _ _ _ _ _ _ _ _ _ _ (w.12 ∙ w.9.ensures) w.13 w.14 w.15 (
+    let e = sym w.node_ok-else-children-eq0.ensures ∙ w.if-not-node_ok-2.false in
+    let g = sym w.in-To.is ∙ w.over_children.ensures in
+    back_equal _ _ _ _ _ _ _ _ _ _ _ (w.spans-is ∙ w.put_span-else-children-eq0.ensures) w.first-is w.top-is w.run-is (
       back_next _ _ _ _ l.invariant.0 _ _ _ more refl refl refl _ _ e g,
-      front-node _ _ _ _ l.invariant.0 _ _ _ more refl refl refl _ _ _ _ _ l.invariant.1 e (omega (arith, w.0.left)) g,
+      front-node _ _ _ _ l.invariant.0 _ _ _ more refl refl refl _ _ _ _ _ l.invariant.1 e (omega (arith, w.if-children-eq0.false)) g,
     ))
-    c.if-children-eq0.branch
+    c.if-children-eq0.branch-raw
 
 whole-requires : tie.Need-whole-requires invariant-loop decreases-loop
 whole-requires c κs =
