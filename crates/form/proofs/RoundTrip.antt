@@ -67,6 +67,7 @@ mutual
 -- Behind such a line the next level is allowed.
 allows : (m : ℕ) (b : List Line) → Top m b → allowed (suc m) b ≡ true
 unfolding allowed ◌and◌
+allows m [] x' = elim x' [ ]
 allows m (x ∷ b) (top h) = rw (le-leb 1 (suc m) (omega arith), le-leb (suc m) (suc x.level) (omega arith))
 
 -- ---- trees

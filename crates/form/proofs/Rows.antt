@@ -166,6 +166,7 @@ pass_legal (x ∷ xs) before w g = (g.0, pass_fine before w g.1, pass_legal xs (
 
 -- A line that may stand in a form is at most 12 deep.
 pub legal-shallow : (before xs : List Line) → Legal before xs → (x : Line) → x ∈ xs → x.level ≤ greatest_depth
+legal-shallow before [] g x x4 = elim x4 [ ]
 legal-shallow before (y ∷ ys) g x (here e) = rw e g.1.shallow
 legal-shallow before (y ∷ ys) g x (there m) = legal-shallow (y ∷ before) ys g.2 x m
 

@@ -11,5 +11,8 @@ returns : tie.Need-returns
 unfolding check_of
 returns c = cc
 
-pub check-spec : {M : Type 1} → statement M
-check-spec = tie.close (tie.spec cause-requires returns)
+pub check_spec : {M : Type 1} → statement M
+check_spec = tie.close
+    (tie.spec
+    cause-requires
+    returns)

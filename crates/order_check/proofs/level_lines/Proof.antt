@@ -9,57 +9,61 @@ use Rattle.order.proofs.LevelLines.{LevelledTo, has-line, levelled_first, level-
 use Rattle.order_check.proofs.level_lines.Statement.{statement}
 use Rattle.order_check.proofs.level_lines.Tie as tie
 
-abbrev invariant-loop : tie.invariant-loop
+abbrev invariant-loop : tie.invariant-loop-line
 invariant-loop order spans levels₀ n line₀ levels line = LevelledTo order spans levels line × (length levels ≡ length levels₀)
 
-abbrev decreases-loop : tie.decreases-loop
+abbrev decreases-loop : tie.decreases-loop-line
 decreases-loop order spans levels₀ n line₀ levels line = n - line
 
-slice-write-levels : tie.Need-slice-write-levels invariant-loop decreases-loop
-slice-write-levels c = let p = c.before.before.before.requires in omega (arith, has-line _ p.0.sound, p.1)
+slice-write-levels : tie.Need-bounds-levels-0 invariant-loop decreases-loop
+slice-write-levels c = let p = c.requires in omega (arith, has-line _ p.0.sound, p.1)
 
-loop-holds : tie.Need-loop-init invariant-loop decreases-loop
-loop-holds c = let s = c.before.before.before in (levelled_first _ _ s.args.levels.now s.requires.0 s.requires.1, refl)
+loop-holds : tie.Need-loop-line-init invariant-loop decreases-loop
+loop-holds c = (levelled_first _ _ c.args.levels.now c.requires.0 c.requires.1, refl)
 
-slice-read-below : tie.Need-slice-read-below invariant-loop decreases-loop
-slice-read-below c = omega (arith, c.before.before.before.loop.invariant.0.room, c.before.before.loop-test.true)
+slice-read-below : tie.Need-bounds-levels-line invariant-loop decreases-loop
+slice-read-below c = omega (arith, c.loop-line.invariant.0.room, c.loop-line-test.true)
 
-add-below : tie.Need-overflow-add-below invariant-loop decreases-loop
-add-below c = omega (arith, level-small _ _ _ _ c.before.before.before.loop.invariant.0 c.before.before.loop-test.true)
+add-below : tie.Need-overflow_add-below invariant-loop decreases-loop
+add-below c = omega (arith, level-small _ _ _ _ c.loop-line.invariant.0 c.loop-line-test.true)
 
-level-row-requires : tie.Need-level-row-requires invariant-loop decreases-loop
-level-row-requires c κs = row_below _ _ _ _ c.before.before.before.before.loop.invariant.0 c.before.before.before.loop-test.true
+level-row-requires : tie.Need-level_row-requires invariant-loop decreases-loop
+level-row-requires c κs = row_below _ _ _ _ c.loop-line.invariant.0 c.loop-line-test.true
 
-loop-again : tie.Need-loop-preserved invariant-loop decreases-loop
+loop-again : tie.Need-loop-line-preserved invariant-loop decreases-loop
 loop-again c =
-    let l = c.before.before.before.before.before.before.before.loop in
-    let e = c.before.before.level-row.ensures in
-    (levelled_next _ _ _ _ l.invariant.0 c.before.before.before.before.before.before.loop-test.true _ e, hopped-kept _ _ _ _ _ _ e ∙ l.invariant.1)
+    let l = c.loop-line in
+    let e = c.level_row.ensures in
+    (levelled_next _ _ _ _ l.invariant.0 c.loop-line-test.true _ e, hopped-kept _ _ _ _ _ _ e ∙ l.invariant.1)
 
-same_length : tie.Need-same-length invariant-loop decreases-loop
-same_length c = c.before.loop.invariant.1 ∙ length-set c.before.before.before.before.before.args.levels.now 0 0
+same_length : tie.Need-shape_of-levels invariant-loop decreases-loop
+same_length c = c.loop-line.invariant.1 ∙ length-set c.args.levels.now 0 0
 
 returns : tie.Need-returns invariant-loop decreases-loop
 returns c =
-    let i = c.before.loop.invariant in (
-      levelled_all _ _ _ _ i.0 (omega (arith, c.loop-test.false)),
-      i.1 ∙ length-set c.before.before.before.before.before.args.levels.now 0 0,
+    let i = c.loop-line.invariant in (
+      levelled_all _ _ _ _ i.0 (omega (arith, c.loop-line-test.false)),
+      i.1 ∙ length-set c.args.levels.now 0 0,
     )
 
-pub level-lines-spec : {M : Type 1} → statement M
-level-lines-spec =
+pub level_lines_spec : {M : Type 1} → statement M
+level_lines_spec =
     tie.close
     (tie.spec
     invariant-loop
     decreases-loop
     slice-write-levels
     loop-holds
-    (λ c. search rules) (λ c. search rules) (λ c. search rules) (λ c. search rules)
+    (λ c. search rules)
+    (λ c. search rules)
+    (λ c. search rules)
+    (λ c. search rules)
     slice-read-below
     add-below
     (λ c. search rules)
     level-row-requires
-    (λ c. search rules) (λ c. search rules)
+    (λ c. search rules)
+    (λ c. search rules)
     loop-again
     same_length
     returns)
