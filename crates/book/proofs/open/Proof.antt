@@ -16,50 +16,53 @@ use Rattle.book.proofs.open.Statement.{statement}
 use Rattle.book.proofs.open.Tie as tie
 
 -- The slice has the size of a book.
-right : (c : tie.Else1) → within head_words most_book_words (length c.before.before.before.args.book.now) ≡ true
-right c = sym c.before.is-book-size.ensures ∙ not-false _ c.if1.false
+right : (c : tie.Else-not-is_book_size) → within head_words most_book_words (length c.args.book.now) ≡ true
+right c = sym c.is_book_size.ensures ∙ c.if-not-is_book_size.false
 
 -- So it has the words of a head.
-long : (c : tie.Else1) → head_words ≤ length c.before.before.before.args.book.now
-long c = (size-told (length c.before.before.before.args.book.now) (right c)).0
+long : (c : tie.Else-not-is_book_size) → head_words ≤ length c.args.book.now
+long c = (size-told (length c.args.book.now) (right c)).0
 
-returns : tie.Need-returns
-returns c = let a = c.before.before.before.before.args in sym (open_unsized a.book.now a.k _ c.answered.ensures (sized-by _ _ (sym c.before.before.is-book-size.ensures ∙ not-true _ c.before.if1.true)))
+returns : tie.Need-returns-then-not-is_book_size
+returns c = let a = c.args in sym (open_unsized a.book.now a.k _ c.answered.ensures (sized-by _ _ (sym c.is_book_size.ensures ∙ c.if-not-is_book_size.true)))
 
-enum_told : tie.Need-enum-told
+enum_told : tie.Need-enum_told-1
 enum_told c = search rules
 
-returns-2 : tie.Need-returns-2
+returns-2 : tie.Need-returns-in_default
 returns-2 c =
-    let a = c.before.before.before.before.before.before.before.args in
-    sym (no_depth a.book.now a.k _ c.answered2.ensures (sized-by _ _ (right c.before.before.before.before)) (outside _ _ c.before.before.before.new.ensures c.before.enum_told.given.1))
+    let a = c.args in
+    sym (no_depth a.book.now a.k _ c.answered-in_default.ensures (sized-by _ _ (right c.before.before.before)) (outside _ _ c.new.ensures c.in_default.is))
 
-slice-write-book : tie.Need-slice-write-book
-slice-write-book c = omega (arith, long c.before.before.before.before.before.before.before.before.before, simp length-replicate at (ap length c.before.before.before.clear.ensures))
+slice-write-book : tie.Need-bounds-book-0
+slice-write-book c = omega (arith, long c.before.before.before.before.before.before.before, simp length-replicate at (ap length c.clear.ensures))
 
-slice-write-book-2 : tie.Need-slice-write-book-2
-slice-write-book-2 c = simp length-set (omega (arith, long c.before.before.before.before.before.before.before.before.before, simp length-replicate at (ap length c.before.before.before.clear.ensures)))
+slice-write-book-2 : tie.Need-bounds-book-1
+slice-write-book-2 c = simp length-set (omega (arith, long c.before.before.before.before.before.before.before, simp length-replicate at (ap length c.clear.ensures)))
 
-returns-3 : tie.Need-returns-3
+returns-3 : tie.Need-returns
 returns-3 c =
-    let a = c.before.before.before.before.before.before.before.before.before.before.before.before.before.args in
-    let d = allowed _ _ c.before.before.before.before.before.before.before.before.before.new.ensures _ c.before.before.before.before.before.before.before.depth.given.1 in
-    let r = c.before.before.before.before.before.before.before.before.before.before in
-    sym (opens a.book.now a.k _ c.answered3.ensures (sized-by _ _ (right r)) d.1 (long r) _ _ c.before.before.before.before.clear.ensures (c.before.value.ensures ∙ d.0))
+    let a = c.args in
+    let d = allowed _ _ c.new.ensures _ c.in-Allowed.is in
+    sym (opens a.book.now a.k _ c.answered-2.ensures (sized-by _ _ (right c.before.before.before.before.before.before.before.before)) d.1 (long c.before.before.before.before.before.before.before.before) _ _ c.clear.ensures (c.value.ensures ∙ d.0))
 
 pub open_spec : {M : Type 1} → statement M
 open_spec =
     tie.close
     (tie.spec
-    (λ c κs. search rules) (λ c κs. search rules)
+    (λ c. search rules)
+    (λ c. search rules)
     returns
-    (λ c κs. search rules) (λ c. search rules)
+    (λ c. search rules)
+    (λ c. search rules)
     enum_told
-    (λ c κs. search rules)
+    (λ c. search rules)
     returns-2
-    (λ c κs. search rules) (λ c κs. search rules)
+    (λ c. search rules)
+    (λ c. search rules)
     slice-write-book
     (λ c. search rules)
     slice-write-book-2
-    (λ c κs. search rules) (λ c. search rules)
+    (λ c. search rules)
+    (λ c. search rules)
     returns-3)

@@ -6,13 +6,16 @@ use Rattle.form.specs.Reading.{is_digit}
 use Rattle.form_read_line.proofs.is_digit.Statement.{statement}
 use Rattle.form_read_line.proofs.is_digit.Tie as tie
 
-returns : tie.Need-returns
+returns : tie.Need-returns-then-b-lt48
 unfolding is_digit ◌and◌
-returns c = rw (lt-leb digit_0 _ c.if1.true)
+returns c = rw (lt-leb digit_0 _ c.if-b-lt48.true)
 
-returns-2 : tie.Need-returns-2
+returns-2 : tie.Need-returns
 unfolding is_digit ◌and◌
-returns-2 c = rw (le-leb digit_0 _ c.if1.false)
+returns-2 c = rw (le-leb digit_0 _ c.if-b-lt48.false)
 
-pub is-digit-spec : {M : Type 1} → statement M
-is-digit-spec = tie.close (tie.spec returns returns-2)
+pub is_digit_spec : {M : Type 1} → statement M
+is_digit_spec = tie.close
+    (tie.spec
+    returns
+    returns-2)

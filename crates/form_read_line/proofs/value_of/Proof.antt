@@ -9,10 +9,18 @@ returns : tie.Need-returns
 unfolding value
 returns c = omega arith
 
-pub value-of-spec : {M : Type 1} → statement M
-value-of-spec =
+pub value_of_spec : {M : Type 1} → statement M
+value_of_spec =
     tie.close
     (tie.spec
-    (λ c κs. search rules) (λ c. search rules) (λ c κs. search rules) (λ c. search rules) (λ c. search rules) (λ c κs. search rules)
-    (λ c. search rules) (λ c. search rules) (λ c κs. search rules) (λ c. search rules)
+    (λ c. search rules)
+    (λ c. search rules)
+    (λ c. search rules)
+    (λ c. search rules)
+    (λ c. search rules)
+    (λ c. search rules)
+    (λ c. search rules)
+    (λ c. search rules)
+    (λ c. search rules)
+    (λ c. search rules)
     returns)

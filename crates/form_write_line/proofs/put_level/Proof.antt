@@ -6,32 +6,32 @@ use Rattle.form.proofs.LineBytes.{one_byte, two_bytes, one_store, two_stores}
 use Rattle.form_write_line.proofs.put_level.Statement.{statement}
 use Rattle.form_write_line.proofs.put_level.Tie as tie
 
-slice-write-out : tie.Need-slice-write-out
-slice-write-out c = omega (arith, one_byte _ c.before.if1.true)
+slice-write-out : tie.Need-bounds-out-0
+slice-write-out c = omega (arith, one_byte _ c.if-level-lt10.true)
 
-returns : tie.Need-returns
-returns c = (one_byte _ c.before.if1.true, one_store _ _ _ c.before.if1.true c.before.before.before.requires c.digit-of.ensures)
+returns : tie.Need-returns-then-level-lt10
+returns c = (one_byte _ c.if-level-lt10.true, one_store _ _ _ c.if-level-lt10.true c.requires c.digit_of.ensures)
 
-slice-write-out-2 : tie.Need-slice-write-out-2
-slice-write-out-2 c = omega (arith, two_bytes _ c.before.if1.false)
+slice-write-out-2 : tie.Need-bounds-out-0-2
+slice-write-out-2 c = omega (arith, two_bytes _ c.if-level-lt10.false)
 
-slice-write-out-3 : tie.Need-slice-write-out-3
-slice-write-out-3 c = simp length-set (omega (arith, two_bytes _ c.before.before.if1.false))
+slice-write-out-3 : tie.Need-bounds-out-1
+slice-write-out-3 c = simp length-set (omega (arith, two_bytes _ c.if-level-lt10.false))
 
-returns-2 : tie.Need-returns-2
-returns-2 c = (two_bytes _ c.before.before.if1.false, two_stores _ _ _ _ c.before.before.if1.false c.before.before.before.before.requires c.before.digit-of2.ensures c.digit-of3.ensures)
+returns-2 : tie.Need-returns
+returns-2 c = (two_bytes _ c.if-level-lt10.false, two_stores _ _ _ _ c.if-level-lt10.false c.requires c.digit_of-2.ensures c.digit_of-3.ensures)
 
-pub put-level-spec : {M : Type 1} → statement M
-put-level-spec =
+pub put_level_spec : {M : Type 1} → statement M
+put_level_spec =
     tie.close
     (tie.spec
-    (λ c κs. search rules)
+    (λ c. search rules)
     slice-write-out
     (λ c. search rules)
     returns
-    (λ c κs. search rules)
+    (λ c. search rules)
     slice-write-out-2
-    (λ c κs. search rules)
+    (λ c. search rules)
     slice-write-out-3
     (λ c. search rules)
     returns-2)

@@ -4,13 +4,16 @@ use Rattle.words.specs.Base.{if◌then◌else◌}
 use Rattle.order_cuts.proofs.kept_children.Statement.{statement}
 use Rattle.order_cuts.proofs.kept_children.Tie as tie
 
-returns : tie.Need-returns
+returns : tie.Need-returns-then-d-below
 unfolding if◌then◌else◌
-returns c = rw (le-leb _ _ c.if1.true)
+returns c = rw (le-leb _ _ c.if-d-below.true)
 
-returns-2 : tie.Need-returns-2
+returns-2 : tie.Need-returns-else-d-below
 unfolding if◌then◌else◌
-returns-2 c = rw (lt-leb _ _ c.if1.false)
+returns-2 c = rw (lt-leb _ _ c.if-d-below.false)
 
-pub kept-children-spec : {M : Type 1} → statement M
-kept-children-spec = tie.close (tie.spec returns returns-2)
+pub kept_children_spec : {M : Type 1} → statement M
+kept_children_spec = tie.close
+    (tie.spec
+    returns
+    returns-2)

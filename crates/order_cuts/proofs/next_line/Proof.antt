@@ -6,19 +6,24 @@ use Rattle.words.specs.Base.{if◌then◌else◌}
 use Rattle.order_cuts.proofs.next_line.Statement.{statement}
 use Rattle.order_cuts.proofs.next_line.Tie as tie
 
-line-end-requires : tie.Need-line-end-requires
+line-end-requires : tie.Need-line_end-requires
 line-end-requires c κs = search rules
 
-returns : tie.Need-returns
+returns : tie.Need-returns-then-d-below
 unfolding if◌then◌else◌
-returns c = rw (c.line-end.ensures, le-leb _ _ c.before.if1.true) refl
+returns c = rw (c.line_end.ensures, le-leb _ _ c.if-d-below.true) refl
 
-add-result : tie.Need-overflow-add-result
+add-result : tie.Need-overflow_add-result
 add-result c = search rules
 
-returns-2 : tie.Need-returns-2
+returns-2 : tie.Need-returns
 unfolding if◌then◌else◌
-returns-2 c = rw (lt-leb _ _ c.if1.false) refl
+returns-2 c = rw (lt-leb _ _ c.if-d-below.false) refl
 
-pub next-line-spec : {M : Type 1} → statement M
-next-line-spec = tie.close (tie.spec line-end-requires returns add-result returns-2)
+pub next_line_spec : {M : Type 1} → statement M
+next_line_spec = tie.close
+    (tie.spec
+    line-end-requires
+    returns
+    add-result
+    returns-2)

@@ -19,90 +19,90 @@ use Rattle.order_fit.proofs.deep.Statement.{statement}
 use Rattle.order_fit.proofs.deep.Tie as tie
 
 -- The nodes from word `at` on are gone over.
-abbrev invariant-loop : tie.invariant-loop
+abbrev invariant-loop : tie.invariant-loop-at
 invariant-loop order stack₀ at₀ many₀ top₀ run₀ stack at many top run = Stacked order stack₀ stack at many top run
 
 -- The words left.
-abbrev decreases-loop : tie.decreases-loop
+abbrev decreases-loop : tie.decreases-loop-at
 decreases-loop order stack₀ at₀ many₀ top₀ run₀ stack at many top run = at
 
-loop-holds : tie.Need-loop-init invariant-loop decreases-loop
-loop-holds c = let p = c.before.before.requires in stacked_start _ _ p.0 p.1 p.2
+loop-holds : tie.Need-loop-at-init invariant-loop decreases-loop
+loop-holds c = let p = c.requires in stacked_start _ _ p.0 p.1 p.2
 
-sub-here : tie.Need-overflow-sub-here invariant-loop decreases-loop
-sub-here c = let l = c.before.loop in omega (arith, l.invariant.paired, c.loop-test.true)
+sub-here : tie.Need-overflow_sub-here invariant-loop decreases-loop
+sub-here c = let l = c.loop-at in omega (arith, l.invariant.paired, c.loop-at-test.true)
 
-add-children : tie.Need-overflow-add-children invariant-loop decreases-loop
-add-children c = let l = c.before.loop in omega (arith, l.invariant.low, l.invariant.short)
+add-children : tie.Need-overflow_add-children invariant-loop decreases-loop
+add-children c = let l = c.loop-at in omega (arith, l.invariant.low, l.invariant.short)
 
-shared-slice-read-children : tie.Need-shared-slice-read-children invariant-loop decreases-loop
-shared-slice-read-children c = let l = c.before.before.loop in omega (arith, l.invariant.paired, l.invariant.low, c.before.loop-test.true)
+shared-slice-read-children : tie.Need-bounds-order-here invariant-loop decreases-loop
+shared-slice-read-children c = let l = c.loop-at in omega (arith, l.invariant.paired, l.invariant.low, c.loop-at-test.true)
 
-shared-slice-read-node-ok : tie.Need-shared-slice-read-node-ok invariant-loop decreases-loop
-shared-slice-read-node-ok c = let l = c.before.before.before.loop in omega (arith, l.invariant.paired, l.invariant.low, c.before.before.loop-test.true)
+shared-slice-read-node-ok : tie.Need-bounds-order-here-in-loop-at invariant-loop decreases-loop
+shared-slice-read-node-ok c = let l = c.loop-at in omega (arith, l.invariant.paired, l.invariant.low, c.loop-at-test.true)
 
-returns : tie.Need-returns invariant-loop decreases-loop
+returns : tie.Need-returns-then-not-node_ok invariant-loop decreases-loop
 returns c =
-    let l = c.before.before.before.before.before.loop in
-    (stacked_unsound _ _ _ _ _ _ _ l.invariant c.before.before.before.before.loop-test.true _ _ _ refl refl refl (sym c.before.node_ok.ensures ∙ not-true _ c.if1.true), l.invariant.kept)
+    let l = c.loop-at in
+    (stacked_unsound _ _ _ _ _ _ _ l.invariant c.loop-at-test.true _ _ _ refl refl refl (sym c.node_ok.ensures ∙ c.if-not-node_ok.true), l.invariant.kept)
 
-cast-stack : tie.Need-overflow-cast-stack invariant-loop decreases-loop
-cast-stack c = omega (arith, c.before.before.before.before.before.before.loop.invariant.shallow)
+cast-stack : tie.Need-overflow_cast-stack invariant-loop decreases-loop
+cast-stack c = omega (arith, c.loop-at.invariant.shallow)
 
-mul-stack : tie.Need-overflow-mul-stack invariant-loop decreases-loop
-mul-stack c = let l = c.before.before.before.before.before.before.loop in omega (arith, (stacked_few _ _ _ _ _ _ _ l.invariant).2)
+mul-stack : tie.Need-offset_bounds-stack-many invariant-loop decreases-loop
+mul-stack c = let l = c.loop-at in omega (arith, (stacked_few _ _ _ _ _ _ _ l.invariant).2)
 
-slice-write-stack : tie.Need-slice-write-stack invariant-loop decreases-loop
-slice-write-stack c = let l = c.before.before.before.before.before.before.loop in stacked_room _ _ _ _ _ _ _ l.invariant c.before.before.before.before.before.loop-test.true
+slice-write-stack : tie.Need-bounds-stack-many invariant-loop decreases-loop
+slice-write-stack c = let l = c.loop-at in stacked_room _ _ _ _ _ _ _ l.invariant c.loop-at-test.true
 
-add-many : tie.Need-overflow-add-many invariant-loop decreases-loop
-add-many c = let l = c.before.before.before.before.before.before.loop in omega (arith, (stacked_few _ _ _ _ _ _ _ l.invariant).2)
+add-many : tie.Need-overflow_add-many invariant-loop decreases-loop
+add-many c = let l = c.loop-at in omega (arith, (stacked_few _ _ _ _ _ _ _ l.invariant).2)
 
-add-run : tie.Need-overflow-add-run invariant-loop decreases-loop
-add-run c = let l = c.before.before.before.before.before.before.loop in omega (arith, (stacked_few _ _ _ _ _ _ _ l.invariant).1, (stacked_few _ _ _ _ _ _ _ l.invariant).2)
+add-run : tie.Need-overflow_add-run invariant-loop decreases-loop
+add-run c = let l = c.loop-at in omega (arith, (stacked_few _ _ _ _ _ _ _ l.invariant).1, (stacked_few _ _ _ _ _ _ _ l.invariant).2)
 
 pop-requires : tie.Need-pop-requires invariant-loop decreases-loop
 pop-requires c κs =
-    let l = c.before.before.before.before.before.before.before.loop in
+    let l = c.loop-at in
     let few = stacked_few _ _ _ _ _ _ _ l.invariant in
-    (few.0, few.1, omega (arith, c.before.if2.false), l.invariant.shallow)
+    (few.0, few.1, omega (arith, c.if-children-eq0.false), l.invariant.shallow)
 
-enum_told : tie.Need-enum-told invariant-loop decreases-loop
+enum_told : tie.Need-enum_told-1 invariant-loop decreases-loop
 enum_told c = search rules
 
-returns-2 : tie.Need-returns-2 invariant-loop decreases-loop
+returns-2 : tie.Need-returns-in_default invariant-loop decreases-loop
 returns-2 c =
-    let l = c.before.before.before.before.before.before.before.before.before.before.loop in
-    (stacked_short _ _ _ _ _ _ _ l.invariant c.before.before.before.before.before.before.before.before.before.loop-test.true _ _ _ refl refl refl (sym c.enum_told.given.1 ∙ c.before.before.pop.ensures l.invariant.row l.invariant.stands), l.invariant.kept)
+    let l = c.loop-at in
+    (stacked_short _ _ _ _ _ _ _ l.invariant c.loop-at-test.true _ _ _ refl refl refl (sym c.in_default.is ∙ c.pop.ensures l.invariant.row l.invariant.stands), l.invariant.kept)
 
-loop-less : tie.Need-loop-smaller invariant-loop decreases-loop
-loop-less c = omega (arith, c.before.before.before.before.before.loop-test.true)
+loop-less : tie.Need-loop-at-smaller-then-children-eq0 invariant-loop decreases-loop
+loop-less c = omega (arith, c.loop-at-test.true)
 
-loop-again : tie.Need-loop-preserved invariant-loop decreases-loop
+loop-again : tie.Need-loop-at-preserved-then-children-eq0 invariant-loop decreases-loop
 loop-again c =
-    let l = c.before.before.before.before.before.before.loop in
-    stacked_leaf _ _ _ _ _ _ _ l.invariant c.before.before.before.before.before.loop-test.true _ _ _ refl refl refl (sym c.before.before.node_ok.ensures ∙ not-false _ c.before.if1.false) c.if2.true
+    let l = c.loop-at in
+    stacked_leaf _ _ _ _ _ _ _ l.invariant c.loop-at-test.true _ _ _ refl refl refl (sym c.node_ok.ensures ∙ c.if-not-node_ok.false) c.if-children-eq0.true
 
-loop-less-2 : tie.Need-loop-smaller-2 invariant-loop decreases-loop
-loop-less-2 c = omega (arith, c.before.before.before.before.before.before.before.before.before.before.loop-test.true)
+loop-less-2 : tie.Need-loop-at-smaller invariant-loop decreases-loop
+loop-less-2 c = omega (arith, c.loop-at-test.true)
 
-loop-again-2 : tie.Need-loop-preserved-2 invariant-loop decreases-loop
+loop-again-2 : tie.Need-loop-at-preserved invariant-loop decreases-loop
 loop-again-2 c =
-    let l = c.before.before.before.before.before.before.before.before.before.before.before.loop in
-    stacked_next _ _ _ _ _ _ _ l.invariant c.before.before.before.before.before.before.before.before.before.before.loop-test.true _ _ _ refl refl refl _ _ (sym c.before.before.before.before.before.before.before.node_ok.ensures ∙ not-false _ c.before.before.before.before.before.before.if1.false) (omega (arith, c.before.before.before.before.before.if2.false)) (sym c.before.rest.given.1 ∙ c.before.before.before.pop.ensures l.invariant.row l.invariant.stands)
+    let l = c.loop-at in
+    stacked_next _ _ _ _ _ _ _ l.invariant c.loop-at-test.true _ _ _ refl refl refl _ _ (sym c.node_ok.ensures ∙ c.if-not-node_ok.false) (omega (arith, c.if-children-eq0.false)) (sym c.in-Left.is ∙ c.pop.ensures l.invariant.row l.invariant.stands)
 
-returns-3 : tie.Need-returns-3 invariant-loop decreases-loop
+returns-3 : tie.Need-returns-then-many-ne1 invariant-loop decreases-loop
 returns-3 c =
-    let l = c.before.before.loop in
-    (stacked_other _ _ _ _ _ _ _ l.invariant (omega (arith, c.before.loop-test.false)) c.if3.true, l.invariant.kept)
+    let l = c.loop-at in
+    (stacked_other _ _ _ _ _ _ _ l.invariant (omega (arith, c.loop-at-test.false)) c.if-many-ne1.true, l.invariant.kept)
 
-returns-4 : tie.Need-returns-4 invariant-loop decreases-loop
+returns-4 : tie.Need-returns invariant-loop decreases-loop
 returns-4 c =
-    let l = c.before.before.loop in
-    (stacked_one _ _ _ _ _ _ _ l.invariant (omega (arith, c.before.loop-test.false)) c.if3.false, l.invariant.kept)
+    let l = c.loop-at in
+    (stacked_one _ _ _ _ _ _ _ l.invariant (omega (arith, c.loop-at-test.false)) c.if-many-ne1.false, l.invariant.kept)
 
-pub deep-spec : {M : Type 1} → statement M
-deep-spec =
+pub deep_spec : {M : Type 1} → statement M
+deep_spec =
     tie.close
     (tie.spec
     invariant-loop
@@ -114,7 +114,8 @@ deep-spec =
     shared-slice-read-children
     (λ c. search rules)
     shared-slice-read-node-ok
-    (λ c κs. search rules) (λ c. search rules)
+    (λ c. search rules)
+    (λ c. search rules)
     returns
     cast-stack
     mul-stack

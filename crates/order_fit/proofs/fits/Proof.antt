@@ -15,38 +15,36 @@ second : (a b : Bool) → a ≡ true → (a and b) ≡ b
 unfolding ◌and◌
 second a b e = rw e
 
-returns : tie.Need-returns
-returns c = (sym (fits-long _ _ _ c.if1.true), refl)
+returns : tie.Need-returns-then-order-gt-MOST_WORDS
+returns c = (sym (fits-long _ _ _ c.if-order-gt-MOST_WORDS.true), refl)
 
 deep-requires : tie.Need-deep-requires
-deep-requires c κs = let p = c.before.before.before.before.requires in (p.0, c.before.if1.false, omega (arith, p.2, c.before.if1.false))
+deep-requires c κs = let p = c.requires in (p.0, c.if-order-gt-MOST_WORDS.false, omega (arith, p.2, c.if-order-gt-MOST_WORDS.false))
 
-enum_told : tie.Need-enum-told
+enum_told : tie.Need-enum_told-1
 enum_told c = search rules
 
-returns-2 : tie.Need-returns-2
+returns-2 : tie.Need-returns-then-depth-least
 returns-2 c =
-    let d = c.before.before.before.before.before.before in
-    (sym (fits-deep _ _ _ _ d.before.before.if1.false d.before.before.before.before.before.requires.1 (sym d.deep.ensures.0 ∙ c.before.before.depth.given.1) ∙ fails_left _ _ (lt-leb _ _ c.if2.true)), d.deep.ensures.1)
+    (sym (fits-deep _ _ _ _ c.if-order-gt-MOST_WORDS.false c.requires.1 (sym c.deep.ensures.0 ∙ c.in-Deep.is) ∙ fails_left _ _ (lt-leb _ _ c.if-depth-least.true)), c.deep.ensures.1)
 
-returns-3 : tie.Need-returns-3
+returns-3 : tie.Need-returns-in-Broken
 returns-3 c =
-    let d = c.before.before.before.before in
-    (sym (fits-broken _ _ _ (sym d.deep.ensures.0 ∙ c.enum_told.given.1)), d.deep.ensures.1)
+    (sym (fits-broken _ _ _ (sym c.deep.ensures.0 ∙ c.in-Broken.is)), c.deep.ensures.1)
 
-returns-4 : tie.Need-returns-4
+returns-4 : tie.Need-returns-else-depth-least
 returns-4 c =
-    let d = c.before.before.before.before.before.before in
-    (sym (fits-deep _ _ _ _ d.before.before.if1.false d.before.before.before.before.before.requires.1 (sym d.deep.ensures.0 ∙ c.before.before.depth.given.1) ∙ second _ _ (le-leb _ _ c.if2.false)), d.deep.ensures.1)
+    (sym (fits-deep _ _ _ _ c.if-order-gt-MOST_WORDS.false c.requires.1 (sym c.deep.ensures.0 ∙ c.in-Deep.is) ∙ second _ _ (le-leb _ _ c.if-depth-least.false)), c.deep.ensures.1)
 
-pub fits-spec : {M : Type 1} → statement M
-fits-spec =
+pub fits_spec : {M : Type 1} → statement M
+fits_spec =
     tie.close
     (tie.spec
     returns
     deep-requires
     enum_told
-    (λ c. search rules) (λ c. search rules)
+    (λ c. search rules)
+    (λ c. search rules)
     returns-2
     (λ c. search rules)
     returns-3
