@@ -8,26 +8,37 @@ use borrow.Author.Rules.{rules}
 use Rattle.form_read_line.proofs.code_at.Statement.{statement}
 use Rattle.form_read_line.proofs.code_at.Tie as tie
 
-returns : tie.Need-returns
-returns c = let a = c.before.before.args in code-short a.level a.w (a.at + a.w) a.text.now (omega arith)
+returns : tie.Need-returns-then-text-p-lt-CODE_SIZE
+returns c = let a = c.args in code-short a.level a.w (a.at + a.w) a.text.now (omega arith)
 
-returns-2 : tie.Need-returns-2
-returns-2 c = let a = c.before.before.before.before.before.before.before.before.before.before.args in code-bad a.level a.w (a.at + a.w) a.text.now (omega arith) (sym c.before.is-code.ensures ∙ not-true _ c.if2.true)
+returns-2 : tie.Need-returns-then-not-is_code
+returns-2 c = let a = c.args in code-bad a.level a.w (a.at + a.w) a.text.now (omega arith) (sym c.is_code.ensures ∙ c.if-not-is_code.true)
 
-value-of-requires : tie.Need-value-of-requires
-value-of-requires c κs = let q = of_code _ _ _ _ _ _ (sym c.before.is-code.ensures ∙ not-false _ c.if2.false) in (q.first, q.second, q.third, q.fourth)
+value-of-requires : tie.Need-value_of-code-requires
+value-of-requires c κs = let q = of_code _ _ _ _ _ _ (sym c.is_code.ensures ∙ c.if-not-is_code.false) in (q.first, q.second, q.third, q.fourth)
 
-returns-3 : tie.Need-returns-3
-returns-3 c = let a = c.before.before.before.before.before.before.before.before.before.before.before.args in rw c.value_of_lem.ensures (code-good a.level a.w (a.at + a.w) a.text.now (omega arith) (sym c.before.before.is-code.ensures ∙ not-false _ c.before.if2.false))
+returns-3 : tie.Need-returns
+returns-3 c = let a = c.args in rw c.value_of-code.ensures (code-good a.level a.w (a.at + a.w) a.text.now (omega arith) (sym c.is_code.ensures ∙ c.if-not-is_code.false))
 
-pub code-at-spec : {M : Type 1} → statement M
-code-at-spec =
+pub code_at_spec : {M : Type 1} → statement M
+code_at_spec =
     tie.close
     (tie.spec
-    (λ c. search rules) (λ c. search rules)
+    (λ c. search rules)
+    (λ c. search rules)
     returns
-    (λ c. search rules) (λ c. search rules) (λ c. search rules) (λ c. search rules) (λ c. search rules) (λ c. search rules)
-    (λ c. search rules) (λ c. search rules) (λ c. search rules) (λ c. search rules) (λ c. search rules) (λ c κs. search rules)
+    (λ c. search rules)
+    (λ c. search rules)
+    (λ c. search rules)
+    (λ c. search rules)
+    (λ c. search rules)
+    (λ c. search rules)
+    (λ c. search rules)
+    (λ c. search rules)
+    (λ c. search rules)
+    (λ c. search rules)
+    (λ c. search rules)
+    (λ c. search rules)
     returns-2
     value-of-requires
     (λ c. search rules)

@@ -7,41 +7,41 @@ use borrow.Author.Rules.{rules}
 use Rattle.form_read_line.proofs.is_code.Statement.{statement}
 use Rattle.form_read_line.proofs.is_code.Tie as tie
 
-returns : tie.Need-returns
+returns : tie.Need-returns-then-s-ne32
 unfolding is_code ◌and◌
-returns c = rw (ne_eqb _ _ c.if1.true)
+returns c = rw (ne_eqb _ _ c.if-s-ne32.true)
 
-returns-2 : tie.Need-returns-2
+returns-2 : tie.Need-returns-then-not-is_digit
 unfolding is_code ◌and◌
-returns-2 c = rw (eq-eqb _ _ c.before.before.if1.false, sym c.before.is_digit.ensures ∙ not-true _ c.if2.true)
+returns-2 c = rw (eq-eqb _ _ c.if-s-ne32.false, sym c.is_digit.ensures ∙ c.if-not-is_digit.true)
 
-returns-3 : tie.Need-returns-3
+returns-3 : tie.Need-returns-then-not-is_digit-2
 unfolding is_code ◌and◌
-returns-3 c = rw (eq-eqb _ _ c.before.before.before.before.if1.false, sym c.before.before.before.is_digit.ensures ∙ not-false _ c.before.before.if2.false, sym c.before.is-digit2.ensures ∙ not-true _ c.if3.true)
+returns-3 c = rw (eq-eqb _ _ c.if-s-ne32.false, sym c.is_digit.ensures ∙ c.if-not-is_digit.false, sym c.is_digit-2.ensures ∙ c.if-not-is_digit-2.true)
 
-returns-4 : tie.Need-returns-4
+returns-4 : tie.Need-returns-then-not-is_digit-3
 unfolding is_code ◌and◌
-returns-4 c = rw (eq-eqb _ _ c.before.before.before.before.before.before.if1.false, sym c.before.before.before.before.before.is_digit.ensures ∙ not-false _ c.before.before.before.before.if2.false, sym c.before.before.before.is-digit2.ensures ∙ not-false _ c.before.before.if3.false, sym c.before.is-digit3.ensures ∙ not-true _ c.if4.true)
+returns-4 c = rw (eq-eqb _ _ c.if-s-ne32.false, sym c.is_digit.ensures ∙ c.if-not-is_digit.false, sym c.is_digit-2.ensures ∙ c.if-not-is_digit-2.false, sym c.is_digit-3.ensures ∙ c.if-not-is_digit-3.true)
 
-returns-5 : tie.Need-returns-5
+returns-5 : tie.Need-returns-then-not-is_digit-4
 unfolding is_code ◌and◌
-returns-5 c = rw (eq-eqb _ _ c.before.before.before.before.before.before.before.before.if1.false, sym c.before.before.before.before.before.before.before.is_digit.ensures ∙ not-false _ c.before.before.before.before.before.before.if2.false, sym c.before.before.before.before.before.is-digit2.ensures ∙ not-false _ c.before.before.before.before.if3.false, sym c.before.before.before.is-digit3.ensures ∙ not-false _ c.before.before.if4.false, sym c.before.is-digit4.ensures ∙ not-true _ c.if5.true)
+returns-5 c = rw (eq-eqb _ _ c.if-s-ne32.false, sym c.is_digit.ensures ∙ c.if-not-is_digit.false, sym c.is_digit-2.ensures ∙ c.if-not-is_digit-2.false, sym c.is_digit-3.ensures ∙ c.if-not-is_digit-3.false, sym c.is_digit-4.ensures ∙ c.if-not-is_digit-4.true)
 
-returns-6 : tie.Need-returns-6
+returns-6 : tie.Need-returns
 unfolding is_code ◌and◌
-returns-6 c = rw (eq-eqb _ _ c.before.before.before.before.before.before.before.before.if1.false, sym c.before.before.before.before.before.before.before.is_digit.ensures ∙ not-false _ c.before.before.before.before.before.before.if2.false, sym c.before.before.before.before.before.is-digit2.ensures ∙ not-false _ c.before.before.before.before.if3.false, sym c.before.before.before.is-digit3.ensures ∙ not-false _ c.before.before.if4.false, sym c.before.is-digit4.ensures ∙ not-false _ c.if5.false)
+returns-6 c = rw (eq-eqb _ _ c.if-s-ne32.false, sym c.is_digit.ensures ∙ c.if-not-is_digit.false, sym c.is_digit-2.ensures ∙ c.if-not-is_digit-2.false, sym c.is_digit-3.ensures ∙ c.if-not-is_digit-3.false, sym c.is_digit-4.ensures ∙ c.if-not-is_digit-4.false)
 
-pub is-code-spec : {M : Type 1} → statement M
-is-code-spec =
+pub is_code_spec : {M : Type 1} → statement M
+is_code_spec =
     tie.close
     (tie.spec
     returns
-    (λ c κs. search rules)
+    (λ c. search rules)
     returns-2
-    (λ c κs. search rules)
+    (λ c. search rules)
     returns-3
-    (λ c κs. search rules)
+    (λ c. search rules)
     returns-4
-    (λ c κs. search rules)
+    (λ c. search rules)
     returns-5
     returns-6)
