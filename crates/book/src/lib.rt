@@ -9,7 +9,7 @@ ghost use Rattle.book.specs.Opening.{outcome, open_of};
 use figures::{Answer, Asked, Depth, answered, limits, numbers};
 
 // A section of the book.
-#[derive(Drop)]
+#[derive(Clone, Copy)]
 pub enum Section {
     Taught,
     Tops,
@@ -18,7 +18,7 @@ pub enum Section {
 }
 
 // k, where the sections R, L and P start, and how many words are used. T starts behind the head.
-#[derive(Drop)]
+#[derive(Clone, Copy)]
 pub struct Places {
     pub k: Depth,
     pub tops: usize,
@@ -28,21 +28,21 @@ pub struct Places {
 }
 
 // What a look at a book's form gives.
-#[derive(Drop)]
+#[derive(Clone, Copy)]
 pub enum BookForm {
     Refused(u16),
     InForm(Places),
 }
 
 // The entry at a word, if all its words are there: the word past it, and its count.
-#[derive(Drop)]
+#[derive(Clone, Copy)]
 pub enum Whole {
     NoEntry,
     Ends { end: usize, count: usize },
 }
 
 // What a pass over a section finds: in order, with the word past it and the sum of its counts, or not.
-#[derive(Drop)]
+#[derive(Clone, Copy)]
 pub enum Stretch {
     Broken,
     InOrder(usize, usize),

@@ -17,14 +17,14 @@ use figures::limits;
 use section_change::{Size, Weighed};
 
 // What a call does to the book.
-#[derive(Drop)]
+#[derive(Clone, Copy)]
 pub enum Change {
     Teach,
     Withdraw,
 }
 
 // How many words the book lacks of each of the other book's sections.
-#[derive(Drop)]
+#[derive(Clone, Copy)]
 pub struct Lacking {
     pub taught: usize,
     pub tops: usize,
@@ -34,7 +34,7 @@ pub struct Lacking {
 
 // What the other book would do to the book: how many words of its sections are lacking, of each and of all, and whether a count would pass
 // 65,535.
-#[derive(Drop)]
+#[derive(Clone, Copy)]
 pub struct BookWeighed {
     pub each: Lacking,
     pub lacking: usize,

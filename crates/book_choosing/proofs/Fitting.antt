@@ -37,10 +37,10 @@ one_of ws (t ∷ ts) e =
     (λ h. let r = one_of ws ts (rw h at e) in (r.0, there r.1, r.2))
 
 -- and the words of a tree of the list pass.
-of_one : {ts : List Tree} {u : Tree} (ws : List ℕ) → u ∈ ts → words u ≡ ws → is_one_of ws ts ≡ true
+of_one : {u : Tree} {ts : List Tree} (ws : List ℕ) → u ∈ ts → words u ≡ ws → is_one_of ws ts ≡ true
 unfolding is_one_of if◌then◌else◌
-of_one {ts} {u} ws (here {x} e) s = let h : same_words (words x) ws ≡ true = rw (sym s ∙ ap words e) (same-words (words x)) in rw h
-of_one {ts} {u} ws (there {x} m) s = by_test (same_words (words x) ws) (λ h. rw h) (λ h. rw h (of_one ws m s))
+of_one {u} {ts} ws (here {x} e) s = let h : same_words (words x) ws ≡ true = rw (sym s ∙ ap words e) (same-words (words x)) in rw h
+of_one {u} {ts} ws (there {x} m) s = by_test (same_words (words x) ws) (λ h. rw h) (λ h. rw h (of_one ws m s))
 
 -- ---- fitting
 

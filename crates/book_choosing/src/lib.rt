@@ -3,7 +3,7 @@
 // other. Assumes nothing.
 
 // What choosing answers: the number, the line that judging speaks of, and the image, which is 0 with every number but 0.
-#[derive(Drop)]
+#[derive(Clone, Copy)]
 pub struct Chosen {
     pub number: u16,
     pub line: usize,
@@ -11,14 +11,14 @@ pub struct Chosen {
 }
 
 // What stands at a word of a rule list: no rule, or one that ends before a word.
-#[derive(Drop)]
+#[derive(Clone, Copy)]
 pub enum RuleAt {
     NoRule,
     Ends(usize),
 }
 
 // What the rules that fit name, of those that were looked at: no image, one, or two that differ.
-#[derive(Drop)]
+#[derive(Clone, Copy)]
 pub enum Named {
     Nothing,
     One(u16),

@@ -4,7 +4,7 @@ use figures::Answer;
 use section::Neighbours;
 
 // The part that a line stands for: whether it is low, which words it has, of the order or of its cut, and its section's entries.
-#[derive(Drop)]
+#[derive(Clone, Copy)]
 pub struct Sought {
     pub low: bool,
     pub from: usize,
@@ -14,7 +14,7 @@ pub struct Sought {
 }
 
 // What judging answers: the number and the line, and the neighbours in the book of the part that is doubted there.
-#[derive(Drop)]
+#[derive(Clone, Copy)]
 pub struct Judgement {
     pub answer: Answer,
     pub near: Neighbours,

@@ -19,7 +19,7 @@ use figures::{Depth, limits};
 use section::past;
 
 // The turn of a taught order: its number, and how often the order counts.
-#[derive(Drop)]
+#[derive(Clone, Copy)]
 pub struct Turn {
     pub number: u16,
     pub by: u16,

@@ -16,7 +16,7 @@ pub const LETTER_LINE: usize = 2;
 pub const OPENING_LETTER: u8 = b'K';
 
 // What a letter asks for.
-#[derive(Drop)]
+#[derive(Clone, Copy)]
 pub enum Letter {
     Teach,
     Withdraw,
@@ -37,14 +37,14 @@ impl Letter {
 }
 
 // What a line is: a letter line, or another.
-#[derive(Drop)]
+#[derive(Clone, Copy)]
 pub enum LineKind {
     Asks(Letter),
     Other,
 }
 
 // What the front of the input is: the first fault, or a first line that opens a book of that k.
-#[derive(Drop)]
+#[derive(Clone, Copy)]
 pub enum Front {
     Fault(Answer),
     Opens(u16),

@@ -7,7 +7,7 @@ use desk_input::{Front, LineKind};
 use desk_line::REPLY_ROOM;
 
 // What a step took of the input, and how many bytes its line has.
-#[derive(Drop)]
+#[derive(Clone, Copy)]
 pub struct Printed {
     pub taken: usize,
     pub count: usize,

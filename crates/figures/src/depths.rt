@@ -5,13 +5,13 @@ ghost use Rattle.figures.specs.Answers.{depth_of, number_of};
 use crate::numbers;
 
 // A k. The field is the module's own: other code has a `Depth` from the checked constructor alone.
-#[derive(Drop)]
+#[derive(Clone, Copy)]
 pub struct Depth {
     k: u16,
 }
 
 // What asking for a k gives.
-#[derive(Drop)]
+#[derive(Clone, Copy)]
 pub enum Asked {
     Allowed(Depth),
     Outside,

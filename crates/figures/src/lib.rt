@@ -10,14 +10,14 @@ pub mod numbers;
 pub use depths::{Asked, Depth};
 
 // An answer: its number by 01's table, and its line.
-#[derive(Drop)]
+#[derive(Clone, Copy)]
 pub struct Answer {
     pub number: u16,
     pub line: usize,
 }
 
 // The answer of a call that writes words or bytes: how many it wrote besides.
-#[derive(Drop)]
+#[derive(Clone, Copy)]
 pub struct Written {
     pub number: u16,
     pub line: usize,

@@ -5,7 +5,7 @@ ghost use Rattle.form.specs.Reading.{fault_number, read_number};
 use figures::numbers;
 
 // Why a line is refused, in the order in which the faults are looked for.
-#[derive(Drop)]
+#[derive(Clone, Copy)]
 pub enum Fault {
     PastLast,
     Misspelt,
@@ -32,7 +32,7 @@ impl Fault {
 }
 
 // What a line is read as: a node and the number of bytes that its line takes, or its first fault.
-#[derive(Drop)]
+#[derive(Clone, Copy)]
 pub enum LineRead {
     Node {
         level: usize,

@@ -20,7 +20,7 @@ use figures::{Answer, Written};
 
 // An answer, as C has it.
 #[repr(C)]
-#[derive(Drop)]
+#[derive(Clone, Copy)]
 pub struct OfbAnswer {
     pub number: u16,
     pub line: u16,
@@ -30,7 +30,7 @@ pub struct OfbAnswer {
 // A judgement, as C has it: the number and the line, and of what is unknown there how many entries of its section stand below it, whether it is
 // there (0 or 1), and the places at which it first differs from the last entry below and from the first above.
 #[repr(C)]
-#[derive(Drop)]
+#[derive(Clone, Copy)]
 pub struct OfbJudged {
     pub number: u16,
     pub line: u16,
@@ -42,7 +42,7 @@ pub struct OfbJudged {
 
 // What choosing answers, as C has it: the number, the line, and the image, or 0.
 #[repr(C)]
-#[derive(Drop)]
+#[derive(Clone, Copy)]
 pub struct OfbImage {
     pub number: u16,
     pub line: u16,
@@ -51,7 +51,7 @@ pub struct OfbImage {
 
 // A part of an order, as C has it: the word at which it starts, and how many words it has.
 #[repr(C)]
-#[derive(Drop)]
+#[derive(Clone, Copy)]
 pub struct OfbPart {
     pub start: u32,
     pub words: u32,

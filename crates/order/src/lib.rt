@@ -3,14 +3,14 @@
 use figures::Written;
 
 // What a node comes to that has so many children: it lacks one; or the line past its subtree, and how deep that is.
-#[derive(Drop)]
+#[derive(Clone, Copy)]
 pub enum Spanned {
     Lacking,
     To { end: usize, depth: usize },
 }
 
 // What words come to: not one tree, or one of this depth.
-#[derive(Drop)]
+#[derive(Clone, Copy)]
 pub enum Measured {
     Broken,
     Deep(usize),
@@ -18,14 +18,14 @@ pub enum Measured {
 
 // What a node comes to that takes its children from a row of trees: there are too few; or so many trees are there then, itself the first, and it
 // is so deep.
-#[derive(Drop)]
+#[derive(Clone, Copy)]
 pub enum Popped {
     Short,
     Left { many: usize, depth: usize },
 }
 
 // Where a line of an order stands.
-#[derive(Drop)]
+#[derive(Clone, Copy)]
 pub enum Place {
     Refused(u16),
     Lacking,
@@ -33,7 +33,7 @@ pub enum Place {
 }
 
 // The kind of part that a line stands for.
-#[derive(Drop)]
+#[derive(Clone, Copy)]
 pub enum Kind {
     Absent,
     Low,
@@ -41,7 +41,7 @@ pub enum Kind {
 }
 
 // The answer of `part_into`.
-#[derive(Drop)]
+#[derive(Clone, Copy)]
 pub struct PartWritten {
     pub kind: Kind,
     pub written: Written,

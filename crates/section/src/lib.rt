@@ -8,7 +8,7 @@ use words::Compared;
 
 // Where a key's entry stands or would stand, and how many entries stand below it; for a key that has none, the place of the first word, counted
 // from 1, in which it differs from the last entry below it and from the first above it, 0 where there is no such entry.
-#[derive(Drop)]
+#[derive(Clone, Copy)]
 pub enum Found {
     At {
         at: usize,
@@ -24,7 +24,7 @@ pub enum Found {
 
 // Where a search has stopped: whether at the key's entry, the last entry that it has passed, the word that it has come to, and how many entries
 // are left there.
-#[derive(Drop)]
+#[derive(Clone, Copy)]
 pub struct Stop {
     pub there: bool,
     pub last: usize,
@@ -34,7 +34,7 @@ pub struct Stop {
 
 // A key's neighbours in a section: how many entries stand below it, whether it is there, and the places of its first difference from the last
 // entry below and from the first above, 0 where there is no such entry.
-#[derive(Drop)]
+#[derive(Clone, Copy)]
 pub struct Neighbours {
     pub below: usize,
     pub there: bool,

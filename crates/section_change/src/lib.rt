@@ -13,21 +13,21 @@ use section::{past, search};
 use words::Compared;
 
 // How many words of a part are used, and how many entries stand at its front.
-#[derive(Drop)]
+#[derive(Clone, Copy)]
 pub struct Size {
     pub used: usize,
     pub many: usize,
 }
 
 // What a section's entries would do to another section: how many words those take that it lacks, and whether a count would pass 65,535.
-#[derive(Drop)]
+#[derive(Clone, Copy)]
 pub struct Weighed {
     pub lacking: usize,
     pub overfull: bool,
 }
 
 // What one less of an entry came to: where the gap starts and ends then, which word comes past the entry, and how many entries were taken out.
-#[derive(Drop)]
+#[derive(Clone, Copy)]
 pub struct Lessened {
     pub to: usize,
     pub kept: usize,

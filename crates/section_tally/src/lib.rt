@@ -11,7 +11,7 @@ use section::past;
 use words::Compared;
 
 // The number of the entry that has a key, counted from 0, if one has it.
-#[derive(Drop)]
+#[derive(Clone, Copy)]
 pub enum EntryFound {
     Missing,
     Number(usize),

@@ -5,7 +5,7 @@ ghost use Rattle.words.specs.Base.{over};
 ghost use Rattle.words.specs.Compare.{compare_of, before, signed_of, size_of};
 
 // How one slice stands to another.
-#[derive(Drop)]
+#[derive(Clone, Copy)]
 pub enum Compared {
     Lower,
     Equal,

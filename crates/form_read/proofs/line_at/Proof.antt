@@ -6,26 +6,27 @@ use borrow.Author.Rules.{rules}
 use Rattle.form_read.proofs.line_at.Statement.{statement}
 use Rattle.form_read.proofs.line_at.Tie as tie
 
-enum_told : tie.Need-enum-told
+enum_told : tie.Need-enum_told-1
 enum_told c = search rules
 
-returns : tie.Need-returns
-returns c = let a = c.before.before.before.before.args in under-refused a.words.now a.latest.now c.before.before.next-line.ensures c.enum_told.given.1
+returns : tie.Need-returns-in_default
+returns c = let a = c.args in under-refused a.words.now a.latest.now c.next_line-read.ensures c.in_default.is
 
 adopt-requires : tie.Need-adopt-requires
-adopt-requires c κs = let a = c.before.before.before.before.before.before.args in its_parent a.words.now a.latest.now c.before.before.before.before.next-line.ensures c.before.before.read.given.1 c.before.before.before.before.before.before.requires.1
+adopt-requires c κs = let a = c.args in its_parent a.words.now a.latest.now c.next_line-read.ensures c.in-Node.is c.requires.1
 
-returns-2 : tie.Need-returns-2
-returns-2 c = let a = c.before.before.before.before.before.before.before.before.args in under-full a.words.now a.latest.now c.before.before.before.before.before.before.next-line.ensures c.before.before.before.before.read.given.1 _ (sym c.before.adopt.ensures.0 ∙ not-true _ c.if1.true) c.before.adopt.ensures.1
+returns-2 : tie.Need-returns-then-not-adopt
+returns-2 c = let a = c.args in under-full a.words.now a.latest.now c.next_line-read.ensures c.in-Node.is _ (sym c.adopt.ensures.0 ∙ c.if-not-adopt.true) c.adopt.ensures.1
 
-returns-3 : tie.Need-returns-3
-returns-3 c = let a = c.before.before.before.before.before.before.before.before.args in under_one a.words.now a.latest.now c.before.before.before.before.before.before.next-line.ensures c.before.before.before.before.read.given.1 _ (sym c.before.adopt.ensures.0 ∙ not-false _ c.if1.false) c.before.adopt.ensures.1
+returns-3 : tie.Need-returns
+returns-3 c = let a = c.args in under_one a.words.now a.latest.now c.next_line-read.ensures c.in-Node.is _ (sym c.adopt.ensures.0 ∙ c.if-not-adopt.false) c.adopt.ensures.1
 
-pub line-at-spec : {M : Type 1} → statement M
-line-at-spec =
+pub line_at_spec : {M : Type 1} → statement M
+line_at_spec =
     tie.close
     (tie.spec
-    (λ c κs. search rules) (λ c. search rules)
+    (λ c. search rules)
+    (λ c. search rules)
     enum_told
     returns
     adopt-requires

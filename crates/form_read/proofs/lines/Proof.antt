@@ -8,82 +8,85 @@ use borrow.Author.Rules.{rules}
 use Rattle.form_read.proofs.lines.Statement.{statement}
 use Rattle.form_read.proofs.lines.Tie as tie
 
-abbrev invariant-loop : tie.invariant-loop
+abbrev invariant-loop : tie.invariant-loop-at
 invariant-loop text words₀ latest₀ at₀ n₀ greatest₀ words latest at n greatest = State text words latest at n greatest
 
-abbrev decreases-loop : tie.decreases-loop
+abbrev decreases-loop : tie.decreases-loop-at
 decreases-loop text words₀ latest₀ at₀ n₀ greatest₀ words latest at n greatest = length text - at
 
 -- There is room for the line that was read, and for its level.
-room : (c : tie.After-known-told invariant-loop decreases-loop) → (c.before.before.before.before.before.before.before.loop.n < most_nodes) × (c.before.read.given.0.0 ≤ greatest_depth)
-room c = room_for c.before.before.before.before.before.before.before.loop.invariant c.before.before.before.line_at.ensures.0 c.before.read.given.1
+room : (c : tie.In-Node invariant-loop decreases-loop) → (c.loop-at.n < most_nodes) × (c.in-Node.level ≤ greatest_depth)
+room c = room_for c.loop-at.invariant c.line_at-read.ensures.0 c.in-Node.is
 
 -- The line takes some bytes, and no more than there are.
-bytes : (c : tie.After-known-told invariant-loop decreases-loop) →
-    let size = c.before.read.given.0.1.1.0 in
-    (0 < size) × (c.before.before.before.before.before.before.before.loop.at + size ≤ length c.before.before.before.before.before.before.before.before.before.before.args.text.now)
-bytes c = bytes_of c.before.before.before.before.before.before.before.loop.invariant c.before.before.before.line_at.ensures.0 c.before.read.given.1
+bytes : (c : tie.In-Node invariant-loop decreases-loop) →
+    let size = c.in-Node.size in
+    (0 < size) × (c.loop-at.at + size ≤ length c.args.text.now)
+bytes c = bytes_of c.loop-at.invariant c.line_at-read.ensures.0 c.in-Node.is
 
-returns : tie.Need-returns invariant-loop decreases-loop
-returns c = empty-text _ _ _ c.before.if1.true c.refused.ensures
+returns : tie.Need-returns-then-text-eq0 invariant-loop decreases-loop
+returns c = empty-text _ _ _ c.if-text-eq0.true c.refused.ensures
 
-loop-holds : tie.Need-loop-init invariant-loop decreases-loop
-loop-holds c = start _ _ c.if1.false c.before.before.requires
+loop-holds : tie.Need-loop-at-init invariant-loop decreases-loop
+loop-holds c = start _ _ c.if-text-eq0.false c.requires
 
-line-at-requires : tie.Need-line-at-requires invariant-loop decreases-loop
-line-at-requires c κs = let s = c.before.before.before.loop.invariant in (s.inside, parents s)
+line-at-requires : tie.Need-line_at-read-requires invariant-loop decreases-loop
+line-at-requires c κs = let s = c.loop-at.invariant in (s.inside, parents s)
 
-enum_told : tie.Need-enum-told invariant-loop decreases-loop
+enum_told : tie.Need-enum_told-1 invariant-loop decreases-loop
 enum_told c = search rules
 
-returns-2 : tie.Need-returns-2 invariant-loop decreases-loop
-returns-2 c = bad_line c.before.before.before.before.before.before.before.before.loop.invariant _ _ _ c.before.before.before.before.before.before.before.loop-test.true c.before.before.before.before.line_at.ensures.0 c.before.before.enum_told.given.1 c.refused2.ensures c.before.number.ensures
+returns-2 : tie.Need-returns-in_default invariant-loop decreases-loop
+returns-2 c = bad_line c.loop-at.invariant _ _ _ c.loop-at-test.true c.line_at-read.ensures.0 c.in_default.is c.refused-in_default.ensures c.number.ensures
 
-element-write-words : tie.Need-element-write-words invariant-loop decreases-loop
-element-write-words c = omega (arith, room c)
+element-write-words : tie.Need-bounds-words-here invariant-loop decreases-loop
+element-write-words c = omega (arith, room c.before)
 
-element-write-words-2 : tie.Need-element-write-words-2 invariant-loop decreases-loop
-element-write-words-2 c = omega (arith, room c)
+element-write-words-2 : tie.Need-bounds-words-children invariant-loop decreases-loop
+element-write-words-2 c = omega (arith, room c.before)
 
-mul-latest : tie.Need-overflow-mul-latest invariant-loop decreases-loop
-mul-latest c = omega (arith, room c)
+mul-latest : tie.Need-offset_bounds-latest-level invariant-loop decreases-loop
+mul-latest c = omega (arith, room c.before)
 
-array-write-latest : tie.Need-array-write-latest invariant-loop decreases-loop
-array-write-latest c = omega (arith, room c)
+array-write-latest : tie.Need-bounds-latest-level invariant-loop decreases-loop
+array-write-latest c = omega (arith, room c.before)
 
-add-greatest : tie.Need-overflow-add-greatest invariant-loop decreases-loop
-add-greatest c = omega (arith, room c)
+add-greatest : tie.Need-overflow_add-greatest invariant-loop decreases-loop
+add-greatest c = omega (arith, room c.before)
 
-add_at : tie.Need-overflow-add-at invariant-loop decreases-loop
-add_at c = omega (arith, bytes c)
+add_at : tie.Need-overflow_add-at invariant-loop decreases-loop
+add_at c = omega (arith, bytes c.before)
 
-loop-less : tie.Need-loop-smaller invariant-loop decreases-loop
-loop-less c = omega (arith, bytes c)
+loop-less : tie.Need-loop-at-smaller invariant-loop decreases-loop
+loop-less c = omega (arith, bytes c.before)
 
-loop-again : tie.Need-loop-preserved invariant-loop decreases-loop
-loop-again c = turn c.before.before.before.before.before.before.before.loop.invariant c.before.before.before.line_at.ensures.0 c.before.read.given.1 _ c.before.before.before.line_at.ensures.1
+loop-again : tie.Need-loop-at-preserved invariant-loop decreases-loop
+loop-again c = turn c.loop-at.invariant c.line_at-read.ensures.0 c.in-Node.is _ c.line_at-read.ensures.1
 
-returns-3 : tie.Need-returns-3 invariant-loop decreases-loop
-returns-3 c = all_read c.before.before.loop.invariant _ c.before.loop-test.false c.wrote.ensures
+returns-3 : tie.Need-returns invariant-loop decreases-loop
+returns-3 c = all_read c.loop-at.invariant _ c.loop-at-test.false c.wrote.ensures
 
-pub lines-spec : {M : Type 1} → statement M
-lines-spec =
+pub lines_spec : {M : Type 1} → statement M
+lines_spec =
     tie.close
     (tie.spec
     invariant-loop
     decreases-loop
-    (λ c κs. search rules)
+    (λ c. search rules)
     returns
     loop-holds
     (λ c. search rules)
     line-at-requires
     (λ c. search rules)
     enum_told
-    (λ c κs. search rules) (λ c κs. search rules)
+    (λ c. search rules)
+    (λ c. search rules)
     returns-2
-    (λ c. search rules) (λ c. search rules)
+    (λ c. search rules)
+    (λ c. search rules)
     element-write-words
-    (λ c. search rules) (λ c. search rules)
+    (λ c. search rules)
+    (λ c. search rules)
     element-write-words-2
     mul-latest
     array-write-latest
@@ -91,5 +94,6 @@ lines-spec =
     add_at
     loop-less
     loop-again
-    (λ c. search rules) (λ c κs. search rules)
+    (λ c. search rules)
+    (λ c. search rules)
     returns-3)

@@ -3,14 +3,18 @@ use Rattle.form.proofs.Steps.{follows-first, follows-none, follows-later}
 use Rattle.form_read.proofs.may_follow.Statement.{statement}
 use Rattle.form_read.proofs.may_follow.Tie as tie
 
-returns : tie.Need-returns
-returns c = follows-first _ _ c.if1.true
+returns : tie.Need-returns-then-greatest-eq0
+returns c = follows-first _ _ c.if-greatest-eq0.true
 
-returns-2 : tie.Need-returns-2
-returns-2 c = follows-none _ _ c.before.if1.false c.if2.true
+returns-2 : tie.Need-returns-then-level-lt1
+returns-2 c = follows-none _ _ c.if-greatest-eq0.false c.if-level-lt1.true
 
-returns-3 : tie.Need-returns-3
-returns-3 c = follows-later _ _ c.before.if1.false c.if2.false
+returns-3 : tie.Need-returns
+returns-3 c = follows-later _ _ c.if-greatest-eq0.false c.if-level-lt1.false
 
-pub may-follow-spec : {M : Type 1} → statement M
-may-follow-spec = tie.close (tie.spec returns returns-2 returns-3)
+pub may_follow_spec : {M : Type 1} → statement M
+may_follow_spec = tie.close
+    (tie.spec
+    returns
+    returns-2
+    returns-3)

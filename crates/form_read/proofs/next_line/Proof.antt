@@ -7,37 +7,38 @@ use borrow.Author.Rules.{rules}
 use Rattle.form_read.proofs.next_line.Statement.{statement}
 use Rattle.form_read.proofs.next_line.Tie as tie
 
-returns : tie.Need-returns
-returns c = let a = c.before.before.args in next_past a.n a.greatest (drop a.at a.text.now) c.if1.true
+returns : tie.Need-returns-then-n-ge-MOST_NODES
+returns c = let a = c.args in next_past a.n a.greatest (drop a.at a.text.now) c.if-n-ge-MOST_NODES.true
 
-enum_told : tie.Need-enum-told
+enum_told : tie.Need-enum_told-1
 enum_told c = search rules
 
-returns-2 : tie.Need-returns-2
-returns-2 c = let a = c.before.before.before.before.before.args in next-misspelt a.n a.greatest (drop a.at a.text.now) c.before.before.before.if1.false c.before.before.spelt-at.ensures c.enum_told.given.1
+returns-2 : tie.Need-returns-in_default
+returns-2 c = let a = c.args in next-misspelt a.n a.greatest (drop a.at a.text.now) c.if-n-ge-MOST_NODES.false c.spelt_at-read.ensures c.in_default.is
 
-returns-3 : tie.Need-returns-3
-returns-3 c = let a = c.before.before.before.before.before.before.before.args in next-zero a.n a.greatest (drop a.at a.text.now) c.before.before.before.before.before.if1.false c.before.before.before.before.spelt-at.ensures c.before.before.read.given.1 c.if2.true
+returns-3 : tie.Need-returns-then-code-eq0
+returns-3 c = let a = c.args in next-zero a.n a.greatest (drop a.at a.text.now) c.if-n-ge-MOST_NODES.false c.spelt_at-read.ensures c.in-Node.is c.if-code-eq0.true
 
-returns-4 : tie.Need-returns-4
-returns-4 c = let a = c.before.before.before.before.before.before.before.before.before.args in next_level a.n a.greatest (drop a.at a.text.now) c.before.before.before.before.before.before.before.if1.false c.before.before.before.before.before.before.spelt-at.ensures c.before.before.before.before.read.given.1 c.before.before.if2.false (sym c.before.may-follow.ensures ∙ not-true _ c.if3.true)
+returns-4 : tie.Need-returns-then-not-may_follow
+returns-4 c = let a = c.args in next_level a.n a.greatest (drop a.at a.text.now) c.if-n-ge-MOST_NODES.false c.spelt_at-read.ensures c.in-Node.is c.if-code-eq0.false (sym c.may_follow.ensures ∙ c.if-not-may_follow.true)
 
-returns-5 : tie.Need-returns-5
-returns-5 c = let a = c.before.before.before.before.before.before.before.before.before.before.args in next-deep a.n a.greatest (drop a.at a.text.now) c.before.before.before.before.before.before.before.before.if1.false c.before.before.before.before.before.before.before.spelt-at.ensures c.before.before.before.before.before.read.given.1 c.before.before.before.if2.false (sym c.before.before.may-follow.ensures ∙ not-false _ c.before.if3.false) c.if4.true
+returns-5 : tie.Need-returns-then-level-gt-GREATEST_DEPTH
+returns-5 c = let a = c.args in next-deep a.n a.greatest (drop a.at a.text.now) c.if-n-ge-MOST_NODES.false c.spelt_at-read.ensures c.in-Node.is c.if-code-eq0.false (sym c.may_follow.ensures ∙ c.if-not-may_follow.false) c.if-level-gt-GREATEST_DEPTH.true
 
-returns-6 : tie.Need-returns-6
-returns-6 c = let a = c.before.before.before.before.before.before.before.before.before.before.args in next-node a.n a.greatest (drop a.at a.text.now) c.before.before.before.before.before.before.before.before.if1.false c.before.before.before.before.before.before.before.spelt-at.ensures c.before.before.before.before.before.read.given.1 c.before.before.before.if2.false (sym c.before.before.may-follow.ensures ∙ not-false _ c.before.if3.false) c.if4.false
+returns-6 : tie.Need-returns
+returns-6 c = let a = c.args in next-node a.n a.greatest (drop a.at a.text.now) c.if-n-ge-MOST_NODES.false c.spelt_at-read.ensures c.in-Node.is c.if-code-eq0.false (sym c.may_follow.ensures ∙ c.if-not-may_follow.false) c.if-level-gt-GREATEST_DEPTH.false
 
-pub next-line-spec : {M : Type 1} → statement M
-next-line-spec =
+pub next_line_spec : {M : Type 1} → statement M
+next_line_spec =
     tie.close
     (tie.spec
     returns
-    (λ c κs. search rules) (λ c. search rules)
+    (λ c. search rules)
+    (λ c. search rules)
     enum_told
     returns-2
     returns-3
-    (λ c κs. search rules)
+    (λ c. search rules)
     returns-4
     returns-5
     returns-6)

@@ -67,7 +67,7 @@ returns-2 c =
 
 -- The loop's turn, from where a line's first word is known to be the tree's.
 abbrev in-turn : tie.Else-order-at invariant-loop decreases-loop → tie.In-loop-at invariant-loop decreases-loop
-in-turn c = c.before.before.before.before.before
+in-turn c = c.before.before.before.before
 
 shared-slice-read-level : tie.Need-bounds-levels-at invariant-loop decreases-loop
 shared-slice-read-level c = (here (in-turn c.before)).levelled
