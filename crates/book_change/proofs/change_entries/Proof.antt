@@ -13,7 +13,7 @@ use Rattle.book_change.specs.declared.Change.TheVariants.{Teach}
 use Rattle.book_change.proofs.change_entries.Statement.{statement}
 use Rattle.book_change.proofs.change_entries.Tie as tie
 
-enum_told : tie.Need-enum-told
+enum_told : tie.Need-enum_told-1
 enum_told c = search rules
 
 -- What a change that teaches asks is what adding asks.
@@ -25,29 +25,26 @@ as_added c os es n m e h = rw e at h
 as-lacking : (c : Change) (os es : List Entry) (n : ℕ) → c ≡ Teach → Lacks c n os es → n ≡ lacking_words os es
 as-lacking c os es n e h = rw e at h
 
-add-all-requires : tie.Need-add-all-requires
+add-all-requires : tie.Need-add_all-requires
 add-all-requires c κs =
-    let s = c.before.before.before.before.before in
-    let e = c.before.enum_told.given.1 in
-    (s.requires.0, (s.requires.1.0, (as_added s.args.change _ _ _ _ e s.requires.1.1.0, as-lacking s.args.change _ _ _ e s.requires.1.1.1)))
+    let e = c.in-Teach.is in
+    (c.requires.0, (c.requires.1.0, (as_added c.args.change _ _ _ _ e c.requires.1.1.0, as-lacking c.args.change _ _ _ e c.requires.1.1.1)))
 
-lower-all-requires : tie.Need-lower-all-requires
-lower-all-requires c κs = let s = c.before.before.before.before.before in (s.requires.0, s.requires.1.0)
+lower-all-requires : tie.Need-lower_all-requires
+lower-all-requires c κs = (c.requires.0, c.requires.1.0)
 
-returns : tie.Need-returns
+returns : tie.Need-returns-in-Teach
 returns c =
-    let s = c.before.before.before.before.before.before.before.before in
-    let x = s.args in
-    subst (λ (d : Change). Edited x.part.now x.many x.used (changed d (entries x.more x.other.now) (entries x.many x.part.now)) c.before.before.add-all.new.0 c.before.before.add-all.result) (sym c.before.before.before.before.enum_told.given.1) c.before.before.add-all.ensures
+    let x = c.args in
+    subst (λ (d : Change). Edited x.part.now x.many x.used (changed d (entries x.more x.other.now) (entries x.many x.part.now)) c.add_all.new.book c.add_all.result) (sym c.in-Teach.is) c.add_all.ensures
 
-returns-2 : tie.Need-returns-2
+returns-2 : tie.Need-returns-in-Withdraw
 returns-2 c =
-    let s = c.before.before.before.before.before.before.before.before in
-    let x = s.args in
-    subst (λ (d : Change). Edited x.part.now x.many x.used (changed d (entries x.more x.other.now) (entries x.many x.part.now)) c.before.before.lower-all.new.0 c.before.before.lower-all.result) (sym c.before.before.before.before.enum-told2.given.1) c.before.before.lower-all.ensures
+    let x = c.args in
+    subst (λ (d : Change). Edited x.part.now x.many x.used (changed d (entries x.more x.other.now) (entries x.many x.part.now)) c.lower_all.new.book c.lower_all.result) (sym c.in-Withdraw.is) c.lower_all.ensures
 
-pub change-entries-spec : {M : Type 1} → statement M
-change-entries-spec =
+pub change_entries_spec : {M : Type 1} → statement M
+change_entries_spec =
     tie.close
     (tie.spec
     enum_told

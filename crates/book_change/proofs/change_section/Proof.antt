@@ -14,16 +14,16 @@ use Rattle.book_change.proofs.change_section.Statement.{statement}
 use Rattle.book_change.proofs.change_section.Tie as tie
 
 -- The call.
-abbrev start : tie.After-slot → tie.Start
+abbrev start : tie.After-slot-word → tie.Start
 start v = v.before.before.before
 
 -- The head's word for the section lies in the book and in the other book.
-slot-in : (v : tie.After-slot) → (v.slot.result < length (start v).args.book.now) × (v.slot.result < length (start v).args.other.now)
+slot-in : (v : tie.After-slot-word) → (v.slot-word.result < length (start v).args.book.now) × (v.slot-word.result < length (start v).args.other.now)
 slot-in v =
     let s = start v in
     let x = s.args in
     let e = slot_small x.section in
-    (omega (arith, v.slot.ensures, s.pre.0.long), omega (arith, v.slot.ensures, s.pre.1.0.long))
+    (omega (arith, v.slot-word.ensures, s.requires.0.long), omega (arith, v.slot-word.ensures, s.requires.1.0.long))
 
 -- The section starts within the book.
 at_in : (s : tie.Start) → (s.args.at ≤ s.args.uses) × (s.args.uses ≤ length s.args.book.now)
@@ -42,11 +42,11 @@ from_in s =
     omega (arith, stand_start x.other.now x.section x.from _ o, stand_fits x.other.now x.section x.from _ o)
 
 -- What was known when the live teachings were.
-abbrev slotted : tie.After-lives → tie.After-slot
+abbrev slotted : tie.After-lives-live → tie.After-slot-word
 slotted v = v.before.before.before.before.before
 
 -- What was known when the entries were to be changed.
-abbrev lived : tie.After-change-entries → tie.After-lives
+abbrev lived : tie.After-change_entries-size → tie.After-lives-live
 lived z = z.before.before.before
 
 -- The part of the book that is lent.
@@ -58,141 +58,135 @@ lent_other : (s : tie.Start) → take (length s.args.other.now - s.args.from) (d
 lent_other s = tail_all s.args.from s.args.other.now (from_in s)
 
 -- The words used are those of the changed book.
-ends : (z : tie.After-change-entries) → let s = start (slotted (lived z)) in
-    s.args.at + z.change-entries.result.used ≡ used (changed_in s.args.change s.args.section (book_in s.args.other.now) (book_in s.args.book.now))
+ends : (z : tie.After-change_entries-size) → let s = start (slotted (lived z)) in
+    s.args.at + z.change_entries-size.result.used ≡ used (changed_in s.args.change s.args.section (book_in s.args.other.now) (book_in s.args.book.now))
 ends z =
     let v = slotted (lived z) in
     let s = start v in
     let x = s.args in
-    end-then x.book.now x.other.now x.change x.section x.at x.uses x.from _ s.pre.0 s.pre.1.0 s.pre.1.1.0 v.slot.result v.slot.ensures _ _ _ z.change-entries.result (lent s) (lent_other s) z.change-entries.ensures
+    end-then x.book.now x.other.now x.change x.section x.at x.uses x.from _ s.requires.0 s.requires.1.0 s.requires.1.1.0 v.slot.result v.slot.ensures _ _ _ z.change_entries-size.result (lent s) (lent_other s) z.change_entries-size.ensures
 
 -- They and the entries are few.
-few : (z : tie.After-change-entries) → let s = start (slotted (lived z)) in
-    (s.args.at + z.change-entries.result.used ≤ length s.args.book.now) × (z.change-entries.result.many ≤ length s.args.book.now)
+few : (z : tie.After-change_entries-size) → let s = start (slotted (lived z)) in
+    (s.args.at + z.change_entries-size.result.used ≤ length s.args.book.now) × (z.change_entries-size.result.many ≤ length s.args.book.now)
 few z =
     let v = slotted (lived z) in
     let s = start v in
     let x = s.args in
     let m =
-    many-then x.book.now x.other.now x.change x.section x.at x.uses x.from _ s.pre.0 s.pre.1.0 s.pre.1.1.0 v.slot.result v.slot.ensures _ _ _ z.change-entries.result (lent s) (lent_other s) z.change-entries.ensures in
-    (omega (arith, ends z, s.pre.1.1.0.room), omega (arith, ends z, s.pre.1.1.0.room))
+    many-then x.book.now x.other.now x.change x.section x.at x.uses x.from _ s.requires.0 s.requires.1.0 s.requires.1.1.0 v.slot.result v.slot.ensures _ _ _ z.change_entries-size.result (lent s) (lent_other s) z.change_entries-size.ensures in
+    (omega (arith, ends z, s.requires.1.1.0.room), omega (arith, ends z, s.requires.1.1.0.room))
 
-mul-many : tie.Need-overflow-mul-many
-mul-many c = omega (arith, slot-in c, c.slot.ensures, slot_small (start c).args.section)
+mul-many : tie.Need-offset_bounds-book-word
+mul-many c = omega (arith, slot-in c, c.slot-word.ensures, slot_small (start c).args.section)
 
-slice-read-many : tie.Need-slice-read-many
+slice-read-many : tie.Need-bounds-book-word
 slice-read-many c = (slot-in c.before).0
 
-cast-many : tie.Need-overflow-cast-many
-cast-many c = omega (arith, c.slice-known2.given c.before.slot.result)
+cast-many : tie.Need-overflow_cast-many
+cast-many c = omega (arith, c.slice_known-2-1.given c.slot-word.result)
 
-mul-more : tie.Need-overflow-mul-more
-mul-more c = let v = c.before in omega (arith, v.slot.ensures, slot_small (start v).args.section)
+mul-more : tie.Need-offset_bounds-other-word
+mul-more c = omega (arith, c.slot-word.ensures, slot_small (start c.before).args.section)
 
-shared-slice-read-more : tie.Need-shared-slice-read-more
+shared-slice-read-more : tie.Need-bounds-other-word
 shared-slice-read-more c = (slot-in c.before.before).1
 
-cast-more : tie.Need-overflow-cast-more
-cast-more c = omega (arith, c.shared-slice-known2.given c.before.before.slot.result)
+cast-more : tie.Need-overflow_cast-more
+cast-more c = omega (arith, c.shared_slice_known-2-1.given c.slot-word.result)
 
-slice-read-lives : tie.Need-slice-read-lives
-slice-read-lives c = let s = start c.before.before.before in omega (arith, s.pre.0.long)
+slice-read-lives : tie.Need-bounds-book-2
+slice-read-lives c = let s = start c.before.before.before in omega (arith, s.requires.0.long)
 
-shared-slice-read-lives : tie.Need-shared-slice-read-lives
-shared-slice-read-lives c = let s = start c.before.before.before.before in omega (arith, s.pre.1.0.long)
+shared-slice-read-lives : tie.Need-bounds-other-2
+shared-slice-read-lives c = let s = start c.before.before.before.before in omega (arith, s.requires.1.0.long)
 
-lives-requires : tie.Need-lives-requires
+lives-requires : tie.Need-lives-live-requires
 lives-requires c κs =
-    let v = c.before.before.before.before in
-    let s = start v in
+    let s = start c.before.before.before.before in
     let x = s.args in
-    lives-ready x.book.now x.other.now x.change x.section x.at x.uses x.from _ s.pre.0 s.pre.1.0 s.pre.1.1.0 v.slot.result v.slot.ensures
+    lives-ready x.book.now x.other.now x.change x.section x.at x.uses x.from _ s.requires.0 s.requires.1.0 s.requires.1.1.0 c.slot-word.result c.slot-word.ensures
 
-mul-change-entries : tie.Need-overflow-mul-change-entries
+mul-change-entries : tie.Need-offset_bounds-book-at
 mul-change-entries c = let s = start (slotted c) in omega (arith, at_in s, s.pre.0.short)
 
-sub-change-entries : tie.Need-overflow-sub-change-entries
+sub-change-entries : tie.Need-slice_bounds-change_entries-count
 sub-change-entries c = omega (arith, at_in (start (slotted c)))
 
-part-change-entries-start : tie.Need-slice-bounds-change-entries-start
+part-change-entries-start : tie.Need-slice_bounds-change_entries-start
 part-change-entries-start c = omega (arith, at_in (start (slotted c)))
 
-sub-change-entries-2 : tie.Need-overflow-sub-change-entries-2
+sub-change-entries-2 : tie.Need-overflow_sub-uses
 sub-change-entries-2 c = omega (arith, at_in (start (slotted c.before)))
 
-mul-change-entries-2 : tie.Need-overflow-mul-change-entries-2
+mul-change-entries-2 : tie.Need-offset_bounds-other-from
 mul-change-entries-2 c = let s = start (slotted c.before) in omega (arith, from_in s, s.pre.1.0.short)
 
-sub-change-entries-3 : tie.Need-overflow-sub-change-entries-3
+sub-change-entries-3 : tie.Need-slice_bounds-change_entries-count-2
 sub-change-entries-3 c = omega (arith, from_in (start (slotted c.before)))
 
-part-change-entries-start-2 : tie.Need-slice-bounds-change-entries-start-2
+part-change-entries-start-2 : tie.Need-slice_bounds-change_entries-start-2
 part-change-entries-start-2 c = omega (arith, from_in (start (slotted c.before)))
 
-change-entries-requires : tie.Need-change-entries-requires
+change-entries-requires : tie.Need-change_entries-size-requires
 change-entries-requires c κs =
     let v = slotted c.before.before in
     let s = start v in
     let x = s.args in
     let part = take (length x.book.now - x.at) (drop x.at x.book.now) in
     let other = take (length x.other.now - x.from) (drop x.from x.other.now) in
-    let a = entries-ready x.book.now x.other.now x.change x.section x.at x.uses x.from _ s.pre.0 s.pre.1.0 s.pre.1.1.0 v.slot.result v.slot.ensures part other (lent s) (lent_other s) in
-    let l = lacks_ready x.book.now x.other.now x.change x.section x.at x.uses x.from _ s.pre.0 s.pre.1.0 s.pre.1.1.0 v.slot.result v.slot.ensures part other (lent s) (lent_other s) x.lacking s.pre.1.1.1 in
+    let a = entries-ready x.book.now x.other.now x.change x.section x.at x.uses x.from _ s.requires.0 s.requires.1.0 s.requires.1.1.0 v.slot-word.result v.slot-word.ensures part other (lent s) (lent_other s) in
+    let l = lacks_ready x.book.now x.other.now x.change x.section x.at x.uses x.from _ s.requires.0 s.requires.1.0 s.requires.1.1.0 v.slot-word.result v.slot-word.ensures part other (lent s) (lent_other s) x.lacking s.requires.1.1.1 in
     (a.0, (a.1, (a.2, l)))
 
-add-end : tie.Need-overflow-add-end
+add-end : tie.Need-overflow_add-end
 add-end c =
-    let z = c.before.before.before in
-    let s = start (slotted (lived z)) in
-    omega (arith, few z, s.pre.0.short)
+    let s = start (slotted (lived c.before.before.before)) in
+    omega (arith, few c.before.before.before, s.pre.0.short)
 
-cast-book : tie.Need-overflow-cast-book
+cast-book : tie.Need-overflow_cast-book
 cast-book c =
-    let z = c.before.before.before in
-    let s = start (slotted (lived z)) in
-    omega (arith, few z, s.pre.0.short)
+    let s = start (slotted (lived c.before.before.before)) in
+    omega (arith, few c.before.before.before, s.pre.0.short)
 
-slice-write-book : tie.Need-slice-write-book
-slice-write-book c = let s = start (slotted (lived c.before.before.before)) in omega (arith, c.before.before.book.given.1, s.pre.0.long)
+slice-write-book : tie.Need-bounds-book-1
+slice-write-book c = let s = start (slotted (lived c.before.before.before)) in omega (arith, c.book-1.given.1, s.pre.0.long)
 
-slice-write-book-2 : tie.Need-slice-write-book-2
-slice-write-book-2 c = let s = start (slotted (lived c.before.before.before)) in simp length-set (omega (arith, c.before.before.book.given.1, s.pre.0.long))
+slice-write-book-2 : tie.Need-bounds-book-2-2
+slice-write-book-2 c = let s = start (slotted (lived c.before.before.before)) in simp length-set (omega (arith, c.book-1.given.1, s.pre.0.long))
 
-cast-book-2 : tie.Need-overflow-cast-book-2
+cast-book-2 : tie.Need-overflow_cast-book-2
 cast-book-2 c =
-    let z = c.before.before.before.before in
-    let s = start (slotted (lived z)) in
-    omega (arith, few z, s.pre.0.short)
+    let s = start (slotted (lived c.before.before.before.before)) in
+    omega (arith, few c.before.before.before.before, s.pre.0.short)
 
-mul-book : tie.Need-overflow-mul-book
+mul-book : tie.Need-offset_bounds-book-word-2
 mul-book c =
-    let z = c.before.before.before.before in
-    let v = slotted (lived z) in
+    let v = slotted (lived c.before.before.before.before) in
     omega (arith, v.slot.ensures, slot_small (start v).args.section)
 
-slice-write-book-3 : tie.Need-slice-write-book-3
-slice-write-book-3 c = simp length-set (omega (arith, c.before.before.before.book.given.1, slot-in (slotted (lived c.before.before.before.before))))
+slice-write-book-3 : tie.Need-bounds-book-word-2
+slice-write-book-3 c = simp length-set (omega (arith, c.book-1.given.1, slot-in (slotted (lived c.before.before.before.before))))
 
-same_length : tie.Need-same-length
-same_length c = simp length-set c.before.before.before.book.given.1
+same_length : tie.Need-shape_of-book
+same_length c = simp length-set c.book-1.given.1
 
 returns : tie.Need-returns
 returns c =
-    let z = c.before.before.before.before in
-    let v = slotted (lived z) in
+    let v = slotted (lived c.before.before.before.before) in
     let s = start v in
     let x = s.args in
     let other = take (length x.other.now - x.from) (drop x.from x.other.now) in
     let part = take (length x.book.now - x.at) (drop x.at x.book.now) in (
-      ends z,
-      words-then x.book.now x.other.now x.change x.section x.at x.uses x.from _ s.pre.0 s.pre.1.0 s.pre.1.1.0 v.slot.result v.slot.ensures part other z.change-entries.new.0 z.change-entries.result (lent s) (lent_other s) z.change-entries.ensures (lived z).lives.result (lived z).lives.ensures,
+      ends c.before.before.before.before,
+      words-then x.book.now x.other.now x.change x.section x.at x.uses x.from _ s.requires.0 s.requires.1.0 s.requires.1.1.0 v.slot.result v.slot.ensures part other c.change_entries-size.new.0 c.change_entries-size.result (lent s) (lent_other s) c.change_entries-size.ensures (lived c.before.before.before.before).lives-live.result (lived c.before.before.before.before).lives-live.ensures,
     )
 
-pub change-section-spec : {M : Type 1} → statement M
-change-section-spec =
+pub change_section_spec : {M : Type 1} → statement M
+change_section_spec =
     tie.close
     (tie.spec
-    (λ c κs. search rules)
+    (λ c. search rules)
     mul-many
     slice-read-many
     cast-many

@@ -3,13 +3,16 @@ use Rattle.words.specs.Base.{if◌then◌else◌}
 use Rattle.book_change.proofs.either.Statement.{statement}
 use Rattle.book_change.proofs.either.Tie as tie
 
-returns : tie.Need-returns
+returns : tie.Need-returns-then-one
 unfolding if◌then◌else◌
-returns c = rw c.if1.true
+returns c = rw c.if-one.true
 
-returns-2 : tie.Need-returns-2
+returns-2 : tie.Need-returns
 unfolding if◌then◌else◌
-returns-2 c = rw c.if1.false
+returns-2 c = rw c.if-one.false
 
-pub either-spec : {M : Type 1} → statement M
-either-spec = tie.close (tie.spec returns returns-2)
+pub either_spec : {M : Type 1} → statement M
+either_spec = tie.close
+    (tie.spec
+    returns
+    returns-2)

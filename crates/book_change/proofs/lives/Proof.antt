@@ -16,28 +16,27 @@ module _ (c : Change) (s : Section) (live more : ℕ) (in_taught : s ≡ Taught)
   -- Teaching finds room for the teachings more.
   few : c ≡ Teach → live + more ≤ greatest_count
   few e = rw (e, in_taught) at ready
-
   -- Withdrawing finds the teachings that it takes.
   enough : c ≡ Withdraw → more ≤ live
   enough e = rw (e, in_taught) at ready
 
-enum_told : tie.Need-enum-told
+enum_told : tie.Need-enum_told-1
 enum_told c = search rules
 
-add-result : tie.Need-overflow-add-result
-add-result c = let a = c.before.before.before.before in omega (arith, few a.args.change a.args.section a.args.live a.args.more c.before.before.enum_told.given.1 a.requires c.enum-told2.given.1)
+add-result : tie.Need-overflow_add-result
+add-result c = omega (arith, few c.args.change c.args.section c.args.live c.args.more c.in-Taught.is c.requires c.in-Teach.is)
 
-sub-result : tie.Need-overflow-sub-result
-sub-result c = let a = c.before.before.before.before in omega (arith, enough a.args.change a.args.section a.args.live a.args.more c.before.before.enum_told.given.1 a.requires c.enum-told3.given.1)
+sub-result : tie.Need-overflow_sub-result
+sub-result c = omega (arith, enough c.args.change c.args.section c.args.live c.args.more c.in-Taught.is c.requires c.in-Withdraw.is)
 
-returns : tie.Need-returns
-returns c = rw (c.before.before.enum_told.given.1, c.enum-told2.given.1)
+returns : tie.Need-returns-in-Teach
+returns c = rw (c.in-Taught.is, c.in-Teach.is)
 
-returns-2 : tie.Need-returns-2
-returns-2 c = rw (c.before.before.enum_told.given.1, c.enum-told3.given.1)
+returns-2 : tie.Need-returns-in-Withdraw
+returns-2 c = rw (c.in-Taught.is, c.in-Withdraw.is)
 
-pub lives-spec : {M : Type 1} → statement M
-lives-spec =
+pub lives_spec : {M : Type 1} → statement M
+lives_spec =
     tie.close
     (tie.spec
     enum_told
@@ -45,7 +44,11 @@ lives-spec =
     add-result
     (λ c. search rules)
     sub-result
-    (λ c. search rules) (λ c. search rules) (λ c. search rules)
+    (λ c. search rules)
+    (λ c. search rules)
+    (λ c. search rules)
     returns
     returns-2
-    (λ c. search rules) (λ c. search rules) (λ c. search rules))
+    (λ c. search rules)
+    (λ c. search rules)
+    (λ c. search rules))

@@ -12,78 +12,78 @@ use Rattle.book_change.proofs.weigh_section.Statement.{statement}
 use Rattle.book_change.proofs.weigh_section.Tie as tie
 
 -- What the function was called with.
-abbrev called : tie.After-start2 → tie.Start
+abbrev called : tie.After-start-from → tie.Start
 called c = c.before.before.before.before.before
 
 -- The section's word is one of the head's.
-word_small : (c : tie.After-start2) → c.before.before.slot.result < head_words
-word_small c = omega (arith, slot_small (called c).args.section, c.before.before.slot.ensures)
+word_small : (c : tie.After-start-from) → c.slot-word.result < head_words
+word_small c = omega (arith, slot_small (called c).args.section, c.slot-word.ensures)
 
 -- The section starts within the book.
-book-start : (c : tie.After-start2) → c.before.start.result ≤ length (called c).args.book.now
-book-start c = start-within _ _ (called c).requires.0 (called c).args.section _ _ c.before.start.ensures c.before.before.slot.ensures
+book-start : (c : tie.After-start-from) → c.start-at.result ≤ length (called c).args.book.now
+book-start c = start-within _ _ (called c).requires.0 (called c).args.section _ _ c.start-at.ensures c.slot-word.ensures
 
 -- The section starts within the other book.
-other-start : (c : tie.After-start2) → c.start2.result ≤ length (called c).args.other.now
-other-start c = start-within _ _ (called c).requires.1 (called c).args.section _ _ c.start2.ensures c.before.before.slot.ensures
+other-start : (c : tie.After-start-from) → c.start-from.result ≤ length (called c).args.other.now
+other-start c = start-within _ _ (called c).requires.1 (called c).args.section _ _ c.start-from.ensures c.slot-word.ensures
 
-mul-many : tie.Need-overflow-mul-many
+mul-many : tie.Need-offset_bounds-book-word
 mul-many c = omega (arith, word_small c)
 
-shared-slice-read-many : tie.Need-shared-slice-read-many
-shared-slice-read-many c = let t = c.before in slot_within _ _ (called t).requires.0 (called t).args.section _ t.before.before.slot.ensures
+shared-slice-read-many : tie.Need-bounds-book-word
+shared-slice-read-many c = slot_within _ _ (called c.before).requires.0 (called c.before).args.section _ c.slot-word.ensures
 
-cast-many : tie.Need-overflow-cast-many
-cast-many c = omega (arith, c.shared-slice-known3.given c.before.before.before.slot.result)
+cast-many : tie.Need-overflow_cast-many
+cast-many c = omega (arith, c.shared_slice_known-3-1.given c.slot-word.result)
 
-mul-more : tie.Need-overflow-mul-more
+mul-more : tie.Need-offset_bounds-other-word
 mul-more c = omega (arith, word_small c.before)
 
-shared-slice-read-more : tie.Need-shared-slice-read-more
-shared-slice-read-more c = let t = c.before.before in slot_within _ _ (called t).requires.1 (called t).args.section _ t.before.before.slot.ensures
+shared-slice-read-more : tie.Need-bounds-other-word
+shared-slice-read-more c = slot_within _ _ (called c.before.before).requires.1 (called c.before.before).args.section _ c.slot-word.ensures
 
-cast-more : tie.Need-overflow-cast-more
-cast-more c = omega (arith, c.shared-slice-known4.given c.before.before.before.before.slot.result)
+cast-more : tie.Need-overflow_cast-more
+cast-more c = omega (arith, c.shared_slice_known-4-1.given c.slot-word.result)
 
-mul-weigh : tie.Need-overflow-mul-weigh
+mul-weigh : tie.Need-offset_bounds-book-at
 mul-weigh c = omega (arith, book-start c.before.before, (called c.before.before).requires.0.short)
 
-sub-weigh : tie.Need-overflow-sub-weigh
+sub-weigh : tie.Need-slice_bounds-weigh-count
 sub-weigh c = book-start c.before.before
 
-part-weigh-start : tie.Need-slice-bounds-weigh-start
+part-weigh-start : tie.Need-slice_bounds-weigh-start
 part-weigh-start c = book-start c.before.before
 
-mul-weigh-2 : tie.Need-overflow-mul-weigh-2
+mul-weigh-2 : tie.Need-offset_bounds-other-from
 mul-weigh-2 c = omega (arith, other-start c.before.before.before, (called c.before.before.before).requires.1.short)
 
-sub-weigh-2 : tie.Need-overflow-sub-weigh-2
+sub-weigh-2 : tie.Need-slice_bounds-weigh-count-2
 sub-weigh-2 c = other-start c.before.before.before
 
-part-weigh-start-2 : tie.Need-slice-bounds-weigh-start-2
+part-weigh-start-2 : tie.Need-slice_bounds-weigh-start-2
 part-weigh-start-2 c = other-start c.before.before.before
 
 weigh-requires : tie.Need-weigh-requires
 weigh-requires c κs =
-    let t = c.before.before.before.before in
-    let s = called t in
-    let word = t.before.before.slot.ensures in (
-      (lent-within _ _ s.pre.0 s.args.section _ _ t.before.start.ensures word, lent-sorted _ _ s.pre.0 s.args.section _ _ t.before.start.ensures word),
-      (lent-within _ _ s.pre.1 s.args.section _ _ t.start2.ensures word, (lent-sorted _ _ s.pre.1 s.args.section _ _ t.start2.ensures word, lent-fitting _ _ s.pre.1 s.args.section _ _ t.start2.ensures word)),
+    let s = called c.before.before.before.before in
+    let word = c.slot-word.ensures in (
+      (lent-within _ _ s.requires.0 s.args.section _ _ c.start-at.ensures word, lent-sorted _ _ s.requires.0 s.args.section _ _ c.start-at.ensures word),
+      (lent-within _ _ s.requires.1 s.args.section _ _ c.start-from.ensures word, (lent-sorted _ _ s.requires.1 s.args.section _ _ c.start-from.ensures word, lent-fitting _ _ s.requires.1 s.args.section _ _ c.start-from.ensures word)),
     )
 
 returns : tie.Need-returns
 returns c =
-    let t = c.before.before.before.before.before in
-    let s = called t in
-    let word = t.before.before.slot.ensures in
-    c.weigh.ensures ∙ ap₂ weighed (lent-are _ _ s.pre.1 s.args.section _ _ t.start2.ensures word) (lent-are _ _ s.pre.0 s.args.section _ _ t.before.start.ensures word)
+    let s = called c.before.before.before.before.before in
+    let word = c.slot-word.ensures in
+    c.weigh.ensures ∙ ap₂ weighed (lent-are _ _ s.requires.1 s.args.section _ _ c.start-from.ensures word) (lent-are _ _ s.requires.0 s.args.section _ _ c.start-at.ensures word)
 
-pub weigh-section-spec : {M : Type 1} → statement M
-weigh-section-spec =
+pub weigh_section_spec : {M : Type 1} → statement M
+weigh_section_spec =
     tie.close
     (tie.spec
-    (λ c κs. search rules) (λ c κs. search rules) (λ c κs. search rules)
+    (λ c. search rules)
+    (λ c. search rules)
+    (λ c. search rules)
     mul-many
     shared-slice-read-many
     cast-many

@@ -6,23 +6,23 @@ use Rattle.book.proofs.Runs.{head_live, head_used, head_zeros}
 use Rattle.book_form.proofs.head_right.Statement.{statement}
 use Rattle.book_form.proofs.head_right.Tie as tie
 
-cast-says-live : tie.Need-overflow-cast-says-live
-cast-says-live c = omega (arith, c.shared-slice-known2.given 2)
+cast-says-live : tie.Need-overflow_cast-says_live
+cast-says-live c = omega (arith, c.shared_slice_known-2-1.given 2)
 
-cast-says-used : tie.Need-overflow-cast-says-used
-cast-says-used c = omega (arith, c.shared-slice-known3.given 1)
+cast-says-used : tie.Need-overflow_cast-says_used
+cast-says-used c = omega (arith, c.shared_slice_known-3-1.given 1)
 
-returns : tie.Need-returns
-returns c = sym (head_live _ _ _ c.if1.true)
+returns : tie.Need-returns-then-live-says_live
+returns c = sym (head_live _ _ _ c.if-live-says_live.true)
 
-returns-2 : tie.Need-returns-2
-returns-2 c = sym (head_used _ _ _ c.before.if1.false c.if2.true)
+returns-2 : tie.Need-returns-then-used-says_used
+returns-2 c = sym (head_used _ _ _ c.if-live-says_live.false c.if-used-says_used.true)
 
-returns-3 : tie.Need-returns-3
-returns-3 c = c.zeros-from.ensures ∙ sym (head_zeros _ _ _ c.before.before.if1.false c.before.if2.false)
+returns-3 : tie.Need-returns
+returns-3 c = c.zeros_from.ensures ∙ sym (head_zeros _ _ _ c.if-live-says_live.false c.if-used-says_used.false)
 
-pub head-right-spec : {M : Type 1} → statement M
-head-right-spec =
+pub head_right_spec : {M : Type 1} → statement M
+head_right_spec =
     tie.close
     (tie.spec
     (λ c. search rules)
@@ -31,5 +31,5 @@ head-right-spec =
     cast-says-used
     returns
     returns-2
-    (λ c κs. search rules)
+    (λ c. search rules)
     returns-3)

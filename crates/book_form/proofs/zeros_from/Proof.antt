@@ -40,43 +40,52 @@ all-looked-at a z e = rw e (go (eqb a 0))
     go true = refl
     go false = refl
 
-abbrev invariant-loop : tie.invariant-loop
+abbrev invariant-loop : tie.invariant-loop-i
 invariant-loop book at greatest₀ i₀ greatest i = zeros (drop at book) ≡ (eqb greatest 0 and zeros (drop i book))
 
 -- The words left.
-abbrev decreases-loop : tie.decreases-loop
+abbrev decreases-loop : tie.decreases-loop-i
 decreases-loop book at greatest₀ i₀ greatest i = length book - i
 
-loop-holds : tie.Need-loop-init invariant-loop decreases-loop
+loop-holds : tie.Need-loop-i-init invariant-loop decreases-loop
 unfolding ◌and◌
 loop-holds c = refl
 
-mul-word : tie.Need-overflow-mul-word invariant-loop decreases-loop
+mul-word : tie.Need-offset_bounds-book-i invariant-loop decreases-loop
 mul-word c = search rules
 
-shared-slice-read-word : tie.Need-shared-slice-read-word invariant-loop decreases-loop
+shared-slice-read-word : tie.Need-bounds-book-i invariant-loop decreases-loop
 shared-slice-read-word c = search rules
 
-add-i : tie.Need-overflow-add-i invariant-loop decreases-loop
+add-i : tie.Need-overflow_add-i invariant-loop decreases-loop
 add-i c = search rules
 
-loop-less : tie.Need-loop-smaller invariant-loop decreases-loop
+loop-less : tie.Need-loop-i-smaller invariant-loop decreases-loop
 loop-less c = search rules
 
-loop-again : tie.Need-loop-preserved invariant-loop decreases-loop
+loop-again : tie.Need-loop-i-preserved invariant-loop decreases-loop
 loop-again c =
-    let k = c.before.before.before in
-    let b = k.before.args.book.now in
-    let i = k.loop.i in
+    let b = c.args.book.now in
+    let i = c.loop-i.i in
     let z = zeros (drop (i + 1) b) in
     let step : ℕ → Bool = λ n. eqb n 0 and z in
-    k.loop.invariant
-    ∙ ap (λ (r : Bool). eqb k.loop.greatest 0 and r) (zeros-at b i (omega arith))
-    ∙ ⊎_elim (λ w. greater _ _ z w.0.taken ∙ ap step (sym w.1)) (λ w. no-greater _ _ z w.0.left ∙ ap step (sym w.1)) c.if1.branch
+    c.loop-i.invariant
+    ∙ ap (λ (r : Bool). eqb c.loop-i.greatest 0 and r) (zeros-at b i (omega arith))
+    ∙ ⊎_elim (λ w. greater _ _ z w.0.taken ∙ ap step (sym w.1)) (λ w. no-greater _ _ z w.0.left ∙ ap step (sym w.1)) c.if-greatest-word.branch
 
 returns : tie.Need-returns invariant-loop decreases-loop
 unfolding ◌and◌
-returns c = let k = c.before in sym (k.loop.invariant ∙ all-looked-at k.loop.greatest _ (zeros-end k.before.args.book.now k.loop.i (omega arith)))
+returns c = sym (c.loop-i.invariant ∙ all-looked-at c.loop-i.greatest _ (zeros-end c.args.book.now c.loop-i.i (omega arith)))
 
-pub zeros-from-spec : {M : Type 1} → statement M
-zeros-from-spec = tie.close (tie.spec invariant-loop decreases-loop loop-holds mul-word shared-slice-read-word add-i loop-less loop-again returns)
+pub zeros_from_spec : {M : Type 1} → statement M
+zeros_from_spec = tie.close
+    (tie.spec
+    invariant-loop
+    decreases-loop
+    loop-holds
+    mul-word
+    shared-slice-read-word
+    add-i
+    loop-less
+    loop-again
+    returns)

@@ -6,11 +6,14 @@ use Rattle.form_write.proofs.Written.{some_words, shallow}
 use Rattle.form_write.proofs.is_shallow.Statement.{statement}
 use Rattle.form_write.proofs.is_shallow.Tie as tie
 
-shared-slice-read-depth : tie.Need-shared-slice-read-depth
-shared-slice-read-depth c = let p = c.before.requires in omega (arith, some_words _ p.sound, spans-room _ _ p)
+shared-slice-read-depth : tie.Need-bounds-spans-1
+shared-slice-read-depth c = let p = c.requires in omega (arith, some_words _ p.sound, spans-room _ _ p)
 
 returns : tie.Need-returns
-returns c e = shallow _ _ c.before.requires (ltb-true _ _ e)
+returns c e = shallow _ _ c.requires (ltb-true _ _ e)
 
-pub is-shallow-spec : {M : Type 1} → statement M
-is-shallow-spec = tie.close (tie.spec shared-slice-read-depth returns)
+pub is_shallow_spec : {M : Type 1} → statement M
+is_shallow_spec = tie.close
+    (tie.spec
+    shared-slice-read-depth
+    returns)

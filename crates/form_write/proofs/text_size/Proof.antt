@@ -4,13 +4,16 @@ use Rattle.form_write.proofs.Written.{text-short}
 use Rattle.form_write.proofs.text_size.Statement.{statement}
 use Rattle.form_write.proofs.text_size.Tie as tie
 
-returns : tie.Need-returns
-returns c = text-short _ c.before.before.before.before.before.requires.0.sound (c.before.is-shallow.ensures c.if1.true)
+returns : tie.Need-returns-then-is_shallow
+returns c = text-short _ c.requires.0.sound (c.is_shallow.ensures c.if-is_shallow.true)
 
-pub text-size-spec : {M : Type 1} → statement M
-text-size-spec =
+pub text_size_spec : {M : Type 1} → statement M
+text_size_spec =
     tie.close
     (tie.spec
-    (λ c κs. search rules) (λ c. search rules) (λ c. search rules)
+    (λ c. search rules)
+    (λ c. search rules)
+    (λ c. search rules)
     returns
-    (λ c κs. search rules) (λ c. search rules))
+    (λ c. search rules)
+    (λ c. search rules))
