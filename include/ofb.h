@@ -1,8 +1,9 @@
 /*
  * The book of built orders, for programs in C or in a language that calls C. The library behind it, libofb.a, is written in Rattle: each function
  * below is proved, for all that may be lent to it, to end, to read and write only what it is lent, and to answer as the rules say.
- * It keeps nothing between calls, asks for no memory, and needs of the C library no more than memcpy and memset. It is for x86-64. Of the stack
- * ofb_read_file takes some 58 KiB, ofb_check, ofb_join and ofb_write_file 26 KiB, ofb_teach and ofb_withdraw 4 KiB, and every other call at most 2 KiB.
+ * It keeps nothing between calls, asks for no memory, and needs of the C library no more than memcpy and memset. It is for x86-64. Of the stack,
+ * as measured with an older compiler, ofb_read_file takes some 58 KiB, ofb_check, ofb_join and ofb_write_file 26 KiB, ofb_teach and ofb_withdraw 4 KiB,
+ * and every other call at most 2 KiB.
  *
  * An order is a tree of options in preorder, two words for each: its code, 1 to 9999, and how many children it has, 0 to 8. It has at most 64 options, and
  * is at most 12 deep. A book is a slice of 7 to 16,384 words; ofb_open makes an empty one. Word 0 of a book is how deep it looks, k, word 1 how many of
