@@ -19,13 +19,11 @@ sub-if1 c =
 -- src/lib.rt:26:9
 returns : tie.Need-returns-then-book-places
 returns c =
-    
     (no_room-for _ _ _ _ c.requires.0 c.requires.1.0 _ c.weigh_book-weighed.ensures c.if-book-places.true, if_false _ _ _ refl)
 
 -- src/lib.rt:28:5
 change-book-requires : tie.Need-change_book-requires
 change-book-requires c κs =
-    
     let g = c.requires.0 in
     let h = c.requires.1.0 in
     (g, (h, (can_add _ _ _ _ g h _ c.weigh_book-weighed.ensures c.if-book-places.false c.requires.1.1.0 c.requires.1.1.1, lacks_so _ _ _ _ g h _ c.weigh_book-weighed.ensures c.if-book-places.false)))
@@ -33,8 +31,6 @@ change-book-requires c κs =
 -- src/lib.rt:17:1
 returns-2 : tie.Need-returns
 returns-2 c =
-    
-    
     (room_for _ _ _ _ c.requires.0 c.requires.1.0 _ c.weigh_book-weighed.ensures c.if-book-places.false, if_true _ _ _ c.change_book.ensures)
 
 pub add_book_spec : {M : Type 1} → statement M

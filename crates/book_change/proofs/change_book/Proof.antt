@@ -55,13 +55,13 @@ stage1 v = let s = start v in next-stage _ (first s) _ (stage0 s) s.args.change 
 stage2 : (v : tie.After-change_section-l) → let s = start (one v) in Stage (length s.args.book.now) (third s) v.change_section-l.new.book
 stage2 v =
     let s = start (one v) in
-    next-stage _ (second s) _ (stage1 (one v)) s.args.change Lows (other s) s.pre.1.1.0.lows v.change_section-l.new.0 v.change_section-l.ensures.1
+    next-stage _ (second s) _ (stage1 (one v)) s.args.change Lows (other s) s.requires.1.1.0.lows v.change_section-l.new.book v.change_section-l.ensures.1
 
 -- The stage once section R is changed.
 stage3 : (v : tie.After-change_section-r) → let s = start (one (two v)) in Stage (length s.args.book.now) (fourth s) v.change_section-r.new.book
 stage3 v =
     let s = start (one (two v)) in
-    next-stage _ (third s) _ (stage2 (two v)) s.args.change Tops (other s) s.pre.1.1.0.tops v.change_section-r.new.0 v.change_section-r.ensures.1
+    next-stage _ (third s) _ (stage2 (two v)) s.args.change Tops (other s) s.requires.1.1.0.tops v.change_section-r.new.book v.change_section-r.ensures.1
 
 change-section-requires : tie.Need-change_section-p-requires
 change-section-requires c κs =
@@ -116,12 +116,12 @@ change-section-requires-4 c κs =
     let g = stage3 c.before.before.before in (
       stage_stands _ _ _ g Taught _ c.change_section-r.result
           refl
-          (next-used _ _ _ (stage2 w) s.args.change Tops (other s) s.pre.1.1.0.tops _ c.change_section-r.ensures.0),
+          (next-used _ _ _ (stage2 w) s.args.change Tops (other s) s.requires.1.1.0.tops _ c.change_section-r.ensures.0),
       (
-        held_stands _ s.args.others s.pre.1.0 Taught,
+        held_stands _ s.args.others s.requires.1.0 Taught,
         (
-          stage_ready _ _ _ g s.args.change Taught (other s) s.pre.1.1.0.taught,
-          stage_lacks _ _ _ g s.args.change Taught (other s) _ (taught-lacks s.args.change s.args.lacks (other s) (first s) s.pre.1.1.1),
+          stage_ready _ _ _ g s.args.change Taught (other s) s.requires.1.1.0.taught,
+          stage_lacks _ _ _ g s.args.change Taught (other s) _ (taught-lacks s.args.change s.args.lacks (other s) (first s) s.requires.1.1.1),
         ),
       ),
     )
@@ -131,7 +131,7 @@ unfolding changed_book
 returns c =
     
     let s = start (one (two c.before.before.before.before.before.before)) in
-    (next-stage _ (fourth s) _ (stage3 c.before.before.before.before.before.before) s.args.change Taught (other s) s.pre.1.1.0.taught c.change_section.new.0 c.change_section.ensures.1).is
+    (next-stage _ (fourth s) _ (stage3 c.before.before.before.before.before.before) s.args.change Taught (other s) s.requires.1.1.0.taught c.change_section.new.book c.change_section.ensures.1).is
 
 pub change_book_spec : {M : Type 1} → statement M
 change_book_spec =

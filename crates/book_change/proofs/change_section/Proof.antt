@@ -64,7 +64,7 @@ ends z =
     let v = slotted (lived z) in
     let s = start v in
     let x = s.args in
-    end-then x.book.now x.other.now x.change x.section x.at x.uses x.from _ s.requires.0 s.requires.1.0 s.requires.1.1.0 v.slot.result v.slot.ensures _ _ _ z.change_entries-size.result (lent s) (lent_other s) z.change_entries-size.ensures
+    end-then x.book.now x.other.now x.change x.section x.at x.uses x.from _ s.requires.0 s.requires.1.0 s.requires.1.1.0 v.slot-word.result v.slot-word.ensures _ _ _ z.change_entries-size.result (lent s) (lent_other s) z.change_entries-size.ensures
 
 -- They and the entries are few.
 few : (z : tie.After-change_entries-size) → let s = start (slotted (lived z)) in
@@ -74,7 +74,7 @@ few z =
     let s = start v in
     let x = s.args in
     let m =
-    many-then x.book.now x.other.now x.change x.section x.at x.uses x.from _ s.requires.0 s.requires.1.0 s.requires.1.1.0 v.slot.result v.slot.ensures _ _ _ z.change_entries-size.result (lent s) (lent_other s) z.change_entries-size.ensures in
+    many-then x.book.now x.other.now x.change x.section x.at x.uses x.from _ s.requires.0 s.requires.1.0 s.requires.1.1.0 v.slot-word.result v.slot-word.ensures _ _ _ z.change_entries-size.result (lent s) (lent_other s) z.change_entries-size.ensures in
     (omega (arith, ends z, s.requires.1.1.0.room), omega (arith, ends z, s.requires.1.1.0.room))
 
 mul-many : tie.Need-offset_bounds-book-word
@@ -108,7 +108,7 @@ lives-requires c κs =
     lives-ready x.book.now x.other.now x.change x.section x.at x.uses x.from _ s.requires.0 s.requires.1.0 s.requires.1.1.0 c.slot-word.result c.slot-word.ensures
 
 mul-change-entries : tie.Need-offset_bounds-book-at
-mul-change-entries c = let s = start (slotted c) in omega (arith, at_in s, s.pre.0.short)
+mul-change-entries c = let s = start (slotted c) in omega (arith, at_in s, s.requires.0.short)
 
 sub-change-entries : tie.Need-slice_bounds-change_entries-count
 sub-change-entries c = omega (arith, at_in (start (slotted c)))
@@ -120,7 +120,7 @@ sub-change-entries-2 : tie.Need-overflow_sub-uses
 sub-change-entries-2 c = omega (arith, at_in (start (slotted c.before)))
 
 mul-change-entries-2 : tie.Need-offset_bounds-other-from
-mul-change-entries-2 c = let s = start (slotted c.before) in omega (arith, from_in s, s.pre.1.0.short)
+mul-change-entries-2 c = let s = start (slotted c.before) in omega (arith, from_in s, s.requires.1.0.short)
 
 sub-change-entries-3 : tie.Need-slice_bounds-change_entries-count-2
 sub-change-entries-3 c = omega (arith, from_in (start (slotted c.before)))
@@ -142,28 +142,28 @@ change-entries-requires c κs =
 add-end : tie.Need-overflow_add-end
 add-end c =
     let s = start (slotted (lived c.before.before.before)) in
-    omega (arith, few c.before.before.before, s.pre.0.short)
+    omega (arith, few c.before.before.before, s.requires.0.short)
 
 cast-book : tie.Need-overflow_cast-book
 cast-book c =
     let s = start (slotted (lived c.before.before.before)) in
-    omega (arith, few c.before.before.before, s.pre.0.short)
+    omega (arith, few c.before.before.before, s.requires.0.short)
 
 slice-write-book : tie.Need-bounds-book-1
-slice-write-book c = let s = start (slotted (lived c.before.before.before)) in omega (arith, c.book-1.given.1, s.pre.0.long)
+slice-write-book c = let s = start (slotted (lived c.before.before.before)) in omega (arith, c.book-1.given.1, s.requires.0.long)
 
 slice-write-book-2 : tie.Need-bounds-book-2-2
-slice-write-book-2 c = let s = start (slotted (lived c.before.before.before)) in simp length-set (omega (arith, c.book-1.given.1, s.pre.0.long))
+slice-write-book-2 c = let s = start (slotted (lived c.before.before.before)) in simp length-set (omega (arith, c.book-1.given.1, s.requires.0.long))
 
 cast-book-2 : tie.Need-overflow_cast-book-2
 cast-book-2 c =
     let s = start (slotted (lived c.before.before.before.before)) in
-    omega (arith, few c.before.before.before.before, s.pre.0.short)
+    omega (arith, few c.before.before.before.before, s.requires.0.short)
 
 mul-book : tie.Need-offset_bounds-book-word-2
 mul-book c =
     let v = slotted (lived c.before.before.before.before) in
-    omega (arith, v.slot.ensures, slot_small (start v).args.section)
+    omega (arith, v.slot-word.ensures, slot_small (start v).args.section)
 
 slice-write-book-3 : tie.Need-bounds-book-word-2
 slice-write-book-3 c = simp length-set (omega (arith, c.book-1.given.1, slot-in (slotted (lived c.before.before.before.before))))
@@ -179,7 +179,7 @@ returns c =
     let other = take (length x.other.now - x.from) (drop x.from x.other.now) in
     let part = take (length x.book.now - x.at) (drop x.at x.book.now) in (
       ends c.before.before.before.before,
-      words-then x.book.now x.other.now x.change x.section x.at x.uses x.from _ s.requires.0 s.requires.1.0 s.requires.1.1.0 v.slot.result v.slot.ensures part other c.change_entries-size.new.0 c.change_entries-size.result (lent s) (lent_other s) c.change_entries-size.ensures (lived c.before.before.before.before).lives-live.result (lived c.before.before.before.before).lives-live.ensures,
+      words-then x.book.now x.other.now x.change x.section x.at x.uses x.from _ s.requires.0 s.requires.1.0 s.requires.1.1.0 v.slot-word.result v.slot-word.ensures part other c.change_entries-size.new.part c.change_entries-size.result (lent s) (lent_other s) c.change_entries-size.ensures (lived c.before.before.before.before).lives-live.result (lived c.before.before.before.before).lives-live.ensures,
     )
 
 pub change_section_spec : {M : Type 1} → statement M

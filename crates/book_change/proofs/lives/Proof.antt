@@ -16,6 +16,7 @@ module _ (c : Change) (s : Section) (live more : ℕ) (in_taught : s ≡ Taught)
   -- Teaching finds room for the teachings more.
   few : c ≡ Teach → live + more ≤ greatest_count
   few e = rw (e, in_taught) at ready
+
   -- Withdrawing finds the teachings that it takes.
   enough : c ≡ Withdraw → more ≤ live
   enough e = rw (e, in_taught) at ready

@@ -10,7 +10,7 @@ use Rattle.book_change.proofs.weigh_book.Statement.{statement}
 use Rattle.book_change.proofs.weigh_book.Tie as tie
 
 -- Each section lacks at most 16,384 words.
-few : (c : tie.After-weigh_section-middles) → 
+few : (c : tie.After-weigh_section-middles) →
     (c.weigh_section-taught.result.lacking ≤ most_book_words) × (c.weigh_section-tops.result.lacking ≤ most_book_words) × (c.weigh_section-lows.result.lacking ≤ most_book_words) × (c.weigh_section-middles.result.lacking ≤ most_book_words)
 few c =
     let h = c.requires.1 in
@@ -27,7 +27,6 @@ add-lacking-3 c = omega (arith, few c.before.before.before.before)
 
 returns : tie.Need-returns
 returns c =
-    
     book-weighed _ _ _ _ _ _ c.weigh_section-taught.ensures c.weigh_section-tops.ensures c.weigh_section-lows.ensures c.weigh_section-middles.ensures
     _ _ _ c.either.ensures c.either-parts.ensures c.either-overfull.ensures
 

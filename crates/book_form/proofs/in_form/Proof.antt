@@ -91,10 +91,10 @@ at-end : (c : tie.In-InOrder-pass-3) → Ran (words (to-k (to-tops (to-lows (to-
 at-end c =
     let m = to-middles c in
     let t = to-tops (to-lows m) in
-    section-found _ _ (head (to-k t)) Middles _ _ _ (at-middles m).next t.before.before.before.before.before.before.before.of-middles.ensures t.before.before.before.before.before.before.before.of-middles.ensures _ c.pass-4.ensures.0 _ _ c.in-InOrder-pass-3.is
+    section-found _ _ (head (to-k t)) Middles _ _ _ (at-middles m).next t.of_middles-middle.ensures t.of_middles-middle.ensures _ c.pass-4.ensures.0 _ _ c.in-InOrder-pass-3.is
 
 -- All four are.
-sections : (c : tie.In-InOrder-pass-3) → Sections (words (to-k (to-tops (to-lows (to-middles c))))) (live (to-tops (to-lows (to-middles c)))) (tops (to-tops (to-lows (to-middles c)))) (to-lows (to-middles c)).before.lows.given.0.0 (to-middles c).in-InOrder-pass-2.middles c.in-InOrder-pass-3.used
+sections : (c : tie.In-InOrder-pass-3) → Sections (words (to-k (to-tops (to-lows (to-middles c))))) (live (to-tops (to-lows (to-middles c)))) (tops (to-tops (to-lows (to-middles c)))) (to-lows (to-middles c)).in-InOrder-pass.lows (to-middles c).in-InOrder-pass-2.middles c.in-InOrder-pass-3.used
 sections c =
     let m = to-middles c in
     let l = to-lows m in
@@ -156,12 +156,12 @@ shared-slice-read-pass-4 c = omega (arith, (head (to-k (to-tops (to-lows c.befor
 pass-requires-4 : tie.Need-pass-requires-4
 pass-requires-4 c κs =
     let t = to-tops (to-lows c.before.before) in
-    (omega (arith, shallow (to-k t), t.before.before.before.before.before.before.before.of-middles.ensures), omega (arith, c.pass-3.ensures.1, (to-lows c.before.before).pass-2.ensures.1, t.before.before.before.before.pass.ensures.1))
+    (omega (arith, shallow (to-k t), t.of_middles-middle.ensures), omega (arith, c.pass-3.ensures.1, (to-lows c.before.before).pass-2.ensures.1, t.pass.ensures.1))
 
 returns-6 : tie.Need-returns-in_default-pass-4
 returns-6 c =
     let t = to-tops (to-lows c.before.before.before.before.before) in
-    sym (no_section _ _ (head (to-k t)) Middles _ _ _ (at-middles c.before.before.before.before.before).next t.before.before.before.before.before.before.before.of-middles.ensures t.before.before.before.before.before.before.before.of-middles.ensures _ c.pass-4.ensures.0 c.in_default-pass-4.is)
+    sym (no_section _ _ (head (to-k t)) Middles _ _ _ (at-middles c.before.before.before.before.before).next t.of_middles-middle.ensures t.of_middles-middle.ensures _ c.pass-4.ensures.0 c.in_default-pass-4.is)
 
 head-right-requires : tie.Need-head_right-requires
 head-right-requires c κs = (head (to-k (to-tops (to-lows (to-middles c))))).long

@@ -36,7 +36,7 @@ greatest k = k.args.greatest
 
 -- The key of the entry passed last.
 abbrev last-key : tie.At-loop-left invariant-loop decreases-loop → List ℕ
-last-key k = take (k.loop-left.last-end - k.loop-left.last) (drop k.loop-left.last (book k))
+last-key k = take (k.loop-left.last_end - k.loop-left.last) (drop k.loop-left.last (book k))
 
 -- The loop's head, from the place where the entry is told.
 abbrev top : tie.In-Ends invariant-loop decreases-loop → tie.At-loop-left invariant-loop decreases-loop
@@ -120,18 +120,14 @@ fits-requires c κs =
 
 returns-4 : tie.Need-returns-then-not-fits invariant-loop decreases-loop
 returns-4 c =
-    
-    
     let k = top c.before.before.before.before.before.before.before.before.before.before.before in
-    (sym (k.loop-left.invariant.4 ∙ misfit (book k) (least k) (greatest k) (last-key k) k.loop-left.at k.loop-left.sum k.loop-left.left c.loop-left-test.true (end c.before.before.before.before.before.before.before.before.before.before.before) (count c.before.before.before.before.before.before.before.before.before.before.before) (there c.before.before.before.before.before.before.before.before.before.before.before) c.if-count-lt-LEAST_COUNT.false (small c.before.before.before.before.before.before.before.before.before.before.before) (sym c.fits2.ensures.0 ∙ c.if-not-fits.true)), c.fits2.ensures.1 ∙ k.loop-left.invariant.5)
+    (sym (k.loop-left.invariant.4 ∙ misfit (book k) (least k) (greatest k) (last-key k) k.loop-left.at k.loop-left.sum k.loop-left.left c.loop-left-test.true (end c.before.before.before.before.before.before.before.before.before.before.before) (count c.before.before.before.before.before.before.before.before.before.before.before) (there c.before.before.before.before.before.before.before.before.before.before.before) c.if-count-lt-LEAST_COUNT.false (small c.before.before.before.before.before.before.before.before.before.before.before) (sym c.fits.ensures.0 ∙ c.if-not-fits.true)), c.fits.ensures.1 ∙ k.loop-left.invariant.5)
 
 add-sum : tie.Need-overflow_add-sum invariant-loop decreases-loop
 add-sum c = let s = small c.before.before.before.before.before.before.before.before.before.before.before in omega arith
 
 loop-again : tie.Need-loop-left-preserved invariant-loop decreases-loop
 loop-again c =
-    
-    
     let k = top c.before.before.before.before.before.before.before.before.before.before.before in
     let i = there c.before.before.before.before.before.before.before.before.before.before.before in
     let s = small c.before.before.before.before.before.before.before.before.before.before.before in (
@@ -139,8 +135,8 @@ loop-again c =
       i.fits,
       omega arith,
       omega arith,
-      k.loop-left.invariant.4 ∙ goes_on (book k) (least k) (greatest k) (last-key k) k.loop-left.at k.loop-left.sum k.loop-left.left c.loop-left-test.true (end c.before.before.before.before.before.before.before.before.before.before.before) (count c.before.before.before.before.before.before.before.before.before.before.before) i c.if-count-lt-LEAST_COUNT.false s (sym c.fits2.ensures.0 ∙ c.if-not-fits.false) (sym c.precedes.ensures ∙ c.if-not-precedes.false),
-      c.fits2.ensures.1 ∙ k.loop-left.invariant.5,
+      k.loop-left.invariant.4 ∙ goes_on (book k) (least k) (greatest k) (last-key k) k.loop-left.at k.loop-left.sum k.loop-left.left c.loop-left-test.true (end c.before.before.before.before.before.before.before.before.before.before.before) (count c.before.before.before.before.before.before.before.before.before.before.before) i c.if-count-lt-LEAST_COUNT.false s (sym c.fits.ensures.0 ∙ c.if-not-fits.false) (sym c.precedes.ensures ∙ c.if-not-precedes.false),
+      c.fits.ensures.1 ∙ k.loop-left.invariant.5,
     )
 
 returns-5 : tie.Need-returns invariant-loop decreases-loop

@@ -71,7 +71,7 @@ loop-again c =
     let step : ℕ → Bool = λ n. eqb n 0 and z in
     c.loop-i.invariant
     ∙ ap (λ (r : Bool). eqb c.loop-i.greatest 0 and r) (zeros-at b i (omega arith))
-    ∙ ⊎_elim (λ w. greater _ _ z w.0.taken ∙ ap step (sym w.1)) (λ w. no-greater _ _ z w.0.left ∙ ap step (sym w.1)) c.if-greatest-word.branch
+    ∙ ⊎_elim (λ w. greater _ _ z w.if-greatest-word.true ∙ ap step (sym w.greatest-is)) (λ w. no-greater _ _ z w.if-greatest-word.false ∙ ap step (sym w.greatest-is)) c.if-greatest-word.branch-raw
 
 returns : tie.Need-returns invariant-loop decreases-loop
 unfolding ◌and◌

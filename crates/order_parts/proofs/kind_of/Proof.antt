@@ -4,13 +4,16 @@ use Rattle.words.specs.Base.{if◌then◌else◌}
 use Rattle.order_parts.proofs.kind_of.Statement.{statement}
 use Rattle.order_parts.proofs.kind_of.Tie as tie
 
-returns : tie.Need-returns
+returns : tie.Need-returns-then-low
 unfolding if◌then◌else◌
-returns c = rw c.if1.true refl
+returns c = rw c.if-low.true refl
 
-returns-2 : tie.Need-returns-2
+returns-2 : tie.Need-returns-else-low
 unfolding if◌then◌else◌
-returns-2 c = rw c.if1.false refl
+returns-2 c = rw c.if-low.false refl
 
-pub kind-of-spec : {M : Type 1} → statement M
-kind-of-spec = tie.close (tie.spec returns returns-2)
+pub kind_of_spec : {M : Type 1} → statement M
+kind_of_spec = tie.close
+    (tie.spec
+    returns
+    returns-2)

@@ -9,5 +9,8 @@ wrote-requires c κs = search rules
 returns : tie.Need-returns
 returns c = cc
 
-pub no-part-spec : {M : Type 1} → statement M
-no-part-spec = tie.close (tie.spec wrote-requires returns)
+pub no_part_spec : {M : Type 1} → statement M
+no_part_spec = tie.close
+    (tie.spec
+    wrote-requires
+    returns)

@@ -18,57 +18,61 @@ use Rattle.order_parts.proofs.part_into.Statement.{statement}
 use Rattle.order_parts.proofs.part_into.Tie as tie
 
 -- The line stands at the word.
-stands : (c : tie.After-at) → StandsAt c.before.before.before.before.before.before.before.args.order.now c.before.before.before.before.before.before.before.args.line c.at.given.0.0
-stands c = stands_at _ _ _ (sym c.before.before.before.find-line.ensures.0 ∙ c.at.given.1)
+stands : (c : tie.In-At) → StandsAt c.args.order.now c.args.line c.in-At.at
+stands c = stands_at _ _ _ (sym c.find_line.ensures.0 ∙ c.in-At.is)
 
 -- The order has the line.
-has : (c : tie.After-at) → HasLine c.before.before.before.before.before.before.before.args.order.now c.before.before.before.before.before.before.before.args.line c.at.given.0.0
-has c = placed _ _ _ _ c.before.before.before.find-line.ensures.0 c.at.given.1
+has : (c : tie.In-At) → HasLine c.args.order.now c.args.line c.in-At.at
+has c = placed _ _ _ _ c.find_line.ensures.0 c.in-At.is
 
-enum_told : tie.Need-enum-told
+enum_told : tie.Need-enum_told-1
 enum_told c = search rules
 
-is-low-requires : tie.Need-is-low-requires
+is-low-requires : tie.Need-is_low-requires
 is-low-requires c κs =
-    let a = c.before.before in
-    let over = a.before.before.before.find-line.ensures.1.0 (stands a).passes in
-    omega (arith, (stands-span _ _ over _ _ (has a) (stands a)).0, spans-room _ _ over)
+    let over = c.find_line.ensures.1.0 (stands c.before).passes in
+    omega (arith, (stands-span _ _ over _ _ (has c.before) (stands c.before)).0, spans-room _ _ over)
 
-cut-line-requires : tie.Need-cut-line-requires
+cut-line-requires : tie.Need-cut_line-written-requires
 cut-line-requires c κs =
-    let a = c.before.before.before.before.before.before.before in
-    let over = a.before.before.before.find-line.ensures.1.0 (stands a).passes in
-    (over, (stands-span _ _ over _ _ (has a) (stands a)).0)
+    let over = c.find_line.ensures.1.0 (stands c.before.before.before.before.before.before).passes in
+    (over, (stands-span _ _ over _ _ (has c.before.before.before.before.before.before) (stands c.before.before.before.before.before.before)).0)
 
-returns : tie.Need-returns
-returns c = ap (λ (r : PartWritten). part_writing r c.before.before.before.before.before.before.before.before.before.args.out.now) c.no_part.ensures ∙ sym (part-refused _ _ _ (placed _ _ _ _ c.before.before.before.before.before.find-line.ensures.0 c.before.before.number.given.1) _ _)
+returns : tie.Need-returns-in-Refused
+returns c = ap (λ (r : PartWritten). part_writing r c.args.out.now) c.no_part.ensures ∙ sym (part-refused _ _ _ (placed _ _ _ _ c.find_line.ensures.0 c.in-Refused.is) _ _)
 
-returns-2 : tie.Need-returns-2
-returns-2 c = ap (λ (r : PartWritten). part_writing r c.before.before.before.before.before.before.before.before.args.out.now) c.no-part2.ensures ∙ sym (part_lacks _ _ (placed _ _ _ _ c.before.before.before.before.find-line.ensures.0 c.before.enum_told.given.1) _ _)
+returns-2 : tie.Need-returns-in-Lacking
+returns-2 c = ap (λ (r : PartWritten). part_writing r c.args.out.now) c.no_part-in-Lacking.ensures ∙ sym (part_lacks _ _ (placed _ _ _ _ c.find_line.ensures.0 c.in-Lacking.is) _ _)
 
-returns-3 : tie.Need-returns-3
+returns-3 : tie.Need-returns-in-At
 unfolding is_low
 returns-3 c =
-    let l = c.before.before.before.before.before.before.before in
-    let a = l.before.before.before in
-    let x = a.before.before.before.before.before.before.before.args in
-    let over = a.before.before.before.find-line.ensures.1.0 (stands a).passes in
-    let s = stands-span _ _ over _ _ (has a) (stands a) in
-    let low : l.is-low.result ≡ is_low x.k.k (has a).spot.tree = l.is-low.ensures ∙ ap (λ (n : ℕ). leb n (x.k.k - 2)) s.3 in
+    
+    let x = c.args in
+    let over = c.find_line.ensures.1.0 (stands c.before.before.before.before.before.before.before.before.before).passes in
+    let s = stands-span _ _ over _ _ (has c.before.before.before.before.before.before.before.before.before) (stands c.before.before.before.before.before.before.before.before.before) in
+    let low : c.is_low.result ≡ is_low x.k.k (has c.before.before.before.before.before.before.before.before.before).spot.tree = c.is_low.ensures ∙ ap (λ (n : ℕ). leb n (x.k.k - 2)) s.3 in
     ap₂ of_kind
-    (c.before.before.before.before.before.before.kind-of.ensures ∙ ap (λ (b : Bool). if b then Low else Middle) low)
-    (c.before.before.cut_line.ensures ∙ ap₂ (λ (n d : ℕ). write (cut_of x.order.now n d) x.out.now) s.1 c.before.before.before.before.of-middles.ensures)
-    ∙ sym (part-has _ _ _ (has a) _ _)
+    (c.kind_of-kind.ensures ∙ ap (λ (b : Bool). if b then Low else Middle) low)
+    (c.cut_line-written.ensures ∙ ap₂ (λ (n d : ℕ). write (cut_of x.order.now n d) x.out.now) s.1 c.of_middles.ensures)
+    ∙ sym (part-has _ _ _ (has c.before.before.before.before.before.before.before.before.before) _ _)
 
-pub part-into-spec : {M : Type 1} → statement M
-part-into-spec =
+pub part_into_spec : {M : Type 1} → statement M
+part_into_spec =
     tie.close
     (tie.spec
-    (λ c. search rules) (λ c κs. search rules) (λ c. search rules) (λ c κs. search rules)
+    (λ c. search rules)
+    (λ c. search rules)
+    (λ c. search rules)
+    (λ c. search rules)
     enum_told
-    (λ c κs. search rules) (λ c. search rules) (λ c. search rules)
+    (λ c. search rules)
+    (λ c. search rules)
+    (λ c. search rules)
     is-low-requires
-    (λ c κs. search rules) (λ c. search rules) (λ c κs. search rules)
+    (λ c. search rules)
+    (λ c. search rules)
+    (λ c. search rules)
     cut-line-requires
     returns
     returns-2
