@@ -46,64 +46,51 @@ written b d same used now deep long uses wrote =
     subst (λ (z : ℕ). Listed b.args.out.now (counted (cut_of b.args.order.now 0 z) b.args.times ∷ []) now (record { used = used; many = 1 })) deep
     (one-listed _ _ _ _ b.requires.1.1.1.1.0 long uses wrote)
 
-enum_told : tie.Need-enum-told
+enum_told : tie.Need-enum_told-1
 enum_told c = search rules
 
-write-entry-requires : tie.Need-write-entry-requires
+write-entry-requires : tie.Need-write_entry-used-requires
 write-entry-requires c κs =
-    let b = c.before.before.before.before.before.before.before in
-    (b.requires.1.0, (b.requires.1.1.0, (first-line _ b.requires.1.0.sound, whole_room b c.before.enum_told.given.1)))
+    (c.requires.1.0, (c.requires.1.1.0, (first-line _ c.requires.1.0.sound, whole_room c.before.before.before.before.before.before c.in-Taught.is)))
 
-write-entry-requires-2 : tie.Need-write-entry-requires-2
+write-entry-requires-2 : tie.Need-write_entry-used-requires-in-Tops
 write-entry-requires-2 c κs =
-    let b = c.before.before.before.before.before.before.before.before in
-    (b.requires.1.0, (b.requires.1.1.0, (first-line _ b.requires.1.0.sound, top-room b _ c.before.of-tops.ensures c.before.before.enum-told2.given.1)))
+    (c.requires.1.0, (c.requires.1.1.0, (first-line _ c.requires.1.0.sound, top-room c.before.before.before.before.before.before.before _ c.of_tops-d.ensures c.in-Tops.is)))
 
-list-parts-requires : tie.Need-list-parts-requires
+list-parts-requires : tie.Need-list_parts-requires
 list-parts-requires c κs =
-    let b = c.before.before.before.before.before.before.before in
-    (b.requires.0, (b.requires.1.0, (b.requires.1.1.0, (b.requires.1.1.1.0, (b.requires.1.1.1.1.0, room b Lows c.before.enum-told3.given.1)))))
+    (c.requires.0, (c.requires.1.0, (c.requires.1.1.0, (c.requires.1.1.1.0, (c.requires.1.1.1.1.0, room c.before.before.before.before.before.before Lows c.in-Lows.is)))))
 
-list-parts-requires-2 : tie.Need-list-parts-requires-2
+list-parts-requires-2 : tie.Need-list_parts-requires-in-Middles
 list-parts-requires-2 c κs =
-    let b = c.before.before.before.before.before.before.before in
-    (b.requires.0, (b.requires.1.0, (b.requires.1.1.0, (b.requires.1.1.1.0, (b.requires.1.1.1.1.0, room b Middles c.before.enum-told4.given.1)))))
+    (c.requires.0, (c.requires.1.0, (c.requires.1.1.0, (c.requires.1.1.1.0, (c.requires.1.1.1.1.0, room c.before.before.before.before.before.before Middles c.in-Middles.is)))))
 
-returns : tie.Need-returns
+returns : tie.Need-returns-in-Taught
 returns c =
-    let w = c.before.before in
-    let e = w.before.before in
-    let b = e.before.before.before.before.before.before in
-    let told = e.enum_told.given.1 in
-    asked b Taught told _ _ (written b greatest_depth _ _ _ refl (whole_room b told) w.write-entry.ensures.0 w.write-entry.ensures.1)
+    let told = c.in-Taught.is in
+    asked c.before.before.before.before.before.before.before.before.before Taught told _ _ (written c.before.before.before.before.before.before.before.before.before greatest_depth _ _ _ refl (whole_room c.before.before.before.before.before.before.before.before.before told) c.write_entry-used.ensures.0 c.write_entry-used.ensures.1)
 
-returns-2 : tie.Need-returns-2
+returns-2 : tie.Need-returns-in-Tops
 returns-2 c =
-    let w = c.before.before in
-    let o = w.before.before in
-    let b = o.before.before.before.before.before.before.before in
-    let told = o.before.enum-told2.given.1 in
-    asked b Tops told _ _ (written b _ _ _ _ o.of-tops.ensures (top-room b _ o.of-tops.ensures told) w.write-entry2.ensures.0 w.write-entry2.ensures.1)
+    let told = c.in-Tops.is in
+    asked c.before.before.before.before.before.before.before.before.before.before Tops told _ _ (written c.before.before.before.before.before.before.before.before.before.before _ _ _ _ c.of_tops-d.ensures (top-room c.before.before.before.before.before.before.before.before.before.before _ c.of_tops-d.ensures told) c.write_entry-used-in-Tops.ensures.0 c.write_entry-used-in-Tops.ensures.1)
 
-returns-3 : tie.Need-returns-3
+returns-3 : tie.Need-returns-in-Lows
 returns-3 c =
-    let p = c.before.before in
-    let e = p.before.before in
-    asked e.before.before.before.before.before.before Lows e.enum-told3.given.1 _ _ p.list-parts.ensures
+    asked c.before.before.before.before.before.before.before.before.before Lows c.in-Lows.is _ _ c.list_parts.ensures
 
-returns-4 : tie.Need-returns-4
+returns-4 : tie.Need-returns-in-Middles
 returns-4 c =
-    let p = c.before.before in
-    let e = p.before.before in
-    asked e.before.before.before.before.before.before Middles e.enum-told4.given.1 _ _ p.list-parts2.ensures
+    asked c.before.before.before.before.before.before.before.before.before Middles c.in-Middles.is _ _ c.list_parts-in-Middles.ensures
 
-pub list-section-spec : {M : Type 1} → statement M
-list-section-spec =
+pub list_section_spec : {M : Type 1} → statement M
+list_section_spec =
     tie.close
     (tie.spec
     enum_told
     write-entry-requires
-    (λ c. search rules) (λ c κs. search rules)
+    (λ c. search rules)
+    (λ c. search rules)
     write-entry-requires-2
     (λ c. search rules)
     list-parts-requires

@@ -28,43 +28,43 @@ entry-over n w l last fits is =
     rw (new, set-two ((take 2 l ++ w) ++ drop (2 + length w) l) (length w / 2) n long, rest, past) refl
 
 -- What the function was called with, seen from where the cut is written.
-abbrev called : tie.After-put-cut → tie.Start
+abbrev called : tie.After-put_cut-count → tie.Start
 called c = c.before.before.before.before.before.before
 
 -- The cut is short.
-count-short : (c : tie.After-put-cut) → c.put-cut.result ≤ most_words
-count-short c = let b = called c in omega (arith, c.put-cut.ensures.0, line-short _ _ b.args.d b.pre.0.sound b.pre.1.1.0)
+count-short : (c : tie.After-put_cut-count) → c.put_cut-count.result ≤ most_words
+count-short c = let b = called c in omega (arith, c.put_cut-count.ensures.0, line-short _ _ b.args.d b.requires.0.sound b.requires.1.1.0)
 
-put-cut-requires : tie.Need-put-cut-requires
+put-cut-requires : tie.Need-put_cut-count-requires
 put-cut-requires c κs =
-    let b = c.before.before.before.before.before in
-    (b.requires.0, (b.requires.1.0, (b.requires.1.1.0, simp (length-take, length-drop) (omega (arith, line-short _ _ b.args.d b.requires.0.sound b.requires.1.1.0, b.requires.1.1.1)))))
+    (c.requires.0, (c.requires.1.0, (c.requires.1.1.0, simp (length-take, length-drop) (omega (arith, line-short _ _ c.args.d c.requires.0.sound c.requires.1.1.0, c.requires.1.1.1)))))
 
-cast-out : tie.Need-overflow-cast-out
+cast-out : tie.Need-overflow_cast-out
 cast-out c = omega (arith, count-short c.before.before)
 
-same_length : tie.Need-same-length
+same_length : tie.Need-shape_of-out
 same_length c = search rules
 
-slice-write-out-2 : tie.Need-slice-write-out-2
+slice-write-out-2 : tie.Need-bounds-out-1
 slice-write-out-2 c = simp length-set (omega (arith, simp length-set at (same_length c), (called c.before.before).requires.1.1.1))
 
-add-result : tie.Need-overflow-add-result
+add-result : tie.Need-overflow_add-result
 add-result c = omega (arith, count-short c.before.before)
 
 returns : tie.Need-returns
 returns c =
-    let p = c.before.before in
-    let b = called p in
+    let b = called c.before.before in
     let w = cut_of b.args.order.now (b.args.line * 2) b.args.d in
-    let is : p.put-cut.result ≡ length w = p.put-cut.ensures.0 in
-    (rw is refl, rw is (entry-over b.args.times w b.args.out.now _ (omega (arith, is, count-short p, b.pre.1.1.1)) p.put-cut.ensures.1))
+    let is : c.put_cut-count.result ≡ length w = c.put_cut-count.ensures.0 in
+    (rw is refl, rw is (entry-over b.args.times w b.args.out.now _ (omega (arith, is, count-short c.before.before, b.requires.1.1.1)) c.put_cut-count.ensures.1))
 
-pub write-entry-spec : {M : Type 1} → statement M
-write-entry-spec =
+pub write_entry_spec : {M : Type 1} → statement M
+write_entry_spec =
     tie.close
     (tie.spec
-    (λ c. search rules) (λ c. search rules) (λ c. search rules)
+    (λ c. search rules)
+    (λ c. search rules)
+    (λ c. search rules)
     put-cut-requires
     cast-out
     (λ c. search rules)

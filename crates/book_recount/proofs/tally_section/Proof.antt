@@ -57,89 +57,90 @@ top-is b d e = ap (λ (n : ℕ). counted (cut_of b.args.order.now 0 n) 1 ∷ [])
 
 -- ---- at each place
 
-enum_told : tie.Need-enum-told
+enum_told : tie.Need-enum_told-1
 enum_told c = search rules
 
-tally-cut-requires : tie.Need-tally-cut-requires
+tally-cut-requires : tie.Need-tally_cut-requires
 tally-cut-requires c κs =
-    let e = c.before.before.before in
-    let b = e.before.before.before.before.before.before.before.before.before.before in
-    let few = key-few _ _ _ _ _ _ b.requires.1.1.1.1.0.sorted (ready-in b Taught e.enum_told.given.1) in
-    (b.requires.1.0, (b.requires.1.1.0, (first-line _ b.requires.1.0.sound, (b.requires.1.1.1.0, (b.requires.1.1.1.1.0, (long b, few))))))
+    
+    let few = key-few _ _ _ _ _ _ c.requires.1.1.1.1.0.sorted (ready-in c.before.before.before.before.before.before.before.before.before.before.before.before Taught c.in-Taught.is) in
+    (c.requires.1.0, (c.requires.1.1.0, (first-line _ c.requires.1.0.sound, (c.requires.1.1.1.0, (c.requires.1.1.1.1.0, (long c.before.before.before.before.before.before.before.before.before.before.before.before, few))))))
 
-tally-cut-requires-2 : tie.Need-tally-cut-requires-2
+tally-cut-requires-2 : tie.Need-tally_cut-requires-in-Tops
 tally-cut-requires-2 c κs =
-    let o = c.before.before.before in
-    let e = o.before in
-    let b = e.before.before.before.before.before.before.before.before.before.before in
-    let ready = subst (ReadyFor b) (sym (top-is b _ o.of-tops.ensures)) (ready-in b Tops e.enum-told2.given.1) in
-    (b.requires.1.0, (b.requires.1.1.0, (first-line _ b.requires.1.0.sound, (b.requires.1.1.1.0, (b.requires.1.1.1.1.0, (long b, key-few _ _ _ _ _ _ b.requires.1.1.1.1.0.sorted ready))))))
+    
+    
+    let ready = subst (ReadyFor c.before.before.before.before.before.before.before.before.before.before.before.before.before) (sym (top-is c.before.before.before.before.before.before.before.before.before.before.before.before.before _ c.of_tops-d.ensures)) (ready-in c.before.before.before.before.before.before.before.before.before.before.before.before.before Tops c.in-Tops.is) in
+    (c.requires.1.0, (c.requires.1.1.0, (first-line _ c.requires.1.0.sound, (c.requires.1.1.1.0, (c.requires.1.1.1.1.0, (long c.before.before.before.before.before.before.before.before.before.before.before.before.before, key-few _ _ _ _ _ _ c.requires.1.1.1.1.0.sorted ready))))))
 
-tally-parts-requires : tie.Need-tally-parts-requires
+tally-parts-requires : tie.Need-tally_parts-requires
 tally-parts-requires c κs =
-    let e = c.before.before.before in
-    let b = e.before.before.before.before.before.before.before.before.before.before in
-    (b.requires.0, (b.requires.1.0, (b.requires.1.1.0, (b.requires.1.1.1.0, (b.requires.1.1.1.1.0, ready-in b Lows e.enum-told3.given.1)))))
+    
+    (c.requires.0, (c.requires.1.0, (c.requires.1.1.0, (c.requires.1.1.1.0, (c.requires.1.1.1.1.0, ready-in c.before.before.before.before.before.before.before.before.before.before.before.before Lows c.in-Lows.is)))))
 
-tally-parts-requires-2 : tie.Need-tally-parts-requires-2
+tally-parts-requires-2 : tie.Need-tally_parts-requires-in-Middles
 tally-parts-requires-2 c κs =
-    let e = c.before.before.before in
-    let b = e.before.before.before.before.before.before.before.before.before.before in
-    (b.requires.0, (b.requires.1.0, (b.requires.1.1.0, (b.requires.1.1.1.0, (b.requires.1.1.1.1.0, ready-in b Middles e.enum-told4.given.1)))))
+    
+    (c.requires.0, (c.requires.1.0, (c.requires.1.1.0, (c.requires.1.1.1.0, (c.requires.1.1.1.1.0, ready-in c.before.before.before.before.before.before.before.before.before.before.before.before Middles c.in-Middles.is)))))
 
-returns : tie.Need-returns
+returns : tie.Need-returns-in-Taught
 returns c =
-    let t = c.before.before.before.before.before.before in
-    let e = t.before.before.before.before in
-    let b = e.before.before.before.before.before.before.before.before.before.before in
-    let told = e.enum_told.given.1 in
-    let a = t.tally-cut.ensures in
-    subst (TakenFor b _ _ _) (counted_is b Taught told)
-    (key-taken _ _ _ _ _ _ b.requires.1.1.1.1.0.sorted (ready-in b Taught told) _ _ _ a.0 a.1.0 a.1.1)
+    
+    
+    let told = c.in-Taught.is in
+    let a = c.tally_cut.ensures in
+    subst (TakenFor c.before.before.before.before.before.before.before.before.before.before.before.before.before.before.before.before.before.before.before _ _ _) (counted_is c.before.before.before.before.before.before.before.before.before.before.before.before.before.before.before.before.before.before.before Taught told)
+    (key-taken _ _ _ _ _ _ c.requires.1.1.1.1.0.sorted (ready-in c.before.before.before.before.before.before.before.before.before.before.before.before.before.before.before.before.before.before.before Taught told) _ _ _ a.0 a.1.0 a.1.1)
 
-returns-2 : tie.Need-returns-2
+returns-2 : tie.Need-returns-in-Tops
 returns-2 c =
-    let t = c.before.before.before.before.before.before in
-    let o = t.before.before.before.before in
-    let e = o.before in
-    let b = e.before.before.before.before.before.before.before.before.before.before in
-    let told = e.enum-told2.given.1 in
-    let one = top-is b _ o.of-tops.ensures in
-    let a = t.tally-cut2.ensures in
-    subst (TakenFor b _ _ _) (one ∙ counted_is b Tops told)
-    (key-taken _ _ _ _ _ _ b.requires.1.1.1.1.0.sorted (subst (ReadyFor b) (sym one) (ready-in b Tops told)) _ _ _ a.0 a.1.0 a.1.1)
+    
+    
+    
+    let told = c.in-Tops.is in
+    let one = top-is c.before.before.before.before.before.before.before.before.before.before.before.before.before.before.before.before.before.before.before.before _ c.of_tops-d.ensures in
+    let a = c.tally_cut-in-Tops.ensures in
+    subst (TakenFor c.before.before.before.before.before.before.before.before.before.before.before.before.before.before.before.before.before.before.before.before _ _ _) (one ∙ counted_is c.before.before.before.before.before.before.before.before.before.before.before.before.before.before.before.before.before.before.before.before Tops told)
+    (key-taken _ _ _ _ _ _ c.requires.1.1.1.1.0.sorted (subst (ReadyFor c.before.before.before.before.before.before.before.before.before.before.before.before.before.before.before.before.before.before.before.before) (sym one) (ready-in c.before.before.before.before.before.before.before.before.before.before.before.before.before.before.before.before.before.before.before.before Tops told)) _ _ _ a.0 a.1.0 a.1.1)
 
-returns-3 : tie.Need-returns-3
+returns-3 : tie.Need-returns-in-Lows
 returns-3 c =
-    let t = c.before.before.before.before.before.before in
-    let e = t.before.before.before.before in
-    let b = e.before.before.before.before.before.before.before.before.before.before in
-    subst (TakenFor b _ _ _) (counted_is b Lows e.enum-told3.given.1) t.tally-parts.ensures
+    
+    
+    subst (TakenFor c.before.before.before.before.before.before.before.before.before.before.before.before.before.before.before.before.before.before.before _ _ _) (counted_is c.before.before.before.before.before.before.before.before.before.before.before.before.before.before.before.before.before.before.before Lows c.in-Lows.is) c.tally_parts.ensures
 
-returns-4 : tie.Need-returns-4
+returns-4 : tie.Need-returns-in-Middles
 returns-4 c =
-    let t = c.before.before.before.before.before.before in
-    let e = t.before.before.before.before in
-    let b = e.before.before.before.before.before.before.before.before.before.before in
-    subst (TakenFor b _ _ _) (counted_is b Middles e.enum-told4.given.1) t.tally-parts2.ensures
+    
+    
+    subst (TakenFor c.before.before.before.before.before.before.before.before.before.before.before.before.before.before.before.before.before.before.before _ _ _) (counted_is c.before.before.before.before.before.before.before.before.before.before.before.before.before.before.before.before.before.before.before Middles c.in-Middles.is) c.tally_parts-in-Middles.ensures
 
-pub tally-section-spec : {M : Type 1} → statement M
-tally-section-spec =
+pub tally_section_spec : {M : Type 1} → statement M
+tally_section_spec =
     tie.close
     (tie.spec
     enum_told
     tally-cut-requires
-    (λ c. search rules) (λ c κs. search rules)
+    (λ c. search rules)
+    (λ c. search rules)
     tally-cut-requires-2
     (λ c. search rules)
     tally-parts-requires
     (λ c. search rules)
     tally-parts-requires-2
-    (λ c. search rules) (λ c. search rules) (λ c. search rules)
+    (λ c. search rules)
+    (λ c. search rules)
+    (λ c. search rules)
     returns
-    (λ c. search rules) (λ c. search rules) (λ c. search rules)
+    (λ c. search rules)
+    (λ c. search rules)
+    (λ c. search rules)
     returns-2
-    (λ c. search rules) (λ c. search rules) (λ c. search rules)
+    (λ c. search rules)
+    (λ c. search rules)
+    (λ c. search rules)
     returns-3
-    (λ c. search rules) (λ c. search rules) (λ c. search rules)
+    (λ c. search rules)
+    (λ c. search rules)
+    (λ c. search rules)
     returns-4)

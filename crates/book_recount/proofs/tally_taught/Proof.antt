@@ -79,12 +79,10 @@ module _ (book starts : List ℕ) (s : Section) (counts₀ counts marks₀ marks
   last-known : left ≤ 0 → true ≡ all_known s (book_in book).k (book_in book).T (listed starts book)
   unfolding all_known entries
   last-known none = let z : left ≡ 0 = omega arith in sym (i.known ∙ ap (λ (n : ℕ). all_known s (book_in book).k (entries n (drop at book)) (listed starts book)) z)
-
   -- With none left all is tallied.
   last-counted : left ≤ 0 → counts ≡ tallied_all s (book_in book).k (book_in book).T (listed starts book) counts₀
   unfolding tallied_all entries
   last-counted none = let z : left ≡ 0 = omega arith in sym (i.counted ∙ ap (λ (n : ℕ). tallied_all s (book_in book).k (entries n (drop at book)) (listed starts book) counts) z)
-
   -- With none left all is marked.
   last-noted : left ≤ 0 → marks ≡ marked_all s (book_in book).k (book_in book).T (listed starts book) marks₀
   unfolding marked_all entries
@@ -96,28 +94,23 @@ module _ (book starts : List ℕ) (s : Section) (k : ℕ) (deep : k ≡ (book_in
   -- The others start at its end.
   first-apart : entries left (drop at book) ≡ first_entry (drop at book) ∷ entries (left - 1) (drop end book)
   first-apart = entries-step (drop at book) left more ∙ ap (λ (ws : List ℕ). first_entry (drop at book) ∷ entries (left - 1) ws) (past-at book at left end more ends)
-
   -- It is an entry of T.
   first-taught : first_entry (drop at book) ∈ (book_in book).T
   first-taught = i.taught _ (subst (λ (es : List Entry). first_entry (drop at book) ∈ es) (sym first-apart) (here refl))
-
   -- All is known if what it counts is, and what the others count.
   first-known : all_known s (book_in book).k (book_in book).T (listed starts book)
       ≡ (has_all (parts_in s k (first_entry (drop at book)).key) (listed starts book) and all_known s (book_in book).k (entries (left - 1) (drop end book)) (listed starts book))
   unfolding all_known
   first-known = rw deep (i.known ∙ ap (λ (es : List Entry). all_known s (book_in book).k es (listed starts book)) first-apart)
-
   -- All is tallied by tallying what it counts, and then what the others count.
   first_counted : tallied_all s (book_in book).k (book_in book).T (listed starts book) counts₀
       ≡ tallied_all s (book_in book).k (entries (left - 1) (drop end book)) (listed starts book)
       (tallied (first_entry (drop at book)).count (parts_in s k (first_entry (drop at book)).key) (listed starts book) counts)
   unfolding tallied_all
   first_counted = rw deep (i.counted ∙ ap (λ (es : List Entry). tallied_all s (book_in book).k es (listed starts book) counts) first-apart)
-
   -- It is the turn of as many orders as are left.
   first-turn : length (first_entry (drop at book) ∷ entries (left - 1) (drop end book)) ≡ left
   first-turn = omega (arith, length-entries (left - 1) (drop end book))
-
   -- All is marked by marking what it counts, and then what the others count.
   first-noted : marked_all s (book_in book).k (book_in book).T (listed starts book) marks₀
       ≡ marked_all s (book_in book).k (entries (left - 1) (drop end book)) (listed starts book) (marked left (parts_in s k (first_entry (drop at book)).key) (listed starts book) marks)
@@ -128,28 +121,24 @@ module _ (book starts : List ℕ) (s : Section) (k : ℕ) (deep : k ≡ (book_in
       rw deep
       (i.noted ∙ ap (λ (ts : List Entry). marked_all s (book_in book).k ts es marks) first-apart
       ∙ ap (λ (n : ℕ). marked_all s (book_in book).k (entries (left - 1) (drop end book)) es (marked n os es marks)) first-turn)
-
   -- If no count passes 65,535 in the end, none does by it.
   first-few : Few (tallied_all s (book_in book).k (book_in book).T (listed starts book) counts₀)
       → Few (tallied (first_entry (drop at book)).count (parts_in s k (first_entry (drop at book)).key) (listed starts book) counts)
   first-few few j =
       let cs = tallied (first_entry (drop at book)).count (parts_in s k (first_entry (drop at book)).key) (listed starts book) counts in
       omega (arith, all-grow s (book_in book).k (entries (left - 1) (drop end book)) (listed starts book) cs j, subst Few first_counted few j)
-
   -- The turn is ready for it.
   first-ready : Few (tallied_all s (book_in book).k (book_in book).T (listed starts book) counts₀)
       → TurnReady left (first_entry (drop at book)).count (parts_in s k (first_entry (drop at book)).key) (listed starts book) counts marks
   first-ready few =
       let each = sym (length-listed starts book) in
       record { counts = i.long ∙ each; marks = i.wide ∙ each; fresh = i.fresh left (omega arith) (omega arith); few = first-few few }
-
   -- The turn is taken.
   module _ (counts' marks' : List ℕ) (r : Bool)
       (t : Taken left (first_entry (drop at book)).count (parts_in s k (first_entry (drop at book)).key) (listed starts book) counts marks counts' marks' r) where
     -- If what it counts lacks an entry, not all is known.
     first-unknown : r ≡ false → false ≡ all_known s (book_in book).k (book_in book).T (listed starts book)
     first-unknown lacks = sym (first-known ∙ fails_left _ _ (sym t.told ∙ lacks))
-
     -- If not, those behind it are left.
     left-next : r ≡ true → length counts' ≡ length counts → length marks' ≡ length marks → Left book starts s counts₀ counts' marks₀ marks' end (left - 1)
     unfolding ◌and◌
@@ -169,135 +158,128 @@ module _ (book starts : List ℕ) (s : Section) (k : ℕ) (deep : k ≡ (book_in
 -- ---- the loop
 
 -- At each turn this is left; the scratch is as long as at first.
-abbrev invariant-loop : tie.invariant-loop
+abbrev invariant-loop : tie.invariant-loop-left
 invariant-loop book places section starts counts₀ marks₀ spans₀ levels₀ part₀ at₀ left₀ counts marks spans levels part at left =
     Left book starts section counts₀ counts marks₀ marks at left × (length spans ≡ most_words) × (length levels ≡ most_nodes) × (length part ≡ most_words)
 
 -- Each turn leaves one entry fewer.
-abbrev decreases-loop : tie.decreases-loop
+abbrev decreases-loop : tie.decreases-loop-left
 decreases-loop book places section starts counts₀ marks₀ spans₀ levels₀ part₀ at₀ left₀ counts marks spans levels part at left = left
 
 -- What the function was called with, seen from the loop.
-abbrev called : tie.At-loop invariant-loop decreases-loop → tie.Start invariant-loop decreases-loop
+abbrev called : tie.At-loop-left invariant-loop decreases-loop → tie.Start invariant-loop decreases-loop
 called l = l.before.before.before.before.before.before
 
 -- The words of the book, seen from the loop.
-abbrev book : tie.At-loop invariant-loop decreases-loop → List ℕ
+abbrev book : tie.At-loop-left invariant-loop decreases-loop → List ℕ
 book l = (called l).args.book.now
 
 -- The turn of the loop, seen from where its order was tallied.
-abbrev reached : tie.After-tally-order invariant-loop decreases-loop → tie.In-loop invariant-loop decreases-loop
-reached a = a.before.before.before.before.before.before
+abbrev reached : tie.After-tally_order invariant-loop decreases-loop → tie.In-loop-left invariant-loop decreases-loop
+reached a = a.before.before.before.before.before.before.before
 
 -- The turn is ready for its order.
-turn-ready : (c : tie.In-loop invariant-loop decreases-loop) → let l = c.before in let x = (called l).args in let e = first_entry (drop l.loop.at (book l)) in
-    TurnReady l.loop.left e.count (parts_in x.section x.places.k.k e.key) (listed x.starts.now (book l)) l.loop.counts l.loop.marks
+turn-ready : (c : tie.In-loop-left invariant-loop decreases-loop) → let x = (called c.before).args in let e = first_entry (drop c.loop-left.at (book c.before)) in
+    TurnReady c.loop-left.left e.count (parts_in x.section x.places.k.k e.key) (listed x.starts.now (book c.before)) c.loop-left.counts c.loop-left.marks
 turn-ready c =
-    let l = c.before in
-    let b = called l in
-    first-ready _ _ _ _ b.pre.0.depth _ _ _ _ _ _ _ c.loop-test.true refl l.loop.invariant.0 b.pre.1.1.0.1
+    let b = called c.before in
+    first-ready _ _ _ _ b.requires.0.depth _ _ _ _ _ _ _ c.loop-left-test.true refl c.loop-left.invariant.0 b.requires.1.1.0.1
 
 -- The turn's entry is that of an order.
-turn-order : (c : tie.In-loop invariant-loop decreases-loop) → cause_of (first_entry (drop c.before.loop.at (book c.before))).key ≡ done
+turn-order : (c : tie.In-loop-left invariant-loop decreases-loop) → cause_of (first_entry (drop c.loop-left.at (book c.before))).key ≡ done
 turn-order c =
-    let l = c.before in
-    let b = called l in
-    taught-cause (book_in (book l)) b.pre.0.form _
-    (first-taught _ _ _ _ b.pre.0.depth _ _ _ _ _ _ _ c.loop-test.true refl l.loop.invariant.0)
+    let b = called c.before in
+    taught-cause (book_in (book c.before)) b.requires.0.form _
+    (first-taught _ _ _ _ b.requires.0.depth _ _ _ _ _ _ _ c.loop-left-test.true refl c.loop-left.invariant.0)
 
 -- The turn's entry lies within the book, by its width.
-turn-within : (c : tie.In-loop invariant-loop decreases-loop) → c.before.loop.at + width (drop c.before.loop.at (book c.before)) ≤ length (book c.before)
-turn-within c = let l = c.before in omega (arith, l.loop.invariant.0.within, span-step (drop l.loop.at (book l)) l.loop.left c.loop-test.true)
+turn-within : (c : tie.In-loop-left invariant-loop decreases-loop) → c.loop-left.at + width (drop c.loop-left.at (book c.before)) ≤ length (book c.before)
+turn-within c = omega (arith, c.loop-left.invariant.0.within, span-step (drop c.loop-left.at (book c.before)) c.loop-left.left c.loop-left-test.true)
 
 -- The turn's entry lies within the book, by its end.
-turn-ends : (c : tie.In-loop invariant-loop decreases-loop) → c.before.loop.at + 2 + 2 * get_or (book c.before) c.before.loop.at 0 ≤ length (book c.before)
-turn-ends c = let l = c.before in omega (arith, l.loop.invariant.0.within, span-at (book l) l.loop.at l.loop.left _ c.loop-test.true refl)
+turn-ends : (c : tie.In-loop-left invariant-loop decreases-loop) → c.loop-left.at + 2 + 2 * get_or (book c.before) c.loop-left.at 0 ≤ length (book c.before)
+turn-ends c = omega (arith, c.loop-left.invariant.0.within, span-at (book c.before) c.loop-left.at c.loop-left.left _ c.loop-left-test.true refl)
 
 -- There was a mark for each place.
 marks-long : (b : tie.Start invariant-loop decreases-loop) → length b.args.marks.now ≡ length b.args.starts.now
 marks-long b = let o : ℕ = 0 in ap length b.requires.1.1.1 ∙ length-replicate (length b.args.starts.now) o
 
-shared-slice-read-left : tie.Need-shared-slice-read-left invariant-loop decreases-loop
-shared-slice-read-left c = omega (arith, c.before.before.before.before.before.requires.0.long)
+shared-slice-read-left : tie.Need-bounds-book-3 invariant-loop decreases-loop
+shared-slice-read-left c = omega (arith, c.requires.0.long)
 
-loop-holds : tie.Need-loop-init invariant-loop decreases-loop
+loop-holds : tie.Need-loop-left-init invariant-loop decreases-loop
 loop-holds c =
-    let b = c.before.before.before.before.before in
-    (left-first b.args.book.now b.args.starts.now _ b.args.section b.args.counts.now _ b.requires.0 b.requires.1.1.0.0 b.requires.1.1.1, refl, refl, refl)
+    (left-first c.args.book.now c.args.starts.now _ c.args.section c.args.counts.now _ c.requires.0 c.requires.1.1.0.0 c.requires.1.1.1, refl, refl, refl)
 
-tally-order-requires : tie.Need-tally-order-requires invariant-loop decreases-loop
+tally-order-requires : tie.Need-tally_order-requires invariant-loop decreases-loop
 tally-order-requires c κs =
-    let t = c.before.before.before.before.before in
-    let i = t.before.loop.invariant in
-    let b = called t.before in
-    ((turn-within t, turn-order t), ((allowed _ _ b.pre.0).0, ((omega (arith, i.1), omega (arith, i.2), omega (arith, i.3)), (b.pre.1.0, turn-ready t))))
+    let i = c.loop-left.invariant in
+    let b = called c.before.before.before.before.before.before.before in
+    ((turn-within c.before.before.before.before.before.before, turn-order c.before.before.before.before.before.before), ((allowed _ _ b.requires.0).0, ((omega (arith, i.1), omega (arith, i.2), omega (arith, i.3)), (b.requires.1.0, turn-ready c.before.before.before.before.before.before))))
 
-same_length : tie.Need-same-length invariant-loop decreases-loop
+same_length : tie.Need-shape_of-counts-then-not-tally_order invariant-loop decreases-loop
 same_length c =
-    let a = c.before.before.before.before.before.before.before.before in
-    let l = (reached a).before in
-    a.tally-order.auto.1.1.1.1.1.1.1.1.0 ∙ l.loop.inv.0.long ∙ sym (called l).pre.1.1.0.0
+    let l = (reached c.before.before.before.before.before.before.before.before).before in
+    c.tally_order.auto.counts ∙ l.loop.inv.0.long ∙ sym (called l).requires.1.1.0.0
 
-same-length-2 : tie.Need-same-length-2 invariant-loop decreases-loop
+same-length-2 : tie.Need-shape_of-marks-then-not-tally_order invariant-loop decreases-loop
 same-length-2 c =
-    let a = c.before.before.before.before.before.before.before.before in
-    let l = (reached a).before in
-    a.tally-order.auto.1.1.1.1.1.1.1.1.1.0 ∙ l.loop.inv.0.wide ∙ sym (marks-long (called l))
+    let l = (reached c.before.before.before.before.before.before.before.before).before in
+    c.tally_order.auto.marks ∙ l.loop.inv.0.wide ∙ sym (marks-long (called l))
 
-returns : tie.Need-returns invariant-loop decreases-loop
+returns : tie.Need-returns-then-not-tally_order invariant-loop decreases-loop
 returns c =
-    let a = c.before.before.before.before.before.before.before.before in
-    let t = reached a in
-    let l = t.before in
-    let b = called l in (
-      first-unknown _ _ _ _ b.pre.0.depth _ _ _ _ _ _ _ t.loop-test.taken refl l.loop.inv.0 _ _ _ a.tally-order.ensures (not-true _ c.if1.true),
+    let t = reached c.before.before.before.before.before.before.before.before in
+    let b = called t.before in (
+      first-unknown _ _ _ _ b.requires.0.depth _ _ _ _ _ _ _ t.loop-left-test.true refl t.loop-left.invariant.0 _ _ _ c.tally_order.ensures (c.if-not-tally_order.true),
       ((λ e. no_test e), (λ e. no_test e)),
     )
 
-past-requires : tie.Need-past-requires invariant-loop decreases-loop
+past-requires : tie.Need-past-at-requires invariant-loop decreases-loop
 past-requires c κs = turn-ends (reached c.before.before.before.before.before.before.before.before)
 
-loop-again : tie.Need-loop-preserved invariant-loop decreases-loop
+loop-again : tie.Need-loop-left-preserved invariant-loop decreases-loop
 loop-again c =
-    let a = c.before.before.before.before.before.before.before.before.before in
-    let t = reached a in
-    let l = t.before in
-    let b = called l in
-    let i = l.loop.inv in
-    let k = a.tally-order.auto.1.1.1.1 in (
-      left-next _ _ _ _ b.pre.0.depth _ _ _ _ _ _ _ t.loop-test.taken c.past.ensures i.0 _ _ _ a.tally-order.ensures (not-false _ c.before.if1.false) k.1.1.1.1.0 k.1.1.1.1.1.0,
+    let t = reached c.before.before.before.before.before.before.before.before.before in
+    let b = called t.before in
+    let i = t.loop-left.invariant in
+    let k = c.tally_order.auto.spans in (
+      left-next _ _ _ _ b.requires.0.depth _ _ _ _ _ _ _ t.loop-left-test.true c.past-at.ensures i.0 _ _ _ c.tally_order.ensures (c.if-not-tally_order.false) k.1.1.1.1.0 k.1.1.1.1.1.0,
       k.0 ∙ i.1,
       k.1.0 ∙ i.2,
       k.1.1.0 ∙ i.3,
     )
 
-same-length-3 : tie.Need-same-length-3 invariant-loop decreases-loop
-same-length-3 c = c.before.loop.invariant.0.long ∙ sym (called c.before).pre.1.1.0.0
+same-length-3 : tie.Need-shape_of-counts invariant-loop decreases-loop
+same-length-3 c = c.loop-left.invariant.0.long ∙ sym (called c.before).requires.1.1.0.0
 
-same-length-4 : tie.Need-same-length-4 invariant-loop decreases-loop
-same-length-4 c = c.before.loop.invariant.0.wide ∙ sym (marks-long (called c.before))
+same-length-4 : tie.Need-shape_of-marks invariant-loop decreases-loop
+same-length-4 c = c.loop-left.invariant.0.wide ∙ sym (marks-long (called c.before))
 
-returns-2 : tie.Need-returns-2 invariant-loop decreases-loop
+returns-2 : tie.Need-returns invariant-loop decreases-loop
 returns-2 c =
-    let inv = c.before.loop.invariant.0 in
-    let none = c.loop-test.false in
+    let inv = c.loop-left.invariant.0 in
+    let none = c.loop-left-test.false in
     (last-known _ _ _ _ _ _ _ _ _ inv none, ((λ e. last-counted _ _ _ _ _ _ _ _ _ inv none), (λ e. last-noted _ _ _ _ _ _ _ _ _ inv none)))
 
-pub tally-taught-spec : {M : Type 1} → statement M
-tally-taught-spec =
+pub tally_taught_spec : {M : Type 1} → statement M
+tally_taught_spec =
     tie.close
     (tie.spec
     invariant-loop
     decreases-loop
     shared-slice-read-left
     loop-holds
-    (λ c. search rules) (λ c. search rules) (λ c. search rules)
+    (λ c. search rules)
+    (λ c. search rules)
+    (λ c. search rules)
     tally-order-requires
     same_length
     same-length-2
     returns
     past-requires
-    (λ c. search rules) (λ c. search rules)
+    (λ c. search rules)
+    (λ c. search rules)
     loop-again
     same-length-3
     same-length-4

@@ -7,21 +7,29 @@ use Rattle.book_choosing.specs.Walking.{also_of}
 use Rattle.book_rules.proofs.also.Statement.{statement}
 use Rattle.book_rules.proofs.also.Tie as tie
 
-returns : tie.Need-returns
+returns : tie.Need-returns-in-Nothing
 unfolding also_of
-returns c = rw c.enum_told.given.1 refl
+returns c = rw c.in-Nothing.is refl
 
-returns-2 : tie.Need-returns-2
+returns-2 : tie.Need-returns-then-image-first
 unfolding also_of if◌then◌else◌
-returns-2 c = rw (c.before.before.named.given.1, eq-eqb _ _ c.if1.true) refl
+returns-2 c = rw (c.in-One.is, eq-eqb _ _ c.if-image-first.true) refl
 
-returns-3 : tie.Need-returns-3
+returns-3 : tie.Need-returns-else-image-first
 unfolding also_of if◌then◌else◌
-returns-3 c = rw (c.before.before.named.given.1, ne_eqb _ _ c.if1.false) refl
+returns-3 c = rw (c.in-One.is, ne_eqb _ _ c.if-image-first.false) refl
 
-returns-4 : tie.Need-returns-4
+returns-4 : tie.Need-returns-in-Two
 unfolding also_of
-returns-4 c = rw c.enum-told2.given.1 refl
+returns-4 c = rw c.in-Two.is refl
 
-pub also-spec : {M : Type 1} → statement M
-also-spec = tie.close (tie.spec (λ c. search rules) (λ c. search rules) (λ c. search rules) returns returns-2 returns-3 returns-4)
+pub also_spec : {M : Type 1} → statement M
+also_spec = tie.close
+    (tie.spec
+    (λ c. search rules)
+    (λ c. search rules)
+    (λ c. search rules)
+    returns
+    returns-2
+    returns-3
+    returns-4)

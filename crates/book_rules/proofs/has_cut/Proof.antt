@@ -10,49 +10,47 @@ use Rattle.book_rules.proofs.has_cut.Statement.{statement}
 use Rattle.book_rules.proofs.has_cut.Tie as tie
 
 -- Whether one of all lines has the cut is whether one of those left has it.
-abbrev invariant-loop : tie.invariant-loop
+abbrev invariant-loop : tie.invariant-loop-line
 invariant-loop order spans levels d tree code lines line₀ line = cut_from order d tree 0 ≡ cut_from order d tree line
 
 -- Each turn leaves one line fewer.
-abbrev decreases-loop : tie.decreases-loop
+abbrev decreases-loop : tie.decreases-loop-line
 decreases-loop order spans levels d tree code lines line₀ line = lines - line
 
-loop-holds : tie.Need-loop-init invariant-loop decreases-loop
+loop-holds : tie.Need-loop-line-init invariant-loop decreases-loop
 loop-holds c = refl
 
-returns : tie.Need-returns invariant-loop decreases-loop
+returns : tie.Need-returns-then-is_cut invariant-loop decreases-loop
 returns c =
-    let l = c.before.before.before.before in
-    let a = l.before.before.before.before.before.before.before in
-    sym (l.before.loop.invariant ∙ cut-here _ _ _ _ a.requires.0.sound l.loop-test.true (sym c.before.is_cut.ensures ∙ c.if2.true))
+    sym (c.loop-line.invariant ∙ cut-here _ _ _ _ c.requires.0.sound c.loop-line-test.true (sym c.is_cut.ensures ∙ c.if-is_cut.true))
 
-loop-less : tie.Need-loop-smaller invariant-loop decreases-loop
-loop-less c = omega (arith, c.before.before.loop-test.true)
+loop-less : tie.Need-loop-line-smaller invariant-loop decreases-loop
+loop-less c = omega (arith, c.loop-line-test.true)
 
-loop-again : tie.Need-loop-preserved invariant-loop decreases-loop
+loop-again : tie.Need-loop-line-preserved invariant-loop decreases-loop
 loop-again c =
-    let l = c.before.before in
-    let a = l.before.before.before.before.before.before.before in
-    l.before.loop.invariant
+    c.loop-line.invariant
     ∙ ⊎_elim
-    (λ w. cut-past _ _ _ _ a.requires.0.sound l.loop-test.true (sym w.1.ensures ∙ w.2.left))
-    (λ w. code-past _ _ _ _ a.requires.0.sound l.loop-test.true w.left)
-    c.if1.branch
+    (λ w. cut-past _ _ _ _ c.requires.0.sound c.loop-line-test.true (sym w.is_cut.ensures ∙ w.if-is_cut.false))
+    (λ w. code-past _ _ _ _ c.requires.0.sound c.loop-line-test.true w.if-order-line.false)
+    c.if-order-line.branch-raw
 
-returns-2 : tie.Need-returns-2 invariant-loop decreases-loop
+returns-2 : tie.Need-returns invariant-loop decreases-loop
 returns-2 c =
-    let a = c.before.before.before.before.before.before.before in
-    sym (c.before.loop.invariant ∙ cut-none _ _ _ _ a.requires.0.sound c.loop-test.false)
+    sym (c.loop-line.invariant ∙ cut-none _ _ _ _ c.requires.0.sound c.loop-line-test.false)
 
-pub has-cut-spec : {M : Type 1} → statement M
-has-cut-spec =
+pub has_cut_spec : {M : Type 1} → statement M
+has_cut_spec =
     tie.close
     (tie.spec
     invariant-loop
     decreases-loop
     (λ c. search rules)
     loop-holds
-    (λ c. search rules) (λ c. search rules) (λ c. search rules) (λ c κs. search rules)
+    (λ c. search rules)
+    (λ c. search rules)
+    (λ c. search rules)
+    (λ c. search rules)
     returns
     (λ c. search rules)
     loop-less

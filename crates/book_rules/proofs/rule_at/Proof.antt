@@ -12,60 +12,67 @@ use Rattle.book_choosing.proofs.Turns.{told-short, told-cut_off, told-fault, tol
 use Rattle.book_rules.proofs.rule_at.Statement.{statement}
 use Rattle.book_rules.proofs.rule_at.Tie as tie
 
-returns : tie.Need-returns
-returns c = (told-short _ _ _ c.if1.true, refl)
+returns : tie.Need-returns-then-rules-at-lt2
+returns c = (told-short _ _ _ c.if-rules-at-lt2.true, refl)
 
-cast-nodes : tie.Need-overflow-cast-nodes
-cast-nodes c = omega (arith, c.shared-slice-known2.given (c.before.before.before.before.args.at + 1))
+cast-nodes : tie.Need-overflow_cast-nodes
+cast-nodes c = omega (arith, c.shared_slice_known-2-1.given (c.args.at + 1))
 
-returns-2 : tie.Need-returns-2
-returns-2 c = (told-cut_off _ _ _ (omega (arith, c.before.before.if1.false)) c.if2.true, refl)
+returns-2 : tie.Need-returns-then-rules-start
+returns-2 c = (told-cut_off _ _ _ (omega (arith, c.if-rules-at-lt2.false)) c.if-rules-start.true, refl)
 
-returns-3 : tie.Need-returns-3
+returns-3 : tie.Need-returns-then-rules-at-lt-LEAST_IMAGE
 returns-3 c =
-    let a = c.before.before in
-    (told-fault _ _ _ (omega (arith, a.before.before.if1.false)) (omega (arith, a.if2.false, a.before.before.if1.false)) (image-fault _ _ c.if3.true), refl)
+    (told-fault _ _ _ (omega (arith, c.if-rules-at-lt2.false)) (omega (arith, c.if-rules-start.false, c.if-rules-at-lt2.false)) (image-fault _ _ c.if-rules-at-lt-LEAST_IMAGE.true), refl)
 
 -- Whether the tree is an order that is not too deep decides whether the rule is sound.
-sound-by : (c : tie.After-fits2) (b : Bool) → c.fits2.result ≡ b →
-    let a = c.before.before.before.before.before.before.before.before.before.before.before.args in
+sound-by : (c : tie.After-fits) (b : Bool) → c.fits.result ≡ b →
+    let a = c.args in
     sound_rule a.k.k (rule_within a.rules.now a.at (rule_past a.rules.now a.at)) ≡ b
 sound-by c b e =
-    let m = c.before.before in
-    let i = m.before.before in
-    let a = i.before.before.before.before.before.before.before.args in
+    
+    let a = c.args in
     let r = rule_within a.rules.now a.at (rule_past a.rules.now a.at) in
-    image-sound a.k.k r i.if3.false (omega (arith, i.before.shared-slice-known3.given a.at))
-    ∙ ap (λ d. fits_of 0 d r.tree) (sym m.of-middles.ensures)
-    ∙ sym c.fits2.ensures.0
+    image-sound a.k.k r c.if-rules-at-lt-LEAST_IMAGE.false (omega (arith, c.shared_slice_known-3-1.given a.at))
+    ∙ ap (λ d. fits_of 0 d r.tree) (sym c.of_middles.ensures)
+    ∙ sym c.fits.ensures.0
     ∙ e
 
-returns-4 : tie.Need-returns-4
+returns-4 : tie.Need-returns-then-not-fits
 returns-4 c =
-    let f = c.before.before.before in
-    let i = f.before.before.before.before.before.before in
-    (told-fault _ _ _ (omega (arith, i.before.before.if1.false)) (omega (arith, i.if2.false, i.before.before.if1.false)) (sound-by f _ (not-true _ c.if4.true)), f.fits2.ensures.1)
+    
+    (told-fault _ _ _ (omega (arith, c.if-rules-at-lt2.false)) (omega (arith, c.if-rules-start.false, c.if-rules-at-lt2.false)) (sound-by c.before.before.before _ (c.if-not-fits.true)), c.fits.ensures.1)
 
-returns-5 : tie.Need-returns-5
+returns-5 : tie.Need-returns
 returns-5 c =
-    let f = c.before.before.before in
-    let i = f.before.before.before.before.before.before in
-    (told-rule _ _ _ (omega (arith, i.before.before.if1.false)) (omega (arith, i.if2.false, i.before.before.if1.false)) (sound-by f _ (not-false _ c.if4.false)), f.fits2.ensures.1)
+    
+    (told-rule _ _ _ (omega (arith, c.if-rules-at-lt2.false)) (omega (arith, c.if-rules-start.false, c.if-rules-at-lt2.false)) (sound-by c.before.before.before _ (c.if-not-fits.false)), c.fits.ensures.1)
 
-pub rule-at-spec : {M : Type 1} → statement M
-rule-at-spec =
+pub rule_at_spec : {M : Type 1} → statement M
+rule_at_spec =
     tie.close
     (tie.spec
     (λ c. search rules)
     returns
-    (λ c. search rules) (λ c. search rules) (λ c. search rules) (λ c. search rules)
+    (λ c. search rules)
+    (λ c. search rules)
+    (λ c. search rules)
+    (λ c. search rules)
     cast-nodes
     (λ c. search rules)
     returns-2
-    (λ c. search rules) (λ c. search rules)
+    (λ c. search rules)
+    (λ c. search rules)
     returns-3
-    (λ c. search rules) (λ c. search rules) (λ c. search rules) (λ c. search rules) (λ c. search rules) (λ c. search rules)
-    (λ c κs. search rules) (λ c κs. search rules) (λ c. search rules)
+    (λ c. search rules)
+    (λ c. search rules)
+    (λ c. search rules)
+    (λ c. search rules)
+    (λ c. search rules)
+    (λ c. search rules)
+    (λ c. search rules)
+    (λ c. search rules)
+    (λ c. search rules)
     returns-4
     (λ c. search rules)
     returns-5)

@@ -7,16 +7,23 @@ use Rattle.book_choosing.proofs.Turns.{named_stays, fits-or_not}
 use Rattle.book_rules.proofs.with_rule.Statement.{statement}
 use Rattle.book_rules.proofs.with_rule.Tie as tie
 
-returns : tie.Need-returns
-returns c = fits-or_not _ _ _ (named_stays _ _ (sym c.before.would-change.ensures ∙ not-true _ c.if1.true))
+returns : tie.Need-returns-then-not-would_change
+returns c = fits-or_not _ _ _ (named_stays _ _ (sym c.would_change.ensures ∙ c.if-not-would_change.true))
 
-returns-2 : tie.Need-returns-2
+returns-2 : tie.Need-returns-then-has_cut
 unfolding if◌then◌else◌
-returns-2 c = rw (sym c.before.before.has-cut.ensures ∙ c.before.if2.true) c.also.ensures
+returns-2 c = rw (sym c.has_cut.ensures ∙ c.if-has_cut.true) c.also.ensures
 
-returns-3 : tie.Need-returns-3
+returns-3 : tie.Need-returns
 unfolding if◌then◌else◌
-returns-3 c = rw (sym c.before.has-cut.ensures ∙ c.if2.false) refl
+returns-3 c = rw (sym c.has_cut.ensures ∙ c.if-has_cut.false) refl
 
-pub with-rule-spec : {M : Type 1} → statement M
-with-rule-spec = tie.close (tie.spec (λ c κs. search rules) returns (λ c κs. search rules) (λ c κs. search rules) returns-2 returns-3)
+pub with_rule_spec : {M : Type 1} → statement M
+with_rule_spec = tie.close
+    (tie.spec
+    (λ c. search rules)
+    returns
+    (λ c. search rules)
+    (λ c. search rules)
+    returns-2
+    returns-3)

@@ -11,46 +11,48 @@ use Rattle.book_seek.proofs.part_place.Statement.{statement}
 use Rattle.book_seek.proofs.part_place.Tie as tie
 
 -- A low part lies in the order.
-low_lies : (c : tie.Then1) → let a = c.before.before.before.before.args in a.part.to ≤ length a.order.now
-low_lies c = let s = c.before.before.before.before in order-lies _ s.args.order.now s.args.cut.now _ s.requires.0.1 c.if1.true
+low_lies : (c : tie.Then-part) → let a = c.args in a.part.to ≤ length a.order.now
+low_lies c = order-lies _ c.args.order.now c.args.cut.now _ c.requires.0.1 c.if-part.true
 
 -- Any other lies in its cut.
-middle-lies : (c : tie.Else1) → let a = c.before.before.before.before.args in a.part.to ≤ length a.cut.now
-middle-lies c = let s = c.before.before.before.before in cut-lies _ s.args.order.now s.args.cut.now _ s.requires.0.1 c.if1.false
+middle-lies : (c : tie.Else-part) → let a = c.args in a.part.to ≤ length a.cut.now
+middle-lies c = cut-lies _ c.args.order.now c.args.cut.now _ c.requires.0.1 c.if-part.false
 
-mul-place-at : tie.Need-overflow-mul-place-at
-mul-place-at c = omega (arith, low_lies c, c.before.before.before.before.requires.0.0)
+mul-place-at : tie.Need-offset_bounds-order-from
+mul-place-at c = omega (arith, low_lies c, c.requires.0.0)
 
-part-place-at-end : tie.Need-slice-bounds-place-at-end
+part-place-at-end : tie.Need-slice_bounds-place_at-end
 part-place-at-end c = omega (arith, low_lies c)
 
-returns : tie.Need-returns
+returns : tie.Need-returns-then-part
 returns c =
-    let s = c.before.before.before.before.before.before.args in
-    c.place_at.ensures ∙ ap (λ (l : List ℕ). place_at (take (s.part.to - s.part.from) (drop s.part.from l)) s.book.now s.at s.some) (sym (in_order _ s.order.now s.cut.now c.before.before.if1.true))
+    let s = c.args in
+    c.place_at.ensures ∙ ap (λ (l : List ℕ). place_at (take (s.part.to - s.part.from) (drop s.part.from l)) s.book.now s.at s.some) (sym (in_order _ s.order.now s.cut.now c.if-part.true))
 
-mul-place-at-2 : tie.Need-overflow-mul-place-at-2
-mul-place-at-2 c = omega (arith, middle-lies c, c.before.before.before.before.requires.0.0)
+mul-place-at-2 : tie.Need-offset_bounds-cut-from
+mul-place-at-2 c = omega (arith, middle-lies c, c.requires.0.0)
 
-part-place-at-end-2 : tie.Need-slice-bounds-place-at-end-2
+part-place-at-end-2 : tie.Need-slice_bounds-place_at-end-2
 part-place-at-end-2 c = omega (arith, middle-lies c)
 
-returns-2 : tie.Need-returns-2
+returns-2 : tie.Need-returns
 returns-2 c =
-    let s = c.before.before.before.before.before.before.args in
-    c.place-at2.ensures ∙ ap (λ (l : List ℕ). place_at (take (s.part.to - s.part.from) (drop s.part.from l)) s.book.now s.at s.some) (sym (in_cut _ s.order.now s.cut.now c.before.before.if1.false))
+    let s = c.args in
+    c.place_at-2.ensures ∙ ap (λ (l : List ℕ). place_at (take (s.part.to - s.part.from) (drop s.part.from l)) s.book.now s.at s.some) (sym (in_cut _ s.order.now s.cut.now c.if-part.false))
 
-pub part-place-spec : {M : Type 1} → statement M
-part-place-spec =
+pub part_place_spec : {M : Type 1} → statement M
+part_place_spec =
     tie.close
     (tie.spec
     mul-place-at
-    (λ c. search rules) (λ c. search rules)
+    (λ c. search rules)
+    (λ c. search rules)
     part-place-at-end
-    (λ c κs. search rules)
+    (λ c. search rules)
     returns
     mul-place-at-2
-    (λ c. search rules) (λ c. search rules)
+    (λ c. search rules)
+    (λ c. search rules)
     part-place-at-end-2
-    (λ c κs. search rules)
+    (λ c. search rules)
     returns-2)

@@ -19,56 +19,47 @@ line-here s = line_at _ _ s.requires.1.0.sound s.requires.1.1.0
 room : (s : tie.Start) → s.args.line * 2 + 1 < length s.args.spans.now
 room s = omega (arith, (line-here s).lies, spans-room _ _ s.requires.1.0)
 
-is-low-requires : tie.Need-is-low-requires
-is-low-requires c κs = room c.before.before.before.before.before
+is-low-requires : tie.Need-is_low-requires
+is-low-requires c κs = room c.before.before.before.before.before.before
 
-shared-slice-read-many : tie.Need-shared-slice-read-many
-shared-slice-read-many c = omega (arith, c.before.before.before.before.before.before.before.before.requires.0.long)
+shared-slice-read-many : tie.Need-bounds-book-5
+shared-slice-read-many c = omega (arith, c.requires.0.long)
 
-cast-many : tie.Need-overflow-cast-many
-cast-many c = omega (arith, c.shared-slice-known5.given 5)
+cast-many : tie.Need-overflow_cast-many
+cast-many c = omega (arith, c.shared_slice_known-then-is_low-1.given 5)
 
-mul-from : tie.Need-overflow-mul-from
+mul-from : tie.Need-overflow_mul-from
 mul-from c =
-    let s = c.before.before.before.before.before.before.before.before in
-    omega (arith, (line-here s).lies, passed-short _ s.requires.1.0.sound)
+    omega (arith, (line-here c.before.before.before.before.before.before.before.before.before).lies, passed-short _ c.requires.1.0.sound)
 
-line-end-requires : tie.Need-line-end-requires
-line-end-requires c κs = omega (arith, room c.before.before.before.before.before.before.before.before)
+line-end-requires : tie.Need-line_end-to-requires
+line-end-requires c κs = omega (arith, room c.before.before.before.before.before.before.before.before.before)
 
-mul-to : tie.Need-overflow-mul-to
+mul-to : tie.Need-overflow_mul-to
 mul-to c =
-    let s = c.before.before.before.before.before.before.before.before.before in
-    omega (arith, c.line-end.ensures, end-within _ _ _ _ _ s.requires.0 s.requires.1.0 (line-here s), passed-short _ s.requires.1.0.sound)
+    omega (arith, c.line_end-to.ensures, end-within _ _ _ _ _ c.requires.0 c.requires.1.0 (line-here c.before.before.before.before.before.before.before.before.before.before), passed-short _ c.requires.1.0.sound)
 
-returns : tie.Need-returns
+returns : tie.Need-returns-then-is_low
 returns c =
-    let s = c.before.before.before.before.before.before.before.before.before in
-    let t = c.before.before in
-    seeks_low _ _ _ _ _ s.requires.0 s.requires.1.0 (line-here s) _ _ _ (sym t.before.is-low.ensures ∙ t.if1.true) (ap (λ (n : ℕ). n * 2) c.line-end.ensures) refl
+    seeks_low _ _ _ _ _ c.requires.0 c.requires.1.0 (line-here c.before.before.before.before.before.before.before.before.before.before) _ _ _ (sym c.is_low.ensures ∙ c.if-is_low.true) (ap (λ (n : ℕ). n * 2) c.line_end-to.ensures) refl
 
-put-cut-requires : tie.Need-put-cut-requires
+put-cut-requires : tie.Need-put_cut-to-requires
 put-cut-requires c κs =
-    let s = c.before.before.before.before.before.before.before.before.before in
-    let short = line-short _ _ c.before.of-middles.result s.requires.1.0.sound s.requires.1.1.0 in
-    (s.requires.1.0, (s.requires.1.1.1.1, (s.requires.1.1.0, omega (arith, short, s.requires.1.1.1.0))))
+    let short = line-short _ _ c.of_middles.result c.requires.1.0.sound c.requires.1.1.0 in
+    (c.requires.1.0, (c.requires.1.1.1.1, (c.requires.1.1.0, omega (arith, short, c.requires.1.1.1.0))))
 
-shared-slice-read-many-2 : tie.Need-shared-slice-read-many-2
-shared-slice-read-many-2 c = omega (arith, c.before.before.before.before.before.before.before.before.before.before.before.before.before.requires.0.long)
+shared-slice-read-many-2 : tie.Need-bounds-book-6
+shared-slice-read-many-2 c = omega (arith, c.requires.0.long)
 
-cast-many-2 : tie.Need-overflow-cast-many-2
-cast-many-2 c = omega (arith, c.shared-slice-known6.given 6)
+cast-many-2 : tie.Need-overflow_cast-many-2
+cast-many-2 c = omega (arith, c.shared_slice_known-5-1.given 6)
 
-returns-2 : tie.Need-returns-2
+returns-2 : tie.Need-returns
 returns-2 c =
-    let s = c.before.before.before.before.before.before.before.before.before.before.before.before.before in
-    let w = c.before.before.before in
-    let m = w.before.before in
-    let e = m.before in
-    seeks_middle _ _ _ _ _ s.requires.0 s.requires.1.0 (line-here s) _ _ m.of-middles.result s.args.cut.now _ (sym e.before.is-low.ensures ∙ e.if1.false) refl m.of-middles.ensures w.put-cut.ensures.0 w.put-cut.ensures.1
+    seeks_middle _ _ _ _ _ c.requires.0 c.requires.1.0 (line-here c.before.before.before.before.before.before.before.before.before.before.before.before.before.before.before) _ _ c.of_middles.result c.args.cut.now _ (sym c.is_low.ensures ∙ c.if-is_low.false) refl c.of_middles.ensures c.put_cut-to.ensures.0 c.put_cut-to.ensures.1
 
-pub seek-spec : {M : Type 1} → statement M
-seek-spec =
+pub seek_spec : {M : Type 1} → statement M
+seek_spec =
     tie.close
     (tie.spec
     is-low-requires
@@ -78,7 +69,7 @@ seek-spec =
     line-end-requires
     mul-to
     returns
-    (λ c κs. search rules)
+    (λ c. search rules)
     put-cut-requires
     shared-slice-read-many-2
     cast-many-2

@@ -5,52 +5,49 @@ use Rattle.desk_input.proofs.Found.{short-first, no_K, no_space, under-0, over-9
 use Rattle.desk_input.proofs.depth_on.Statement.{statement}
 use Rattle.desk_input.proofs.depth_on.Tie as tie
 
-returns : tie.Need-returns
-returns c = sym (short-first _ c.if1.true)
+returns : tie.Need-returns-then-input-lt-FIRST_LINE
+returns c = sym (short-first _ c.if-input-lt-FIRST_LINE.true)
 
-shared-slice-read-if2 : tie.Need-shared-slice-read-if2
+shared-slice-read-if2 : tie.Need-bounds-input-0
 shared-slice-read-if2 c = omega arith
 
-returns-2 : tie.Need-returns-2
-returns-2 c = sym (no_K _ (omega arith) c.if2.true)
+returns-2 : tie.Need-returns-then-input-ne-OPENING_LETTER
+returns-2 c = sym (no_K _ (omega arith) c.if-input-ne-OPENING_LETTER.true)
 
-shared-slice-read-if3 : tie.Need-shared-slice-read-if3
+shared-slice-read-if3 : tie.Need-bounds-input-1
 shared-slice-read-if3 c = omega arith
 
-returns-3 : tie.Need-returns-3
-returns-3 c = sym (no_space _ (omega arith) c.if3.true)
+returns-3 : tie.Need-returns-then-input-ne32
+returns-3 c = sym (no_space _ (omega arith) c.if-input-ne32.true)
 
-shared-slice-read-digit : tie.Need-shared-slice-read-digit
+shared-slice-read-digit : tie.Need-bounds-input-2
 shared-slice-read-digit c = omega arith
 
-returns-4 : tie.Need-returns-4
-returns-4 c = sym (under-0 _ (omega arith) c.if4.true)
+returns-4 : tie.Need-returns-then-digit-lt48
+returns-4 c = sym (under-0 _ (omega arith) c.if-digit-lt48.true)
 
-returns-5 : tie.Need-returns-5
-returns-5 c = sym (over-9 _ (omega arith) c.if5.true)
+returns-5 : tie.Need-returns-then-digit-gt57
+returns-5 c = sym (over-9 _ (omega arith) c.if-digit-gt57.true)
 
-shared-slice-read-if6 : tie.Need-shared-slice-read-if6
+shared-slice-read-if6 : tie.Need-bounds-input-3
 shared-slice-read-if6 c = omega arith
 
-returns-6 : tie.Need-returns-6
-returns-6 c = sym (no_feed _ (omega arith) c.if6.true)
+returns-6 : tie.Need-returns-then-input-ne10
+returns-6 c = sym (no_feed _ (omega arith) c.if-input-ne10.true)
 
-cast-new : tie.Need-overflow-cast-new
+cast-new : tie.Need-overflow_cast-digit
 cast-new c = omega arith
 
 new-requires : tie.Need-new-requires
 new-requires c κs = tt
 
-returns-7 : tie.Need-returns-7
+returns-7 : tie.Need-returns
 returns-7 c =
-    let d = c.before.before.before in
-    let p = d.before.before.before in
-    let k = p.before.before in
     c.new.ensures
-    ∙ sym (a-digit _ (omega arith) k.if2.false p.if3.false d.before.if4.false d.if5.false c.before.if6.false)
+    ∙ sym (a-digit _ (omega arith) c.if-input-ne-OPENING_LETTER.false c.if-input-ne32.false c.if-digit-lt48.false c.if-digit-gt57.false c.if-input-ne10.false)
 
-pub depth-on-spec : {M : Type 1} → statement M
-depth-on-spec =
+pub depth_on_spec : {M : Type 1} → statement M
+depth_on_spec =
     tie.close
     (tie.spec
     returns

@@ -12,52 +12,49 @@ use Rattle.desk_input.proofs.Found.{size-end, pass_inside, pass_other, stops}
 use Rattle.desk_input.proofs.form_end.Statement.{statement}
 use Rattle.desk_input.proofs.form_end.Tie as tie
 
-abbrev invariant-loop : tie.invariant-loop
+abbrev invariant-loop : tie.invariant-loop-at
 invariant-loop text from at₀ starts₀ p starts = (p ≤ length text) × (from + size_to true (drop from text) ≡ p + size_to starts (drop p text))
 
-abbrev decreases-loop : tie.decreases-loop
+abbrev decreases-loop : tie.decreases-loop-at
 decreases-loop text from at₀ starts₀ p starts = length text - p
 
-loop-holds : tie.Need-loop-init invariant-loop decreases-loop
-loop-holds c = (c.before.requires, refl)
+loop-holds : tie.Need-loop-at-init invariant-loop decreases-loop
+loop-holds c = (c.requires, refl)
 
-letter-at-requires : tie.Need-letter-at-requires invariant-loop decreases-loop
+letter-at-requires : tie.Need-letter_at-requires invariant-loop decreases-loop
 letter-at-requires c κs = omega arith
 
-enum_told : tie.Need-enum-told invariant-loop decreases-loop
+enum_told : tie.Need-enum_told-1 invariant-loop decreases-loop
 enum_told c = search rules
 
-returns : tie.Need-returns invariant-loop decreases-loop
+returns : tie.Need-returns-in-Asks invariant-loop decreases-loop
 returns c =
-    let l = c.before.before.before.before.before in
-    sym (l.loop.invariant.1 ∙ stops _ _ _ _ c.before.before.before.if1.true (sym c.before.before.letter_at.ensures ∙ c.enum_told.given.1))
+    sym (c.loop-at.invariant.1 ∙ stops _ _ _ _ c.if-starts.true (sym c.letter_at.ensures ∙ c.in-Asks.is))
 
-shared-slice-read-starts : tie.Need-shared-slice-read-starts invariant-loop decreases-loop
+shared-slice-read-starts : tie.Need-bounds-text-at invariant-loop decreases-loop
 shared-slice-read-starts c = omega arith
 
-add_at : tie.Need-overflow-add-at invariant-loop decreases-loop
+add_at : tie.Need-overflow_add-at invariant-loop decreases-loop
 add_at c = omega arith
 
-loop-less : tie.Need-loop-smaller invariant-loop decreases-loop
+loop-less : tie.Need-loop-at-smaller invariant-loop decreases-loop
 loop-less c = omega arith
 
-loop-again : tie.Need-loop-preserved invariant-loop decreases-loop
+loop-again : tie.Need-loop-at-preserved invariant-loop decreases-loop
 loop-again c =
-    let i = c.before.before in
-    let h = i.loop-test.true in (
+    let h = c.loop-at-test.true in (
       omega arith,
-      i.before.loop.invariant.1
-          ∙ ⊎_elim (λ w. pass_other _ _ _ w.0.taken h (sym w.1.ensures ∙ w.3.given.1)) (λ w. pass_inside _ _ _ w.left h) c.before.if1.branch,
+      c.loop-at.invariant.1
+          ∙ ⊎_elim (λ w. pass_other _ _ _ w.if-starts.true h (sym w.letter_at.ensures ∙ w.in_default.is)) (λ w. pass_inside _ _ _ w.if-starts.false h) c.if-starts.branch-raw,
     )
 
-returns-2 : tie.Need-returns-2 invariant-loop decreases-loop
+returns-2 : tie.Need-returns invariant-loop decreases-loop
 returns-2 c =
-    let l = c.before in
-    let z = size-end l.before.before.args.text.now l.loop.at l.loop.starts c.loop-test.false in
-    omega (arith, l.loop.invariant.1)
+    let z = size-end c.args.text.now c.loop-at.at c.loop-at.starts c.loop-at-test.false in
+    omega (arith, c.loop-at.invariant.1)
 
-pub form-end-spec : {M : Type 1} → statement M
-form-end-spec =
+pub form_end_spec : {M : Type 1} → statement M
+form_end_spec =
     tie.close
     (tie.spec
     invariant-loop

@@ -6,55 +6,49 @@ use Rattle.desk_input.proofs.Found.{begins, front-large, front-outside, front-al
 use Rattle.desk_input.proofs.opening.Statement.{statement}
 use Rattle.desk_input.proofs.opening.Tie as tie
 
-returns : tie.Need-returns
-returns c = ap Fault c.answered.ensures ∙ sym (front-large _ c.before.if1.true)
+returns : tie.Need-returns-then-input-gt-MOST_INPUT
+returns c = ap Fault c.answered.ensures ∙ sym (front-large _ c.if-input-gt-MOST_INPUT.true)
 
-enum_told : tie.Need-enum-told
+enum_told : tie.Need-enum_told-1
 enum_told c = search rules
 
-returns-2 : tie.Need-returns-2
+returns-2 : tie.Need-returns-in_default
 returns-2 c =
-    let d = c.before.before.before in
-    ap Fault c.answered2.ensures ∙ sym (front-outside _ d.before.if1.false (sym d.depth-on.ensures ∙ c.before.enum_told.given.1))
+    ap Fault c.answered-in_default.ensures ∙ sym (front-outside _ c.if-input-gt-MOST_INPUT.false (sym c.depth_on.ensures ∙ c.in_default.is))
 
-returns-3 : tie.Need-returns-3
+returns-3 : tie.Need-returns-then-input-eq-FIRST_LINE
 returns-3 c =
-    let k = c.before.before.before in
-    let d = k.before.before in
-    ap Opens c.value.ensures ∙ sym (front-alone _ d.before.if1.false _ (sym d.depth-on.ensures ∙ k.depth.given.1) c.before.if2.true)
+    ap Opens c.value.ensures ∙ sym (front-alone _ c.if-input-gt-MOST_INPUT.false _ (sym c.depth_on.ensures ∙ c.in-Allowed.is) c.if-input-eq-FIRST_LINE.true)
 
-letter-at-requires : tie.Need-letter-at-requires
-letter-at-requires c κs = (begins _ _ (sym c.before.before.before.before.depth-on.ensures ∙ c.before.before.depth.given.1)).enough
+letter-at-requires : tie.Need-letter_at-requires
+letter-at-requires c κs = (begins _ _ (sym c.depth_on.ensures ∙ c.in-Allowed.is)).enough
 
-returns-4 : tie.Need-returns-4
+returns-4 : tie.Need-returns-in-Asks
 returns-4 c =
-    let l = c.before.before.before in
-    let k = l.before.before.before in
-    let d = k.before.before in
-    ap Opens c.value2.ensures
-    ∙ sym (front-letter _ d.before.if1.false _ _ (sym d.depth-on.ensures ∙ k.depth.given.1) (sym l.letter_at.ensures ∙ c.before.enum-told2.given.1))
+    ap Opens c.value-in-Asks.ensures
+    ∙ sym (front-letter _ c.if-input-gt-MOST_INPUT.false _ _ (sym c.depth_on.ensures ∙ c.in-Allowed.is) (sym c.letter_at.ensures ∙ c.in-Asks.is))
 
-returns-5 : tie.Need-returns-5
+returns-5 : tie.Need-returns-in-Other
 returns-5 c =
-    let l = c.before.before in
-    let k = l.before.before.before in
-    let d = k.before.before in
-    let e = sym d.depth-on.ensures ∙ k.depth.given.1 in
-    sym (front-other _ d.before.if1.false _ e l.before.if2.false (sym l.letter_at.ensures ∙ c.enum-told3.given.1))
+    let e = sym c.depth_on.ensures ∙ c.in-Allowed.is in
+    sym (front-other _ c.if-input-gt-MOST_INPUT.false _ e c.if-input-eq-FIRST_LINE.false (sym c.letter_at.ensures ∙ c.in-Other.is))
 
-pub opening-spec : {M : Type 1} → statement M
-opening-spec =
+pub opening_spec : {M : Type 1} → statement M
+opening_spec =
     tie.close
     (tie.spec
-    (λ c κs. search rules)
+    (λ c. search rules)
     returns
-    (λ c κs. search rules) (λ c. search rules)
+    (λ c. search rules)
+    (λ c. search rules)
     enum_told
-    (λ c κs. search rules)
+    (λ c. search rules)
     returns-2
-    (λ c κs. search rules)
+    (λ c. search rules)
     returns-3
     letter-at-requires
-    (λ c. search rules) (λ c κs. search rules) (λ c. search rules)
+    (λ c. search rules)
+    (λ c. search rules)
+    (λ c. search rules)
     returns-4
     returns-5)

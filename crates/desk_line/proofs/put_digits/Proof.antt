@@ -7,38 +7,39 @@ use Rattle.desk_line.proofs.Printed.{Put, put_none, put_turn, put_all}
 use Rattle.desk_line.proofs.put_digits.Statement.{statement}
 use Rattle.desk_line.proofs.put_digits.Tie as tie
 
-abbrev invariant-loop : tie.invariant-loop
+abbrev invariant-loop : tie.invariant-loop-at
 invariant-loop out₀ n many at₀ rest₀ out at rest = (length out ≡ length out₀) × Put n many out₀ out at rest
 
-abbrev decreases-loop : tie.decreases-loop
+abbrev decreases-loop : tie.decreases-loop-at
 decreases-loop out₀ n many at₀ rest₀ out at rest = at
 
-loop-holds : tie.Need-loop-init invariant-loop decreases-loop
+loop-holds : tie.Need-loop-at-init invariant-loop decreases-loop
 loop-holds c = (refl, put_none _ _ _)
 
-slice-write-out : tie.Need-slice-write-out invariant-loop decreases-loop
-slice-write-out c = let l = c.before.before.loop in omega (arith, l.invariant.0, l.invariant.1.within, c.before.before.before.before.requires)
+slice-write-out : tie.Need-bounds-out-at invariant-loop decreases-loop
+slice-write-out c = let l = c.loop-at in omega (arith, l.invariant.0, l.invariant.1.within, c.requires)
 
-loop-again : tie.Need-loop-preserved invariant-loop decreases-loop
+loop-again : tie.Need-loop-at-preserved invariant-loop decreases-loop
 loop-again c =
-    let l = c.before.before.loop in
-    let room = c.before.before.before.before.requires in
-    (simp length-set l.invariant.0, put_turn _ _ _ _ room _ _ _ c.before.loop-test.true l.invariant.1 c.digit-of.ensures)
+    let l = c.loop-at in
+    let room = c.requires in
+    (simp length-set l.invariant.0, put_turn _ _ _ _ room _ _ _ c.loop-at-test.true l.invariant.1 c.digit_of.ensures)
 
-same_length : tie.Need-same-length invariant-loop decreases-loop
-same_length c = c.before.loop.invariant.0
+same_length : tie.Need-shape_of-out invariant-loop decreases-loop
+same_length c = c.loop-at.invariant.0
 
 returns : tie.Need-returns invariant-loop decreases-loop
-returns c = put_all _ _ _ _ c.before.before.before.requires _ _ c.loop-test.false c.before.loop.invariant.1
+returns c = put_all _ _ _ _ c.requires _ _ c.loop-at-test.false c.loop-at.invariant.1
 
-pub put-digits-spec : {M : Type 1} → statement M
-put-digits-spec =
+pub put_digits_spec : {M : Type 1} → statement M
+put_digits_spec =
     tie.close
     (tie.spec
     invariant-loop
     decreases-loop
     loop-holds
-    (λ c. search rules) (λ c κs. search rules)
+    (λ c. search rules)
+    (λ c. search rules)
     slice-write-out
     (λ c. search rules)
     loop-again

@@ -12,44 +12,42 @@ use Rattle.desk_line.proofs.Printed.{Written, field-bytes, put_field}
 use Rattle.desk_line.proofs.put_field.Statement.{statement}
 use Rattle.desk_line.proofs.put_field.Tie as tie
 
-slice-write-out : tie.Need-slice-write-out
-slice-write-out c = omega (arith, field-bytes c.before.before.args.n)
+slice-write-out : tie.Need-bounds-out-0
+slice-write-out c = omega (arith, field-bytes c.args.n)
 
-sub-put-digits : tie.Need-overflow-sub-put-digits
-sub-put-digits c = simp length-set (omega (arith, field-bytes c.before.before.args.n))
+sub-put-digits : tie.Need-slice_bounds-put_digits-count
+sub-put-digits c = simp length-set (omega (arith, field-bytes c.args.n))
 
-part-put-digits-start : tie.Need-slice-bounds-put-digits-start
-part-put-digits-start c = simp length-set (omega (arith, field-bytes c.before.before.args.n))
+part-put-digits-start : tie.Need-slice_bounds-put_digits-start
+part-put-digits-start c = simp length-set (omega (arith, field-bytes c.args.n))
 
-put-digits-requires : tie.Need-put-digits-requires
+put-digits-requires : tie.Need-put_digits-requires
 put-digits-requires c κs =
-    let a = c.before.before.before.args in
+    let a = c.args in
     omega (arith, field-bytes a.n, part-size 1 (set a.out.now 0 space), length-set a.out.now 0 space)
 
-add-result : tie.Need-overflow-add-result
-add-result c = let a = c.before.before.before.before.before.before.args in omega (arith, decimal-size a.n)
+add-result : tie.Need-overflow_add-result
+add-result c = let a = c.args in omega (arith, decimal-size a.n)
 
 -- The number is written on its line.
-whole : (c : tie.After-slice-known2) →
-    let k = c.before.before.before.before.before.before in
-    let o = set k.args.out.now 0 space in
-    Written (field k.args.n) k.args.out.now (put_mid 1 (length o - 1) o c.before.before.put-digits.new.0) (1 + c.before.before.before.before.digits_in.result)
+whole : (c : tie.After-slice_known-2-1) →
+    let o = set c.args.out.now 0 space in
+    Written (field c.args.n) c.args.out.now (put_mid 1 (length o - 1) o c.put_digits.new.out) (1 + c.digits_in-many.result)
 whole c =
-    let k = c.before.before.before.before.before.before in
-    put_field _ _ k.args.out.now _ k.requires (below-limit k.args.n (omega (arith, k.ranges.n)))
-    c.before.before.before.before.digits_in.ensures c.before.before.put-digits.ensures
+    put_field _ _ c.args.out.now _ c.requires (below-limit c.args.n (omega (arith, c.ranges.n)))
+    c.digits_in-many.ensures c.put_digits.ensures
 
-same_length : tie.Need-same-length
+same_length : tie.Need-shape_of-out
 same_length c = (whole c).same
 
 returns : tie.Need-returns
 returns c = (omega (arith, (whole c).bytes), (whole c).is)
 
-pub put-field-spec : {M : Type 1} → statement M
-put-field-spec =
+pub put_field_spec : {M : Type 1} → statement M
+put_field_spec =
     tie.close
     (tie.spec
-    (λ c κs. search rules)
+    (λ c. search rules)
     slice-write-out
     sub-put-digits
     part-put-digits-start
