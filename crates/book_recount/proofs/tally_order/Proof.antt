@@ -89,13 +89,14 @@ part-take-turn-end c = lent-within c.before
 
 take-turn-requires : tie.Need-take_turn-requires
 take-turn-requires c κs =
-    let b = called c.before.before.before.before.before.before.before in
-    (ordered c.before.before.before.before.before.before.before, (b.requires.1.0, (b.requires.1.1.0, (b.requires.1.1.1.0, entry-lent (ReadyFor b) c b.requires.1.1.1.1))))
+    let p = c.before.before.before.before.before.before.before in
+    let b = called p in
+    (ordered p, (b.requires.1.0, (b.requires.1.1.0, (b.requires.1.1.1.0, entry-lent (ReadyFor b) p b.requires.1.1.1.1))))
 
 returns : tie.Need-returns
 returns c =
-    
-    lent-entry (TakenFor (called c.before.before.before.before.before.before.before.before.before.before.before.before.before.before.before.before.before.before) _ _ _) c c.take_turn.ensures
+    let p = c.before.before.before.before.before.before.before.before.before.before.before.before.before.before.before.before.before.before in
+    lent-entry (TakenFor (called p) _ _ _) p c.take_turn.ensures
 
 pub tally_order_spec : {M : Type 1} → statement M
 tally_order_spec =

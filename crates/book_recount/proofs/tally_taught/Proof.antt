@@ -220,12 +220,12 @@ tally-order-requires c κs =
 same_length : tie.Need-shape_of-counts-then-not-tally_order invariant-loop decreases-loop
 same_length c =
     let l = (reached c.before.before.before.before.before.before.before.before).before in
-    c.tally_order.auto.counts ∙ l.loop.inv.0.long ∙ sym (called l).requires.1.1.0.0
+    c.tally_order.auto.counts ∙ l.loop-left.invariant.0.long ∙ sym (called l).requires.1.1.0.0
 
 same-length-2 : tie.Need-shape_of-marks-then-not-tally_order invariant-loop decreases-loop
 same-length-2 c =
     let l = (reached c.before.before.before.before.before.before.before.before).before in
-    c.tally_order.auto.marks ∙ l.loop.inv.0.wide ∙ sym (marks-long (called l))
+    c.tally_order.auto.marks ∙ l.loop-left.invariant.0.wide ∙ sym (marks-long (called l))
 
 returns : tie.Need-returns-then-not-tally_order invariant-loop decreases-loop
 returns c =
@@ -243,11 +243,11 @@ loop-again c =
     let t = reached c.before.before.before.before.before.before.before.before.before in
     let b = called t.before in
     let i = t.loop-left.invariant in
-    let k = c.tally_order.auto.spans in (
-      left-next _ _ _ _ b.requires.0.depth _ _ _ _ _ _ _ t.loop-left-test.true c.past-at.ensures i.0 _ _ _ c.tally_order.ensures (c.if-not-tally_order.false) k.1.1.1.1.0 k.1.1.1.1.1.0,
-      k.0 ∙ i.1,
-      k.1.0 ∙ i.2,
-      k.1.1.0 ∙ i.3,
+    let k = c.tally_order.auto in (
+      left-next _ _ _ _ b.requires.0.depth _ _ _ _ _ _ _ t.loop-left-test.true c.past-at.ensures i.0 _ _ _ c.tally_order.ensures (c.if-not-tally_order.false) k.counts k.marks,
+      k.spans ∙ i.1,
+      k.levels ∙ i.2,
+      k.part ∙ i.3,
     )
 
 same-length-3 : tie.Need-shape_of-counts invariant-loop decreases-loop

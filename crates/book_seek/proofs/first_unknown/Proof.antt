@@ -67,7 +67,7 @@ stop k =
 -- There the line is the first unknown one of the range, and is judged so.
 judged : (k : tie.At-loop-left invariant-loop decreases-loop invariant-lines decreases-lines) (w : Judgement) → tells k (stop k)
     → (let sk = k.seek-part in let x = k.loop-left in
-    w ≡ unknown_of sk.result (key_of sk.result (order k) sk.new.cut.1.1.1.1.1.0) (book k) (k.lines.line + 1) x.last x.at x.left)
+    w ≡ unknown_of sk.result (key_of sk.result (order k) sk.new.cut) (book k) (k.lines.line + 1) x.last x.at x.left)
     → let a = k.args in JudgedAt (book_in (book k)) (order k) (unknown_within (book_in (book k)) (order k) a.from a.to) w
 judged k w told is =
     let S = k.seek-part.ensures in

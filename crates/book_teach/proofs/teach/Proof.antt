@@ -7,18 +7,22 @@ use Rattle.book_teaching.proofs.Outcomes.{teach-unheld}
 use Rattle.book_teach.proofs.teach.Statement.{statement}
 use Rattle.book_teach.proofs.teach.Tie as tie
 
-teach-order-requires : tie.Need-teach-order-requires
-teach-order-requires c κs = holds _ _ (sym c.before.before.before.before.in_form_lem.ensures ∙ c.before.before.places.given.1)
+teach-order-requires : tie.Need-teach_order-requires
+teach-order-requires c κs = holds _ _ (sym c.in_form.ensures ∙ c.in-InForm.is)
 
-returns : tie.Need-returns
-returns c = told _ _ _ c.answered.ensures ∙ teach-unheld _ _ _ (sym c.before.before.before.before.in_form_lem.ensures ∙ c.before.before.number.given.1)
+returns : tie.Need-returns-in-Refused
+returns c = told _ _ _ c.answered.ensures ∙ teach-unheld _ _ _ (sym c.in_form.ensures ∙ c.in-Refused.is)
 
-pub teach-spec : {M : Type 1} → statement M
-teach-spec =
+pub teach_spec : {M : Type 1} → statement M
+teach_spec =
     tie.close
     (tie.spec
-    (λ c κs. search rules) (λ c. search rules) (λ c κs. search rules) (λ c. search rules)
+    (λ c. search rules)
+    (λ c. search rules)
+    (λ c. search rules)
+    (λ c. search rules)
     teach-order-requires
     (λ c. search rules)
     returns
-    (λ c. search rules) (λ c. search rules))
+    (λ c. search rules)
+    (λ c. search rules))

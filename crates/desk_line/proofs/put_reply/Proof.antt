@@ -160,7 +160,7 @@ part-put-field-start-3 c = omega (arith, (to-line c).same, used-soon c, (start-3
 put-field-requires-3 : tie.Need-put_field-requires-2
 put-field-requires-3 c κs =
     let k = start-3 c.before in
-    omega (arith, k.requires, field-size k.args.used, part-size (used-at c.before) (line-out c.before), (to-line c.before).same, used-soon c)
+    omega (arith, k.requires, field-size k.args.used, part-size (used-at c.before) (line-out c.before), (to-line c.before).same, used-soon c.before)
 
 add-end : tie.Need-overflow_add-end
 add-end c = omega (arith, end-soon c)
