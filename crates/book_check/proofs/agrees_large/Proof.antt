@@ -17,16 +17,18 @@ use Rattle.book_check.proofs.agrees_large.Tie as tie
 any-roomy : (ws : List ℕ) (p : Places) → Holds ws p → Roomy ws most_entries
 any-roomy ws p h = few-entries ws p h most_entries (omega (arith, uses ws p h, used-fits ws (book_in ws) h.laid, h.short))
 
-sections-agree-requires : tie.Need-sections-agree-requires
+sections-agree-requires : tie.Need-sections_agree-requires
 sections-agree-requires c κs =
-    let s = c.before.before.before.before.requires in
+    let s = c.requires in
     let roomy = any-roomy _ _ s in
     (s, (roomy, (roomy, roomy)))
 
-pub agrees-large-spec : {M : Type 1} → statement M
-agrees-large-spec =
+pub agrees_large_spec : {M : Type 1} → statement M
+agrees_large_spec =
     tie.close
     (tie.spec
-    (λ c. search rules) (λ c. search rules) (λ c. search rules)
+    (λ c. search rules)
+    (λ c. search rules)
+    (λ c. search rules)
     sections-agree-requires
     (λ c. search rules))

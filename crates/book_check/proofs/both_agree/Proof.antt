@@ -13,19 +13,19 @@ unfolding ◌and◌
 second-tells a b e = rw e
 
 agrees-requires : tie.Need-agrees-requires
-agrees-requires c κs = c.before.before.requires.0
+agrees-requires c κs = c.requires.0
 
-returns : tie.Need-returns
-returns c = sym (fails_left _ _ (sym c.before.agrees.ensures ∙ not-true _ c.if1.true))
+returns : tie.Need-returns-then-not-agrees
+returns c = sym (fails_left _ _ (sym c.agrees.ensures ∙ c.if-not-agrees.true))
 
 agrees-requires-2 : tie.Need-agrees-requires-2
-agrees-requires-2 c κs = c.before.before.before.before.requires.1
+agrees-requires-2 c κs = c.requires.1
 
-returns-2 : tie.Need-returns-2
-returns-2 c = c.agrees2.ensures ∙ second-tells _ _ (sym c.before.before.agrees.ensures ∙ not-false _ c.before.if1.false)
+returns-2 : tie.Need-returns
+returns-2 c = c.agrees-2.ensures ∙ second-tells _ _ (sym c.agrees.ensures ∙ c.if-not-agrees.false)
 
-pub both-agree-spec : {M : Type 1} → statement M
-both-agree-spec =
+pub both_agree_spec : {M : Type 1} → statement M
+both_agree_spec =
     tie.close
     (tie.spec
     agrees-requires

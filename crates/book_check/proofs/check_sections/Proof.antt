@@ -29,21 +29,20 @@ module _ (ws : List ℕ) (p : Places) (h : Holds ws p) where
   unfolding if◌then◌else◌
   check_done e = sym (check_held ws (book_in ws) (held_book ws p h) ∙ rw e)
 
-returns : tie.Need-returns
+returns : tie.Need-returns-then-not-agrees
 returns c =
-    let a = c.before.before in
-    c.answered.ensures ∙ check-not _ _ a.before.before.requires (sym a.agrees.ensures ∙ not-true _ c.before.if1.true)
+    c.answered.ensures ∙ check-not _ _ c.requires (sym c.agrees.ensures ∙ c.if-not-agrees.true)
 
-returns-2 : tie.Need-returns-2
+returns-2 : tie.Need-returns
 returns-2 c =
-    let a = c.before.before in
-    c.answered2.ensures ∙ check_done _ _ a.before.before.requires (sym a.agrees.ensures ∙ not-false _ c.before.if1.false)
+    c.answered-2.ensures ∙ check_done _ _ c.requires (sym c.agrees.ensures ∙ c.if-not-agrees.false)
 
-pub check-sections-spec : {M : Type 1} → statement M
-check-sections-spec =
+pub check_sections_spec : {M : Type 1} → statement M
+check_sections_spec =
     tie.close
     (tie.spec
-    (λ c κs. search rules) (λ c κs. search rules)
+    (λ c. search rules)
+    (λ c. search rules)
     returns
-    (λ c κs. search rules)
+    (λ c. search rules)
     returns-2)

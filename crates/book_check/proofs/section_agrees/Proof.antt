@@ -155,25 +155,25 @@ worded z = z.before.before.before
 
 -- The counts as they begin.
 abbrev zeros : tie.After-clear → List ℕ
-zeros z = z.clear.new.0 ++ drop (told (worded z) - 0) (called (worded z)).args.counts.now
+zeros z = z.clear.new.out ++ drop (told (worded z) - 0) (called (worded z)).args.counts.now
 
 -- Those in use are 0.
 zeroed : (z : tie.After-clear) → take (told (worded z) - 0) (zeros z) ≡ replicate (told (worded z)) 0
 zeroed z = zeros-front (told (worded z)) (called (worded z)).args.counts.now _ (counts-fit (worded z)) z.clear.ensures
 
 -- The counts zeroed, seen from where the marks are.
-abbrev first-clean : tie.After-clear2 → tie.After-clear
+abbrev first-clean : tie.After-clear-2 → tie.After-clear
 first-clean y = y.before.before.before.before
 
 -- The marks as they begin.
-abbrev unmarked : tie.After-clear2 → List ℕ
-unmarked y = y.clear2.new.0 ++ drop (told (worded (first-clean y)) - 0) (called (worded (first-clean y))).args.marks.now
+abbrev unmarked : tie.After-clear-2 → List ℕ
+unmarked y = y.clear-2.new.out ++ drop (told (worded (first-clean y)) - 0) (called (worded (first-clean y))).args.marks.now
 
 -- Those in use are 0.
-unmarks : (y : tie.After-clear2) → take (told (worded (first-clean y)) - 0) (unmarked y) ≡ replicate (told (worded (first-clean y))) 0
+unmarks : (y : tie.After-clear-2) → take (told (worded (first-clean y)) - 0) (unmarked y) ≡ replicate (told (worded (first-clean y))) 0
 unmarks y =
     let w = worded (first-clean y) in
-    zeros-front (told w) (called w).args.marks.now _ (marks-fit w) y.clear2.ensures
+    zeros-front (told w) (called w).args.marks.now _ (marks-fit w) y.clear-2.ensures
 
 -- The head's word, seen from where the section's start is known.
 abbrev slotted : tie.After-start → tie.After-slot
@@ -188,7 +188,7 @@ abbrev begun : tie.After-index → tie.After-start
 begun i = i.before.before
 
 -- The marks zeroed, seen from there.
-abbrev cleaner : tie.After-index → tie.After-clear2
+abbrev cleaner : tie.After-index → tie.After-clear-2
 cleaner i = i.before.before.before.before.before
 
 -- The counts zeroed, seen from there.
@@ -201,11 +201,11 @@ many-at i = told (slotted (begun i))
 
 -- The scratch with the places.
 abbrev starts : tie.After-index → List ℕ
-starts i = i.index.new.1.1.1.0
+starts i = i.index.new.starts
 
 -- It has room for them.
 starts-room : (i : tie.After-index) → many-at i ≤ length (starts i)
-starts-room i = omega (arith, i.index.auto.1.1.1.0, starts_fit (slotted (begun i)))
+starts-room i = omega (arith, i.index.auto.starts, starts_fit (slotted (begun i)))
 
 -- The places are those of the section's entries.
 indexed : (i : tie.After-index) → Indexed (take (many-at i - 0) (starts i)) (called (slotted (begun i))).args.book.now
@@ -237,152 +237,155 @@ few i =
     (zeros (clean i)) (zeroed (clean i))
 
 -- The places, seen from where the counts are tallied.
-abbrev listing : tie.After-tally-taught → tie.After-index
-listing t = t.before.before.before.before.before.before.before
+abbrev listing : tie.After-tally_taught → tie.After-index
+listing t = t.before.before.before.before.before.before
 
 -- The counts tallied.
-abbrev counts : tie.After-tally-taught → List ℕ
-counts t = t.tally-taught.new.1.1.1.1.0
+abbrev counts : tie.After-tally_taught → List ℕ
+counts t = t.tally_taught.new.counts
 
 -- The words behind them.
-abbrev behind : tie.After-tally-taught → List ℕ
+abbrev behind : tie.After-tally_taught → List ℕ
 behind t = drop (many-at (listing t) - 0) (zeros (clean (listing t)))
 
 -- There are as many counts as entries.
-counted : (t : tie.After-tally-taught) → length (counts t) ≡ many-at (listing t)
+counted : (t : tie.After-tally_taught) → length (counts t) ≡ many-at (listing t)
 counted t =
     let i = listing t in
     let a = begun i in
-    t.tally-taught.auto.1.1.1.1.0 ∙ long i
+    t.tally_taught.auto.counts ∙ long i
     ∙ front_long _ _ (called (slotted a)).requires.0 (called (slotted a)).args.section _ _ a.start.ensures (slotted a).slot.ensures (starts i) _ i.index.ensures
 
 -- The marks that are left.
-abbrev marks : tie.After-tally-taught → List ℕ
-marks t = t.tally-taught.new.1.1.1.1.1.0
+abbrev marks : tie.After-tally_taught → List ℕ
+marks t = t.tally_taught.new.marks
 
 -- There are as many of them.
-marked : (t : tie.After-tally-taught) → length (marks t) ≡ many-at (listing t)
+marked : (t : tie.After-tally_taught) → length (marks t) ≡ many-at (listing t)
 marked t =
     let i = listing t in
     let o : ℕ = 0 in
-    t.tally-taught.auto.1.1.1.1.1.0 ∙ ap length (unmarks (cleaner i)) ∙ length-replicate (many-at i) o
+    t.tally_taught.auto.marks ∙ ap length (unmarks (cleaner i)) ∙ length-replicate (many-at i) o
 
 -- The counts are lent again from the front of their scratch.
-counts-lent : (t : tie.After-tally-taught) → take (many-at (listing t) - 0) (counts t ++ behind t) ≡ counts t
+counts-lent : (t : tie.After-tally_taught) → take (many-at (listing t) - 0) (counts t ++ behind t) ≡ counts t
 counts-lent t = take_at (counts t) (behind t) (many-at (listing t) - 0) (counted t ∙ omega arith)
 
 -- Their scratch has room for them.
-counts-room : (t : tie.After-tally-taught) → many-at (listing t) ≤ length (counts t ++ behind t)
+counts-room : (t : tie.After-tally_taught) → many-at (listing t) ≤ length (counts t ++ behind t)
 counts-room t = omega (arith, counted t, length-append (counts t) (behind t))
 
-mul-many : tie.Need-overflow-mul-many
+mul-many : tie.Need-offset_bounds-book-slot
 mul-many c = omega (arith, slot_small (called c).args.section, c.slot.ensures)
 
-shared-slice-read-many : tie.Need-shared-slice-read-many
-shared-slice-read-many c = let b = called c.before in slot_within _ _ b.pre.0 b.args.section _ c.before.slot.ensures
+shared-slice-read-many : tie.Need-bounds-book-slot
+shared-slice-read-many c = let b = called c.before in slot_within _ _ b.requires.0 b.args.section _ c.slot.ensures
 
-cast-many : tie.Need-overflow-cast-many
-cast-many c = omega (arith, c.shared-slice-known2.given c.before.slot.result)
+cast-many : tie.Need-overflow_cast-many
+cast-many c = omega (arith, c.shared_slice_known-2-1.given c.slot.result)
 
-part-clear-end : tie.Need-slice-bounds-clear-end
+part-clear-end : tie.Need-slice_bounds-clear-end
 part-clear-end c = counts-fit c.before
 
-part-clear-end-2 : tie.Need-slice-bounds-clear-end-2
+part-clear-end-2 : tie.Need-slice_bounds-clear-end-2
 part-clear-end-2 c = marks-fit c.before.before.before.before.before
 
 index-requires : tie.Need-index-requires
 index-requires c κs =
-    let a = c.before in
-    let b = called (slotted a) in
-    (within a, (b.pre.0.short, starts_fit (slotted a)))
+    let b = called (slotted c.before) in
+    (within c.before, (b.requires.0.short, starts_fit (slotted c.before)))
 
-part-tally-taught-end : tie.Need-slice-bounds-tally-taught-end
-part-tally-taught-end c = starts-room c.before.before.before
+part-tally-taught-end : tie.Need-slice_bounds-tally_taught-end
+part-tally-taught-end c = starts-room c.before.before
 
-part-tally-taught-end-2 : tie.Need-slice-bounds-tally-taught-end-2
+part-tally-taught-end-2 : tie.Need-slice_bounds-tally_taught-end-2
 part-tally-taught-end-2 c =
-    let z = first-clean c.before.before.before.before.before.before.before.before.before in
+    let z = first-clean c.before.before.before.before.before.before.before.before in
     zeros-room (told (worded z)) (called (worded z)).args.counts.now _ (counts-fit (worded z)) z.clear.ensures
 
-part-tally-taught-end-3 : tie.Need-slice-bounds-tally-taught-end-3
+part-tally-taught-end-3 : tie.Need-slice_bounds-tally_taught-end-3
 part-tally-taught-end-3 c =
-    let y = c.before.before.before.before.before.before.before.before.before.before in
-    let w = worded (first-clean y) in
-    zeros-room (told w) (called w).args.marks.now _ (marks-fit w) y.clear2.ensures
+    let w = worded (first-clean c.before.before.before.before.before.before.before.before.before) in
+    zeros-room (told w) (called w).args.marks.now _ (marks-fit w) c.clear-2.ensures
 
-tally-taught-requires : tie.Need-tally-taught-requires
+tally-taught-requires : tie.Need-tally_taught-requires
 tally-taught-requires c κs =
-    let i = c.before.before.before.before.before.before in
-    let b = called (slotted (begun i)) in
-    (b.pre.0, (indexed i, ((long i, few i), no-marks i)))
+    let b = called (slotted (begun c.before.before.before.before.before)) in
+    (b.requires.0, (indexed c.before.before.before.before.before, ((long c.before.before.before.before.before, few c.before.before.before.before.before), no-marks c.before.before.before.before.before)))
 
-returns : tie.Need-returns
+returns : tie.Need-returns-then-not-tally_taught
 returns c =
-    let t = c.before.before.before.before.before in
-    let i = listing t in
+    let i = listing c.before.before.before.before.before in
     let a = begun i in
     unknown-disagrees _ _ (called (slotted a)).requires.0 (called (slotted a)).args.section _ _ a.start.ensures (slotted a).slot.ensures (starts i) _ i.index.ensures
-    (zeros (clean i)) (zeroed (clean i)) (sym t.tally-taught.ensures.0 ∙ not-true _ c.if1.true)
+    (zeros (clean i)) (zeroed (clean i)) (sym c.tally_taught.ensures.0 ∙ c.if-not-tally_taught.true)
 
-part-same-counts-end : tie.Need-slice-bounds-same-counts-end
-part-same-counts-end c = starts-room c.before.before.before.before.before.before.before.before.before.before.before.before.before
+part-same-counts-end : tie.Need-slice_bounds-same_counts-end
+part-same-counts-end c = starts-room c.before.before.before.before.before.before.before.before.before.before.before
 
-part-same-counts-end-2 : tie.Need-slice-bounds-same-counts-end-2
-part-same-counts-end-2 c = counts-room c.before.before.before.before.before.before.before.before
+part-same-counts-end-2 : tie.Need-slice_bounds-same_counts-end-2
+part-same-counts-end-2 c = counts-room c.before.before.before.before.before.before
 
-same-counts-requires : tie.Need-same-counts-requires
+same-counts-requires : tie.Need-same_counts-requires
 same-counts-requires c κs =
-    let t = c.before.before.before.before.before.before.before.before.before in
-    (indexed (listing t), ap length (counts-lent t) ∙ t.tally-taught.auto.1.1.1.1.0 ∙ long (listing t))
+    (indexed (listing c.before.before.before.before.before.before.before), ap length (counts-lent c.before.before.before.before.before.before.before) ∙ c.tally_taught.auto.counts ∙ long (listing c.before.before.before.before.before.before.before))
 
-same-length-5 : tie.Need-same-length-5
+same-length-5 : tie.Need-shape_of-counts
 same-length-5 c =
-    let t = c.before.before.before.before.before.before.before.before.before.before in
-    let z = clean (listing t) in
-    zeros-kept (told (worded z)) (called (worded z)).args.counts.now _ (counts-fit (worded z)) z.clear.ensures (counts t) (counted t)
+    let z = clean (listing c.before.before.before.before.before.before.before.before) in
+    zeros-kept (told (worded z)) (called (worded z)).args.counts.now _ (counts-fit (worded z)) z.clear.ensures (counts c.before.before.before.before.before.before.before.before) (counted c.before.before.before.before.before.before.before.before)
 
-same-length-6 : tie.Need-same-length-6
+same-length-6 : tie.Need-shape_of-marks
 same-length-6 c =
-    let t = c.before.before.before.before.before.before.before.before.before.before in
-    let y = cleaner (listing t) in
+    let y = cleaner (listing c.before.before.before.before.before.before.before.before) in
     let w = worded (first-clean y) in
-    zeros-kept (told w) (called w).args.marks.now _ (marks-fit w) y.clear2.ensures (marks t) (marked t)
+    zeros-kept (told w) (called w).args.marks.now _ (marks-fit w) y.clear-2.ensures (marks c.before.before.before.before.before.before.before.before) (marked c.before.before.before.before.before.before.before.before)
 
-returns-2 : tie.Need-returns-2
+returns-2 : tie.Need-returns
 returns-2 c =
-    let t = c.before.before.before.before.before.before.before.before.before.before in
-    let i = listing t in
+    let i = listing c.before.before.before.before.before.before.before.before in
     let a = begun i in
-    let known = not-false _ c.before.before.before.before.before.if1.false in
+    let known = c.if-not-tally_taught.false in
     known-agrees _ _ (called (slotted a)).requires.0 (called (slotted a)).args.section _ _ a.start.ensures (slotted a).slot.ensures (starts i) _ i.index.ensures
-    (zeros (clean i)) (zeroed (clean i)) _ _ (sym t.tally-taught.ensures.0 ∙ known) (counts-lent t ∙ t.tally-taught.ensures.1.0 known) c.same-counts.ensures
+    (zeros (clean i)) (zeroed (clean i)) _ _ (sym c.tally_taught.ensures.0 ∙ known) (counts-lent c.before.before.before.before.before.before.before.before ∙ c.tally_taught.ensures.1.0 known) c.same_counts.ensures
 
-pub section-agrees-spec : {M : Type 1} → statement M
-section-agrees-spec =
+pub section_agrees_spec : {M : Type 1} → statement M
+section_agrees_spec =
     tie.close
     (tie.spec
-    (λ c κs. search rules)
+    (λ c. search rules)
     mul-many
     shared-slice-read-many
     cast-many
-    (λ c. search rules) (λ c. search rules)
+    (λ c. search rules)
+    (λ c. search rules)
     part-clear-end
-    (λ c κs. search rules) (λ c. search rules) (λ c. search rules)
+    (λ c. search rules)
+    (λ c. search rules)
+    (λ c. search rules)
     part-clear-end-2
-    (λ c κs. search rules) (λ c κs. search rules)
+    (λ c. search rules)
+    (λ c. search rules)
     index-requires
-    (λ c. search rules) (λ c. search rules)
+    (λ c. search rules)
+    (λ c. search rules)
     part-tally-taught-end
-    (λ c. search rules) (λ c. search rules)
+    (λ c. search rules)
+    (λ c. search rules)
     part-tally-taught-end-2
-    (λ c. search rules) (λ c. search rules)
+    (λ c. search rules)
+    (λ c. search rules)
     part-tally-taught-end-3
     tally-taught-requires
-    (λ c. search rules) (λ c. search rules) (λ c. search rules)
+    (λ c. search rules)
+    (λ c. search rules)
+    (λ c. search rules)
     returns
-    (λ c. search rules) (λ c. search rules)
+    (λ c. search rules)
+    (λ c. search rules)
     part-same-counts-end
-    (λ c. search rules) (λ c. search rules)
+    (λ c. search rules)
+    (λ c. search rules)
     part-same-counts-end-2
     same-counts-requires
     (λ c. search rules)

@@ -37,64 +37,65 @@ module _ (b : Book) where
 -- ---- at each place
 
 -- What the function was called with, seen from where R is looked at.
-abbrev called : tie.After-section-agrees → tie.Start
+abbrev called : tie.After-section_agrees → tie.Start
 called r = r.before.before.before.before.before.before.before.before
 
 -- Where R was looked at, seen from where L is.
-abbrev at-tops : tie.After-section-agrees2 → tie.After-section-agrees
+abbrev at-tops : tie.After-section_agrees-2 → tie.After-section_agrees
 at-tops l = l.before.before.before.before.before.before.before.before.before.before.before
 
 -- Where L was looked at, seen from where P is.
-abbrev at-lows : tie.After-section-agrees3 → tie.After-section-agrees2
+abbrev at-lows : tie.After-section_agrees-3 → tie.After-section_agrees-2
 at-lows p = p.before.before.before.before.before.before.before.before.before.before.before
 
-section-agrees-requires : tie.Need-section-agrees-requires
-section-agrees-requires c κs = let s = c.before.before.before.before.before.before.before.requires in (s.0, (s.1.0 Tops, (s.1.1.0 Tops, s.1.1.1 Tops)))
+section-agrees-requires : tie.Need-section_agrees-requires
+section-agrees-requires c κs = let s = c.requires in (s.0, (s.1.0 Tops, (s.1.1.0 Tops, s.1.1.1 Tops)))
 
-returns : tie.Need-returns
+returns : tie.Need-returns-then-not-section_agrees
 returns c =
-    let r = c.before.before.before.before.before.before.before in
-    tops-fail _ (sym r.section-agrees.ensures ∙ not-true _ c.if1.true)
+    tops-fail _ (sym c.section_agrees.ensures ∙ c.if-not-section_agrees.true)
 
-section-agrees-requires-2 : tie.Need-section-agrees-requires-2
+section-agrees-requires-2 : tie.Need-section_agrees-requires-2
 section-agrees-requires-2 c κs =
-    let r = c.before.before.before.before.before.before.before.before.before.before in
-    let k = r.section-agrees.auto in
-    let s = (called r).requires in
-    (s.0, (omega (arith, k.1.1.1.0, s.1.0 Lows), (omega (arith, k.1.1.1.1.0, s.1.1.0 Lows), omega (arith, k.1.1.1.1.1.0, s.1.1.1 Lows))))
+    let k = c.section_agrees.auto in
+    let s = (called c.before.before.before.before.before.before.before.before.before.before).requires in
+    (s.0, (omega (arith, k.starts, s.1.0 Lows), (omega (arith, k.counts, s.1.1.0 Lows), omega (arith, k.marks, s.1.1.1 Lows))))
 
-returns-2 : tie.Need-returns-2
+returns-2 : tie.Need-returns-then-not-section_agrees-2
 returns-2 c =
-    let l = c.before.before.before.before.before.before.before in
-    lows-fail _ (sym l.section-agrees2.ensures ∙ not-true _ c.if2.true)
+    lows-fail _ (sym c.section_agrees-2.ensures ∙ c.if-not-section_agrees-2.true)
 
-section-agrees-requires-3 : tie.Need-section-agrees-requires-3
+section-agrees-requires-3 : tie.Need-section_agrees-requires-3
 section-agrees-requires-3 c κs =
-    let l = c.before.before.before.before.before.before.before.before.before.before in
-    let k₁ = (at-tops l).section-agrees.auto in
-    let k₂ = l.section-agrees2.auto in
-    let s = (called (at-tops l)).requires in
-    (s.0, (omega (arith, k₂.1.1.1.0, k₁.1.1.1.0, s.1.0 Middles), (omega (arith, k₂.1.1.1.1.0, k₁.1.1.1.1.0, s.1.1.0 Middles), omega (arith, k₂.1.1.1.1.1.0, k₁.1.1.1.1.1.0, s.1.1.1 Middles))))
+    let k₁ = (at-tops c.before.before.before.before.before.before.before.before.before.before).section_agrees.auto in
+    let k₂ = c.section_agrees-2.auto in
+    let s = (called (at-tops c.before.before.before.before.before.before.before.before.before.before)).requires in
+    (s.0, (omega (arith, k₂.starts, k₁.starts, s.1.0 Middles), (omega (arith, k₂.counts, k₁.counts, s.1.1.0 Middles), omega (arith, k₂.marks, k₁.marks, s.1.1.1 Middles))))
 
-returns-3 : tie.Need-returns-3
+returns-3 : tie.Need-returns
 returns-3 c =
-    let p = c.before.before.before.before.before.before in
-    let l = at-lows p in
+    let l = at-lows c.before.before.before.before.before.before in
     let r = at-tops l in
-    let tops = sym r.section-agrees.ensures ∙ not-false _ l.before.before.before.before.if1.left in
-    let lows = sym l.section-agrees2.ensures ∙ not-false _ p.before.before.before.before.if2.false in
-    p.section-agrees3.ensures ∙ middles-tell _ tops lows
+    let tops = sym r.section_agrees.ensures ∙ l.if-not-section_agrees.false in
+    let lows = sym l.section_agrees-2.ensures ∙ c.if-not-section_agrees-2.false in
+    c.section_agrees-3.ensures ∙ middles-tell _ tops lows
 
-pub sections-agree-spec : {M : Type 1} → statement M
-sections-agree-spec =
+pub sections_agree_spec : {M : Type 1} → statement M
+sections_agree_spec =
     tie.close
     (tie.spec
     section-agrees-requires
-    (λ c. search rules) (λ c. search rules) (λ c. search rules)
+    (λ c. search rules)
+    (λ c. search rules)
+    (λ c. search rules)
     returns
     section-agrees-requires-2
-    (λ c. search rules) (λ c. search rules) (λ c. search rules)
+    (λ c. search rules)
+    (λ c. search rules)
+    (λ c. search rules)
     returns-2
     section-agrees-requires-3
-    (λ c. search rules) (λ c. search rules) (λ c. search rules)
+    (λ c. search rules)
+    (λ c. search rules)
+    (λ c. search rules)
     returns-3)

@@ -18,54 +18,56 @@ use Rattle.book_choose.proofs.choose.Statement.{statement}
 use Rattle.book_choose.proofs.choose.Tie as tie
 
 -- What was judged.
-judged : (c : tie.After-judge) → let a = c.before.before.before.before.args in c.judge.result.answer ≡ judge_of a.book.now a.order.now
-judged c = ap (λ (j : Judgement). j.answer) c.judge.ensures
+judged : (c : tie.After-judge-judged) → let a = c.args in c.judge-judged.result.answer ≡ judge_of a.book.now a.order.now
+judged c = ap (λ (j : Judgement). j.answer) c.judge-judged.ensures
 
 -- Its number.
-number : (c : tie.After-judge) → let a = c.before.before.before.before.args in c.judge.result.answer.number ≡ (judge_of a.book.now a.order.now).number
+number : (c : tie.After-judge-judged) → let a = c.args in c.judge-judged.result.answer.number ≡ (judge_of a.book.now a.order.now).number
 number c = ap (λ (a : Answer). a.number) (judged c)
 
-returns : tie.Need-returns
-returns c = let j = c.before.before.before in ap refused_by (judged j) ∙ sym (choose_judges _ _ _ (λ e. c.if1.true (number j ∙ e)))
+returns : tie.Need-returns-then-answer-ne-DONE
+returns c = ap refused_by (judged c.before.before.before) ∙ sym (choose_judges _ _ _ (λ e. c.if-answer-ne-DONE.true (number c.before.before.before ∙ e)))
 
 -- Past the first test the order passes.
-passes : (c : tie.Else1) → let a = c.before.before.before.before.before.before.before.args in Passed a.book.now a.order.now a.rules.now
-passes c = passed _ _ _ (sym (number c.before.before.before) ∙ c.if1.false)
+passes : (c : tie.Else-answer-ne-DONE) → let a = c.args in Passed a.book.now a.order.now a.rules.now
+passes c = passed _ _ _ (sym (number c.before.before.before) ∙ c.if-answer-ne-DONE.false)
 
-shared-slice-read-new : tie.Need-shared-slice-read-new
+shared-slice-read-new : tie.Need-bounds-book-0
 shared-slice-read-new c = omega (arith, (passes c.before).long)
 
-returns-2 : tie.Need-returns-2
+returns-2 : tie.Need-returns-in_default
 returns-2 c =
-    let n = c.before.before.before in
-    let p = passes n.before.before in
-    no_test (sym (outside _ _ n.new.ensures c.before.enum_told.given.1) ∙ and_both (le-leb _ _ p.least) (le-leb _ _ p.greatest))
+    let p = passes c.before.before.before.before in
+    no_test (sym (outside _ _ c.new.ensures c.in_default.is) ∙ and_both (le-leb _ _ p.least) (le-leb _ _ p.greatest))
 
 -- k is the book's.
-depth : (c : tie.After-known-told) → let a = c.before.before.before.before.before.before.before.before.before.before.before.before.args in c.before.k.given.0.0.k ≡ get_or a.book.now k_word 0
-depth c = (allowed _ _ c.before.before.before.new.ensures _ c.before.k.given.1).0
+depth : (c : tie.In-Allowed) → let a = c.args in c.in-Allowed.k.k ≡ get_or a.book.now k_word 0
+depth c = (allowed _ _ c.new.ensures _ c.in-Allowed.is).0
 
-image-for-requires : tie.Need-image-for-requires
+image-for-requires : tie.Need-image_for-requires
 image-for-requires c κs =
-    let p = passes c.before.before.before.before.before in
+    let p = passes c.before.before.before in
     (p.sound, (omega (arith, p.least, depth c), omega (arith, p.greatest, depth c)))
 
-returns-3 : tie.Need-returns-3
+returns-3 : tie.Need-returns
 unfolding chosen_for
 returns-3 c =
-    let a = c.before.before.before.before.before.before.before.before.before.before.before.before.before.args in
-    c.image-for.ensures
+    let a = c.args in
+    c.image_for.ensures
     ∙ ap (λ (k : ℕ). chosen_for k a.order.now a.rules.now) (depth c.before)
-    ∙ sym (passes c.before.before.before.before.before.before).is
+    ∙ sym (passes c.before.before.before.before).is
 
 pub choose_spec : {M : Type 1} → statement M
 choose_spec =
     tie.close
     (tie.spec
-    (λ c κs. search rules)
+    (λ c. search rules)
     returns
     shared-slice-read-new
-    (λ c κs. search rules) (λ c. search rules) (λ c. search rules) (λ c κs. search rules)
+    (λ c. search rules)
+    (λ c. search rules)
+    (λ c. search rules)
+    (λ c. search rules)
     returns-2
     image-for-requires
     returns-3)

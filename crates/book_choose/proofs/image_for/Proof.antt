@@ -7,24 +7,27 @@ use Rattle.book_choose.proofs.image_for.Statement.{statement}
 use Rattle.book_choose.proofs.image_for.Tie as tie
 
 -- The order was gone over.
-gone-over : (c : tie.After-cause-into) → GoneOver c.before.before.before.before.args.order.now c.cause-into.new.1.0
-gone-over c = c.cause-into.ensures.1.0 c.before.before.before.before.requires.0
+gone-over : (c : tie.After-cause_into) → GoneOver c.args.order.now c.cause_into.new.spans
+gone-over c = c.cause_into.ensures.1.0 c.requires.0
 
-level-lines-requires : tie.Need-level-lines-requires
-level-lines-requires c κs = let o = c.before.before.before in (gone-over o, omega (arith, passed-short _ o.before.before.before.before.requires.0))
+level-lines-requires : tie.Need-level_lines-requires
+level-lines-requires c κs = (gone-over c.before.before.before, omega (arith, passed-short _ c.requires.0))
 
-by-rules-requires : tie.Need-by-rules-requires
+by-rules-requires : tie.Need-by_rules-requires
 by-rules-requires c κs =
-    let l = c.before.before.before in
-    let o = l.before.before.before.before in
-    (gone-over o, (l.level-lines.ensures.0, o.before.before.before.before.requires.1))
+    
+    (gone-over c.before.before.before.before.before.before.before, (c.level_lines.ensures.0, c.requires.1))
 
-pub image-for-spec : {M : Type 1} → statement M
-image-for-spec =
+pub image_for_spec : {M : Type 1} → statement M
+image_for_spec =
     tie.close
     (tie.spec
-    (λ c. search rules) (λ c κs. search rules) (λ c. search rules) (λ c. search rules)
+    (λ c. search rules)
+    (λ c. search rules)
+    (λ c. search rules)
+    (λ c. search rules)
     level-lines-requires
-    (λ c. search rules) (λ c. search rules)
+    (λ c. search rules)
+    (λ c. search rules)
     by-rules-requires
     (λ c. search rules))

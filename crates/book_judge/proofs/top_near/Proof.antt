@@ -25,48 +25,46 @@ short : (s : tie.Start) (d : ℕ) → length (cut_of s.args.order.now 0 d) ≤ m
 short s d = line-short _ 0 d s.requires.1.0.sound (first-line _ (tree s).tree (tree s).passes)
 
 -- The words that were written are those of the top.
-key : (c : tie.After-cut2) → let s = c.before.before.before.before.before.before.before.before in take (c.before.put-cut.result - 0) (drop 0 c.before.put-cut.new.1.1.1.1.1.0) ≡ words (top s.args.places.k.k (tree s).tree)
+key : (c : tie.After-cut-2-1) → take (c.put_cut-count.result - 0) (drop 0 c.put_cut-count.new.out) ≡ words (top c.args.places.k.k (tree c.before.before.before.before.before.before.before.before.before).tree)
 key c =
-    let s = c.before.before.before.before.before.before.before.before in
-    let m = c.before.before.before.of-tops in
-    let w = c.before.put-cut in
-    top_key _ _ (tree s).passes m.result _ _ _ _ m.ensures w.ensures.0 w.ensures.1
+    let m = c.of_tops in
+    let w = c.put_cut-count in
+    top_key _ _ (tree c.before.before.before.before.before.before.before.before.before).passes m.result _ _ _ _ m.ensures w.ensures.0 w.ensures.1
 
-put-cut-requires : tie.Need-put-cut-requires
+put-cut-requires : tie.Need-put_cut-count-requires
 put-cut-requires c κs =
-    let s = c.before.before.before.before.before.before in
-    (s.requires.1.0, (s.requires.1.1, (first-line _ (tree s).tree (tree s).passes, short s c.before.of-tops.result)))
+    (c.requires.1.0, (c.requires.1.1, (first-line _ (tree c.before.before.before.before.before.before.before).tree (tree c.before.before.before.before.before.before.before).passes, short c.before.before.before.before.before.before.before c.of_tops.result)))
 
-shared-slice-read-many : tie.Need-shared-slice-read-many
-shared-slice-read-many c = omega (arith, c.before.before.before.before.before.before.before.before.before.requires.0.long)
+shared-slice-read-many : tie.Need-bounds-book-4
+shared-slice-read-many c = omega (arith, c.requires.0.long)
 
-cast-many : tie.Need-overflow-cast-many
-cast-many c = omega (arith, c.shared-slice-known5.given 4)
+cast-many : tie.Need-overflow_cast-many
+cast-many c = omega (arith, c.shared_slice_known-5-1.given 4)
 
-part-find-end : tie.Need-slice-bounds-find-end
+part-find-end : tie.Need-slice_bounds-find-end
 part-find-end c =
-    let p = c.before.before.before in
-    omega (arith, p.put-cut.auto.1.1.1.1.1.0, p.put-cut.ensures.0, short p.before.before.before.before.before.before.before p.before.before.of-tops.result)
+    omega (arith, c.put_cut-count.auto.out, c.put_cut-count.ensures.0, short c.before.before.before.before.before.before.before.before.before.before c.of_tops.result)
 
 find-requires : tie.Need-find-requires
-find-requires c κs = (c.before.before.before.before.before.before.before.before.before.before.before.requires.0.section Tops).within
+find-requires c κs = (c.requires.0.section Tops).within
 
 returns : tie.Need-returns
 returns c =
-    let s = c.before.before.before.before.before.before.before.before.before.before.before.before.before in
-    c.around.ensures ∙ ap near_in c.before.find.ensures
-    ∙ top-found _ _ _ _ s.requires.0 (tree s).passes _ _ (key c.before.before.before.before.before) refl
+    c.around.ensures ∙ ap near_in c.find.ensures
+    ∙ top-found _ _ _ _ c.requires.0 (tree c.before.before.before.before.before.before.before.before.before.before.before.before.before).passes _ _ (key c.before.before.before.before) refl
 
-pub top-near-spec : {M : Type 1} → statement M
-top-near-spec =
+pub top_near_spec : {M : Type 1} → statement M
+top_near_spec =
     tie.close
     (tie.spec
-    (λ c κs. search rules) (λ c. search rules)
+    (λ c. search rules)
+    (λ c. search rules)
     put-cut-requires
     shared-slice-read-many
     cast-many
-    (λ c. search rules) (λ c. search rules)
+    (λ c. search rules)
+    (λ c. search rules)
     part-find-end
     find-requires
-    (λ c κs. search rules)
+    (λ c. search rules)
     returns)

@@ -7,26 +7,31 @@ use borrow.Author.Rules.{rules}
 use Rattle.desk_call.proofs.ask.Statement.{statement}
 use Rattle.desk_call.proofs.ask.Tie as tie
 
-enum_told : tie.Need-enum-told
+enum_told : tie.Need-enum_told-1
 enum_told c = search rules
 
-returns : tie.Need-returns
-returns c = c.before.before.teach.ensures ∙ sym (asks-teaching _ _ _ c.before.before.before.before.enum_told.given.1)
+returns : tie.Need-returns-in-Teach
+returns c = c.teach.ensures ∙ sym (asks-teaching _ _ _ c.in-Teach.is)
 
-returns-2 : tie.Need-returns-2
-returns-2 c = c.before.before.withdraw.ensures ∙ sym (asks-withdrawing _ _ _ c.before.before.before.before.enum-told2.given.1)
+returns-2 : tie.Need-returns-in-Withdraw
+returns-2 c = c.withdraw.ensures ∙ sym (asks-withdrawing _ _ _ c.in-Withdraw.is)
 
-returns-3 : tie.Need-returns-3
+returns-3 : tie.Need-returns-in-Judge
 returns-3 c =
-    ap (λ (r : Judgement). outcome r.answer c.before.before.before.before.before.before.before.args.book.now) c.before.judge.ensures
-    ∙ sym (asks-judging _ _ _ c.before.before.before.enum-told3.given.1)
+    ap (λ (r : Judgement). outcome r.answer c.args.book.now) c.judge-judged.ensures
+    ∙ sym (asks-judging _ _ _ c.in-Judge.is)
 
-pub ask-spec : {M : Type 1} → statement M
-ask-spec =
+pub ask_spec : {M : Type 1} → statement M
+ask_spec =
     tie.close
     (tie.spec
     enum_told
-    (λ c κs. search rules) (λ c. search rules) (λ c κs. search rules) (λ c. search rules) (λ c κs. search rules) (λ c. search rules)
+    (λ c. search rules)
+    (λ c. search rules)
+    (λ c. search rules)
+    (λ c. search rules)
+    (λ c. search rules)
+    (λ c. search rules)
     returns
     (λ c. search rules)
     returns-2

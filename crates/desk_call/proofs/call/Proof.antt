@@ -5,24 +5,27 @@ use borrow.Author.Rules.{rules}
 use Rattle.desk_call.proofs.call.Statement.{statement}
 use Rattle.desk_call.proofs.call.Tie as tie
 
-returns : tie.Need-returns
-returns c = call_refused _ _ _ _ _ _ refl c.before.before.before.read.ensures c.if1.true
+returns : tie.Need-returns-then-read-ne-DONE
+returns c = call_refused _ _ _ _ _ _ refl c.read-read.ensures c.if-read-ne-DONE.true
 
-part-ask-end : tie.Need-slice-bounds-ask-end
-part-ask-end c = read-room _ _ _ _ refl c.before.before.before.before.before.read.ensures c.before.before.if1.false
+part-ask-end : tie.Need-slice_bounds-ask-end
+part-ask-end c = read-room _ _ _ _ refl c.read-read.ensures c.if-read-ne-DONE.false
 
-returns-2 : tie.Need-returns-2
+returns-2 : tie.Need-returns
 returns-2 c =
-    c.before.before.ask.ensures
-    ∙ call_asked _ _ _ _ _ _ refl c.before.before.before.before.before.before.before.before.before.read.ensures c.before.before.before.before.before.before.if1.false
+    c.ask.ensures
+    ∙ call_asked _ _ _ _ _ _ refl c.read-read.ensures c.if-read-ne-DONE.false
 
-pub call-spec : {M : Type 1} → statement M
-call-spec =
+pub call_spec : {M : Type 1} → statement M
+call_spec =
     tie.close
     (tie.spec
-    (λ c. search rules) (λ c κs. search rules)
+    (λ c. search rules)
+    (λ c. search rules)
     returns
-    (λ c. search rules) (λ c. search rules)
+    (λ c. search rules)
+    (λ c. search rules)
     part-ask-end
-    (λ c κs. search rules) (λ c. search rules)
+    (λ c. search rules)
+    (λ c. search rules)
     returns-2)
