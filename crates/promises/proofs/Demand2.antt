@@ -120,6 +120,7 @@ top-code (node c f) g = g.0.1
 -- Each of some lines stands in their text.
 spelt-stands : (xs : List Line) (x : Line) → x ∈ xs → LineStands (spell xs) x
 unfolding spell line_text
+spelt-stands [] x x3 = elim x3 [ ]
 spelt-stands (y ∷ ys) x (here e) = record { front = []; rest = spell ys; is = rw e (append_assoc (level_text y.level) (code_text y.code) (spell ys)) }
 spelt-stands (y ∷ ys) x (there m) =
     let s = spelt-stands ys x m in

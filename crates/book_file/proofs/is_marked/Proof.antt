@@ -9,26 +9,26 @@ use borrow.Author.Rules.{rules}
 use Rattle.book_file.proofs.is_marked.Statement.{statement}
 use Rattle.book_file.proofs.is_marked.Tie as tie
 
-returns : tie.Need-returns
-returns c = sym (mark-short c.before.args.file.now (omega arith))
+returns : tie.Need-returns-then-file-lt-FRONT_BYTES
+returns c = sym (mark-short c.args.file.now (omega arith))
 
-returns-2 : tie.Need-returns-2
+returns-2 : tie.Need-returns-then-file-ne79
 returns-2 c =
-    let file = c.before.before.before.args.file.now in
-    sym (mark-by file (omega arith) ∙ fails_left _ _ (ne_eqb (get_or file 0 0) 79 c.if2.true))
+    let file = c.args.file.now in
+    sym (mark-by file (omega arith) ∙ fails_left _ _ (ne_eqb (get_or file 0 0) 79 c.if-file-ne79.true))
 
-returns-3 : tie.Need-returns-3
+returns-3 : tie.Need-returns-then-file-ne70
 returns-3 c =
-    let file = c.before.before.before.before.before.args.file.now in
-    sym (mark-by file (omega arith) ∙ fails_right _ _ (fails_left _ _ (ne_eqb (get_or file 1 0) 70 c.if3.true)))
+    let file = c.args.file.now in
+    sym (mark-by file (omega arith) ∙ fails_right _ _ (fails_left _ _ (ne_eqb (get_or file 1 0) 70 c.if-file-ne70.true)))
 
-returns-4 : tie.Need-returns-4
+returns-4 : tie.Need-returns
 returns-4 c =
-    let file = c.before.before.before.before.before.before.args.file.now in
-    sym (mark-last file (omega arith) (eq-eqb (get_or file 0 0) 79 c.before.before.before.if2.false) (eq-eqb (get_or file 1 0) 70 c.before.if3.false))
+    let file = c.args.file.now in
+    sym (mark-last file (omega arith) (eq-eqb (get_or file 0 0) 79 c.if-file-ne79.false) (eq-eqb (get_or file 1 0) 70 c.if-file-ne70.false))
 
-pub is-marked-spec : {M : Type 1} → statement M
-is-marked-spec =
+pub is_marked_spec : {M : Type 1} → statement M
+is_marked_spec =
     tie.close
     (tie.spec
     returns

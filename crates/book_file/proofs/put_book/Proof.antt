@@ -26,13 +26,17 @@ cleared words book l ys fits is zeros =
 
 returns : tie.Need-returns
 returns c =
-    let x = c.before.before.before.before.before.before.before.before.before.before in
-    cleared x.args.words.now x.args.book.now _ _ x.requires c.before.before.before.before.before.before.copy.ensures c.before.before.clear.ensures
+    cleared c.args.words.now c.args.book.now _ _ c.requires c.copy.ensures c.clear.ensures
 
-pub put-book-spec : {M : Type 1} → statement M
-put-book-spec =
+pub put_book_spec : {M : Type 1} → statement M
+put_book_spec =
     tie.close
     (tie.spec
-    (λ c κs. search rules) (λ c. search rules) (λ c. search rules) (λ c. search rules) (λ c. search rules) (λ c κs. search rules)
+    (λ c. search rules)
+    (λ c. search rules)
+    (λ c. search rules)
+    (λ c. search rules)
+    (λ c. search rules)
+    (λ c. search rules)
     (λ c. search rules)
     returns)

@@ -6,16 +6,19 @@ use Rattle.book_filing.proofs.Writing.{front-stores}
 use Rattle.book_file.proofs.put_front.Statement.{statement}
 use Rattle.book_file.proofs.put_front.Tie as tie
 
-same_length : tie.Need-same-length
-same_length c = ap length c.before.before.put_word.ensures ∙ simp length-set
+same_length : tie.Need-shape_of-out
+same_length c = ap length c.put_word.ensures ∙ simp length-set
 
 returns : tie.Need-returns
-returns c = c.before.before.put_word.ensures ∙ front-stores c.before.before.before.before.before.args.out.now c.before.before.before.before.before.requires
+returns c = c.put_word.ensures ∙ front-stores c.args.out.now c.requires
 
-pub put-front-spec : {M : Type 1} → statement M
-put-front-spec =
+pub put_front_spec : {M : Type 1} → statement M
+put_front_spec =
     tie.close
     (tie.spec
-    (λ c. search rules) (λ c. search rules) (λ c. search rules) (λ c κs. search rules)
+    (λ c. search rules)
+    (λ c. search rules)
+    (λ c. search rules)
+    (λ c. search rules)
     same_length
     returns)

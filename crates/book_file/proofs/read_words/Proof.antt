@@ -15,67 +15,67 @@ use Rattle.book_file.proofs.read_words.Statement.{statement}
 use Rattle.book_file.proofs.read_words.Tie as tie
 
 -- The words.
-abbrev words : tie.After-known-told → List ℕ
-words t = t.before.before.before.before.before.before.args.words.now
+abbrev words : tie.In-InForm → List ℕ
+words t = t.args.words.now
 
 -- The slice as it came.
-abbrev slice : tie.After-known-told → List ℕ
-slice t = t.before.before.before.before.before.before.args.book.now
+abbrev slice : tie.In-InForm → List ℕ
+slice t = t.args.book.now
 
 -- Where the sections start.
-abbrev places : tie.After-known-told → Places
-places t = t.before.places.given.0.0
+abbrev places : tie.In-InForm → Places
+places t = t.in-InForm.places
 
 -- The words are a book in form, with its sections there.
-formed : (t : tie.After-known-told) → book_form_of (words t) ≡ InForm (places t)
-formed t = sym t.before.before.before.in_form_lem.ensures ∙ t.before.places.given.1
+formed : (t : tie.In-InForm) → book_form_of (words t) ≡ InForm (places t)
+formed t = sym t.in_form.ensures ∙ t.in-InForm.is
 
-enum_told : tie.Need-enum-told
+enum_told : tie.Need-enum_told-1
 enum_told c = search rules
 
-returns : tie.Need-returns
+returns : tie.Need-returns-in_default
 returns c =
-    let a = c.before.before.before.before.before.before.args in
+    let a = c.args in
     ap (λ (r : Answer). outcome r a.book.now) c.answered.ensures
-    ∙ sym (restore_refused a.words.now a.book.now _ (sym c.before.before.before.in_form_lem.ensures ∙ c.before.enum_told.given.1))
+    ∙ sym (restore_refused a.words.now a.book.now _ (sym c.in_form.ensures ∙ c.in_default.is))
 
-stored-number-requires : tie.Need-stored-number-requires
+stored-number-requires : tie.Need-stored_number-number-requires
 stored-number-requires c κs = holds _ _ (formed c)
 
-returns-2 : tie.Need-returns-2
+returns-2 : tie.Need-returns-then-number-ne-DONE
 returns-2 c =
-    let n = c.before.before in
-    let t = n.before in
-    ap (λ (r : Answer). outcome r (slice t)) (c.answered2.ensures ∙ ap answered n.stored-number.ensures)
-    ∙ sym (restore_numbered (words t) (slice t) (places t) (formed t) (λ d. c.before.if1.true (n.stored-number.ensures ∙ d)))
+    
+    ap (λ (r : Answer). outcome r (slice c.before.before.before)) (c.answered-then-number-ne-DONE.ensures ∙ ap answered c.stored_number-number.ensures)
+    ∙ sym (restore_numbered (words c.before.before.before) (slice c.before.before.before) (places c.before.before.before) (formed c.before.before.before) (λ d. c.if-number-ne-DONE.true (c.stored_number-number.ensures ∙ d)))
 
-returns-3 : tie.Need-returns-3
+returns-3 : tie.Need-returns-then-book-words
 returns-3 c =
-    let n = c.before.before.before in
-    let t = n.before in
-    ap (λ (r : Answer). outcome r (slice t)) c.answered3.ensures
-    ∙ sym (restore_short (words t) (slice t) (places t) (formed t) (sym n.stored-number.ensures ∙ c.before.before.if1.false) c.before.if2.true)
+    
+    ap (λ (r : Answer). outcome r (slice c.before.before.before.before)) c.answered-then-book-words.ensures
+    ∙ sym (restore_short (words c.before.before.before.before) (slice c.before.before.before.before) (places c.before.before.before.before) (formed c.before.before.before.before) (sym c.stored_number-number.ensures ∙ c.if-number-ne-DONE.false) c.if-book-words.true)
 
-returns-4 : tie.Need-returns-4
+returns-4 : tie.Need-returns
 returns-4 c =
-    let r = c.before.before.before.before.before in
-    let n = r.before.before in
-    let t = n.before in
-    ap₂ outcome c.answered4.ensures c.before.before.before.put-book.ensures
-    ∙ sym (restore_written (words t) (slice t) (places t) (formed t) (sym n.stored-number.ensures ∙ r.before.if1.false) r.if2.false)
+    
+    
+    ap₂ outcome c.answered-2.ensures c.put_book.ensures
+    ∙ sym (restore_written (words c.before.before.before.before.before.before.before.before) (slice c.before.before.before.before.before.before.before.before) (places c.before.before.before.before.before.before.before.before) (formed c.before.before.before.before.before.before.before.before) (sym c.stored_number-number.ensures ∙ c.if-number-ne-DONE.false) c.if-book-words.false)
 
-pub read-words-spec : {M : Type 1} → statement M
-read-words-spec =
+pub read_words_spec : {M : Type 1} → statement M
+read_words_spec =
     tie.close
     (tie.spec
-    (λ c κs. search rules) (λ c. search rules)
+    (λ c. search rules)
+    (λ c. search rules)
     enum_told
-    (λ c κs. search rules)
+    (λ c. search rules)
     returns
     stored-number-requires
-    (λ c κs. search rules)
+    (λ c. search rules)
     returns-2
-    (λ c κs. search rules)
+    (λ c. search rules)
     returns-3
-    (λ c κs. search rules) (λ c κs. search rules) (λ c. search rules)
+    (λ c. search rules)
+    (λ c. search rules)
+    (λ c. search rules)
     returns-4)

@@ -32,14 +32,18 @@ just-used ws p h e =
     ap (λ (a : Answer). a.number) (check_held ws (book_in ws) (held_book ws p h))
     ∙ ap (λ (t : Bool). if not t then no_stored_book else if agreeing (book_in ws) then done else not_agreeing) (sym (eq-eqb p.used (length ws) e))
 
-returns : tie.Need-returns
-returns c = more-words _ _ c.if1.true
+returns : tie.Need-returns-then-places-words
+returns c = more-words _ _ c.if-places-words.true
 
-check-sections-requires : tie.Need-check-sections-requires
+check-sections-requires : tie.Need-check_sections-requires
 check-sections-requires c κs = search rules
 
-returns-2 : tie.Need-returns-2
-returns-2 c = ap (λ (a : Answer). a.number) c.check-sections.ensures ∙ just-used _ _ c.before.before.before.before.requires c.before.if1.false
+returns-2 : tie.Need-returns
+returns-2 c = ap (λ (a : Answer). a.number) c.check_sections.ensures ∙ just-used _ _ c.requires c.if-places-words.false
 
-pub stored-number-spec : {M : Type 1} → statement M
-stored-number-spec = tie.close (tie.spec returns check-sections-requires returns-2)
+pub stored_number_spec : {M : Type 1} → statement M
+stored_number_spec = tie.close
+    (tie.spec
+    returns
+    check-sections-requires
+    returns-2)

@@ -9,56 +9,65 @@ use Rattle.book_file.proofs.write.Statement.{statement}
 use Rattle.book_file.proofs.write.Tie as tie
 
 -- The words are those of a book that agrees with itself.
-agreed : (c : tie.Else1) → Agreed c.before.before.before.before.args.book.now
-agreed c = checked_agreed _ (sym (ap (λ (a : Answer). a.number) c.before.check.ensures) ∙ c.if1.false)
+agreed : (c : tie.Else-checked-ne-DONE) → Agreed c.args.book.now
+agreed c = checked_agreed _ (sym (ap (λ (a : Answer). a.number) c.check-checked.ensures) ∙ c.if-checked-ne-DONE.false)
 
 -- They tell how long its file is.
-told : (c : tie.Else1) → Telling c.before.before.before.before.args.book.now (agreed c).held
+told : (c : tie.Else-checked-ne-DONE) → Telling c.args.book.now (agreed c).held
 told c = telling _ _ (agreed c).is_book
 
-returns : tie.Need-returns
-returns c = refused-file _ _ _ _ (ap (λ (a : Answer). a.number) c.before.before.check.ensures) c.before.if1.true c.wrote.ensures
+returns : tie.Need-returns-then-checked-ne-DONE
+returns c = refused-file _ _ _ _ (ap (λ (a : Answer). a.number) c.check-checked.ensures) c.if-checked-ne-DONE.true c.wrote.ensures
 
-shared-slice-read-used : tie.Need-shared-slice-read-used
+shared-slice-read-used : tie.Need-bounds-book-1
 shared-slice-read-used c = (told c.before).long
 
-cast-used : tie.Need-overflow-cast-used
-cast-used c = omega (arith, c.shared-slice-known2.given 1)
+cast-used : tie.Need-overflow_cast-used
+cast-used c = omega (arith, c.shared_slice_known-2-1.given 1)
 
-mul-count : tie.Need-overflow-mul-count
-mul-count c = omega (arith, c.shared-slice-known2.given 1)
+mul-count : tie.Need-overflow_mul-count
+mul-count c = omega (arith, c.shared_slice_known-2-1.given 1)
 
-add-count : tie.Need-overflow-add-count
-add-count c = omega (arith, c.shared-slice-known2.given 1)
+add-count : tie.Need-overflow_add-count
+add-count c = omega (arith, c.shared_slice_known-2-1.given 1)
 
-returns-2 : tie.Need-returns-2
+returns-2 : tie.Need-returns-then-out-count
 returns-2 c =
-    let e = c.before.before.before in
-    no_output_room _ _ _ c.wrote2.ensures (omega (arith, (told e).size)) ∙ sym (agreed_file _ _ (agreed e))
+    no_output_room _ _ _ c.wrote-then-out-count.ensures (omega (arith, (told c.before.before.before).size)) ∙ sym (agreed_file _ _ (agreed c.before.before.before))
 
-part-put-words-end : tie.Need-slice-bounds-put-words-end
+part-put-words-end : tie.Need-slice_bounds-put_words-end
 part-put-words-end c = (told c.before.before.before.before.before.before).fits
 
-returns-3 : tie.Need-returns-3
+returns-3 : tie.Need-returns
 returns-3 c =
-    let k = c.before.before.before.before.before.before.before.before in
-    let e = k.before.before.before.before in
-    has_room _ _ _ _ _ c.wrote3.ensures (told e).size k.before.before.if2.false (file_over _ _ _ _ _ (told e) k.put_front.ensures c.before.before.before.put-words.ensures)
-    ∙ sym (agreed_file _ _ (agreed e))
+    
+    has_room _ _ _ _ _ c.wrote-2.ensures (told c.before.before.before.before.before.before.before.before.before.before.before.before).size c.if-out-count.false (file_over _ _ _ _ _ (told c.before.before.before.before.before.before.before.before.before.before.before.before) c.put_front.ensures c.put_words.ensures)
+    ∙ sym (agreed_file _ _ (agreed c.before.before.before.before.before.before.before.before.before.before.before.before))
 
 pub write_spec : {M : Type 1} → statement M
 write_spec =
     tie.close
     (tie.spec
-    (λ c κs. search rules) (λ c κs. search rules)
+    (λ c. search rules)
+    (λ c. search rules)
     returns
     shared-slice-read-used
     cast-used
     mul-count
     add-count
-    (λ c κs. search rules)
+    (λ c. search rules)
     returns-2
-    (λ c. search rules) (λ c. search rules) (λ c. search rules) (λ c κs. search rules) (λ c. search rules) (λ c. search rules)
+    (λ c. search rules)
+    (λ c. search rules)
+    (λ c. search rules)
+    (λ c. search rules)
+    (λ c. search rules)
+    (λ c. search rules)
     part-put-words-end
-    (λ c. search rules) (λ c. search rules) (λ c. search rules) (λ c κs. search rules) (λ c κs. search rules) (λ c. search rules)
+    (λ c. search rules)
+    (λ c. search rules)
+    (λ c. search rules)
+    (λ c. search rules)
+    (λ c. search rules)
+    (λ c. search rules)
     returns-3)

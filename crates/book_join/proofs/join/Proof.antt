@@ -8,31 +8,34 @@ use Rattle.book_joining.proofs.Outcomes.{second-unheld}
 use Rattle.book_join.proofs.join.Statement.{statement}
 use Rattle.book_join.proofs.join.Tie as tie
 
-join-books-requires : tie.Need-join-books-requires
+join-books-requires : tie.Need-join_books-requires
 join-books-requires c κs =
-    let x = c.before.before.before.before in
-    let y = x.before.before.before.before in
-    (holds _ _ (sym y.in_form_lem.ensures ∙ x.before.before.places.given.1), holds _ _ (sym x.in-form2.ensures ∙ c.before.before.others.given.1))
+    (holds _ _ (sym c.in_form.ensures ∙ c.in-InForm.is), holds _ _ (sym c.in_form-in-InForm.ensures ∙ c.in-InForm-in_form.is))
 
-returns : tie.Need-returns
-returns c = told _ _ _ c.answered.ensures ∙ sym (first-unjoined _ _ _ (sym c.before.before.before.before.in_form_lem.ensures ∙ c.before.before.number.given.1))
+returns : tie.Need-returns-in-Refused
+returns c = told _ _ _ c.answered.ensures ∙ sym (first-unjoined _ _ _ (sym c.in_form.ensures ∙ c.in-Refused.is))
 
-returns-2 : tie.Need-returns-2
+returns-2 : tie.Need-returns-in-Refused-in_form
 returns-2 c =
-    let x = c.before.before.before.before in
-    let y = x.before.before.before.before in
-    told _ _ _ c.answered2.ensures
-    ∙ second-unheld _ _ _ (holds _ _ (sym y.in_form_lem.ensures ∙ x.before.before.places.given.1)) _ (sym x.in-form2.ensures ∙ c.before.before.number2.given.1)
+    told _ _ _ c.answered-in-Refused-in_form.ensures
+    ∙ second-unheld _ _ _ (holds _ _ (sym c.in_form.ensures ∙ c.in-InForm.is)) _ (sym c.in_form-in-InForm.ensures ∙ c.in-Refused-in_form.is)
 
-pub join-spec : {M : Type 1} → statement M
-join-spec =
+pub join_spec : {M : Type 1} → statement M
+join_spec =
     tie.close
     (tie.spec
-    (λ c κs. search rules) (λ c. search rules) (λ c κs. search rules) (λ c. search rules) (λ c κs. search rules) (λ c. search rules)
-    (λ c κs. search rules) (λ c. search rules)
+    (λ c. search rules)
+    (λ c. search rules)
+    (λ c. search rules)
+    (λ c. search rules)
+    (λ c. search rules)
+    (λ c. search rules)
+    (λ c. search rules)
+    (λ c. search rules)
     join-books-requires
     (λ c. search rules)
     returns
     (λ c. search rules)
     returns-2
-    (λ c. search rules) (λ c. search rules))
+    (λ c. search rules)
+    (λ c. search rules))

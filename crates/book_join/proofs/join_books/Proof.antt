@@ -9,67 +9,60 @@ use Rattle.book_join.proofs.join_books.Statement.{statement}
 use Rattle.book_join.proofs.join_books.Tie as tie
 
 -- Past the second test it is known of both books.
-both : (c : tie.Else2) → let s = c.before.before.before.before.before.before.before.before in
-    Both s.args.book.now s.args.other.now (book_in s.args.book.now) (book_in s.args.other.now)
+both : (c : tie.Else-not-both_agree) →
+    Both c.args.book.now c.args.other.now (book_in c.args.book.now) (book_in c.args.other.now)
 both c =
-    let a = c.before in
-    let o = a.before.before in
-    let s = o.before.before.before.before.before in
-    both_agree _ _ _ _ s.requires.0 s.requires.1 o.if1.false _ a.both_agree.ensures c.if2.false
+    both_agree _ _ _ _ c.requires.0 c.requires.1 c.if-k-other_k.false _ c.both_agree.ensures c.if-not-both_agree.false
 
-returns : tie.Need-returns
+returns : tie.Need-returns-then-k-other_k
 returns c =
-    let s = c.before.before.before.before.before.before in
-    told _ _ _ c.answered.ensures ∙ k_differs _ _ _ _ s.requires.0 s.requires.1 c.before.if1.true
+    told _ _ _ c.answered.ensures ∙ k_differs _ _ _ _ c.requires.0 c.requires.1 c.if-k-other_k.true
 
-returns-2 : tie.Need-returns-2
+returns-2 : tie.Need-returns-then-not-both_agree
 returns-2 c =
-    let a = c.before.before in
-    let o = a.before.before in
-    let s = o.before.before.before.before.before in
-    told _ _ _ c.answered2.ensures ∙ one-disagrees _ _ _ _ s.requires.0 s.requires.1 o.if1.false _ a.both_agree.ensures c.before.if2.true
+    told _ _ _ c.answered-then-not-both_agree.ensures ∙ one-disagrees _ _ _ _ c.requires.0 c.requires.1 c.if-k-other_k.false _ c.both_agree.ensures c.if-not-both_agree.true
 
-sub-if3 : tie.Need-overflow-sub-if3
+sub-if3 : tie.Need-overflow_sub-more
 sub-if3 c =
-    let s = c.before.before.before.before.before.before.before.before.before.before in
-    second-few _ _ _ _ s.requires.0 s.requires.1
+    second-few _ _ _ _ c.requires.0 c.requires.1
 
-returns-3 : tie.Need-returns-3
-returns-3 c = told _ _ _ c.answered3.ensures ∙ too_many-live _ _ (both c.before.before.before.before) c.before.if3.true
+returns-3 : tie.Need-returns-then-more-live
+returns-3 c = told _ _ _ c.answered-then-more-live.ensures ∙ too_many-live _ _ (both c.before.before.before.before) c.if-more-live.true
 
-add-book-requires : tie.Need-add-book-requires
+add-book-requires : tie.Need-add_book-requires
 add-book-requires c κs =
-    let f = c.before in
-    let m = f.before.before.before in
-    let s = m.before.before.before.before.before.before.before.before in
-    (s.requires.0, (s.requires.1, may_add _ _ (both m) f.if3.false))
+    (c.requires.0, (c.requires.1, may_add _ _ (both c.before.before.before.before) c.if-more-live.false))
 
-returns-4 : tie.Need-returns-4
+returns-4 : tie.Need-returns-then-not-add_book
 returns-4 c =
-    let a = c.before.before.before.before in
-    let f = a.before.before in
-    told _ _ _ c.answered4.ensures ∙ join-no_room _ _ (both f.before.before.before) f.if3.false _ _ a.add-book.ensures.0 a.add-book.ensures.1 c.before.if4.true
+    told _ _ _ c.answered-then-not-add_book.ensures ∙ join-no_room _ _ (both c.before.before.before.before.before.before.before.before.before) c.if-more-live.false _ _ c.add_book.ensures.0 c.add_book.ensures.1 c.if-not-add_book.true
 
-returns-5 : tie.Need-returns-5
+returns-5 : tie.Need-returns
 returns-5 c =
-    let a = c.before.before.before.before in
-    let f = a.before.before in
-    told _ _ _ c.answered5.ensures ∙ join-done _ _ (both f.before.before.before) f.if3.false _ _ a.add-book.ensures.0 a.add-book.ensures.1 c.before.if4.false
+    told _ _ _ c.answered-2.ensures ∙ join-done _ _ (both c.before.before.before.before.before.before.before.before.before) c.if-more-live.false _ _ c.add_book.ensures.0 c.add_book.ensures.1 c.if-not-add_book.false
 
-pub join-books-spec : {M : Type 1} → statement M
-join-books-spec =
+pub join_books_spec : {M : Type 1} → statement M
+join_books_spec =
     tie.close
     (tie.spec
-    (λ c. search rules) (λ c. search rules) (λ c κs. search rules)
+    (λ c. search rules)
+    (λ c. search rules)
+    (λ c. search rules)
     returns
-    (λ c κs. search rules) (λ c κs. search rules) (λ c. search rules)
+    (λ c. search rules)
+    (λ c. search rules)
+    (λ c. search rules)
     returns-2
-    (λ c. search rules) (λ c. search rules)
+    (λ c. search rules)
+    (λ c. search rules)
     sub-if3
-    (λ c κs. search rules) (λ c. search rules)
+    (λ c. search rules)
+    (λ c. search rules)
     returns-3
     add-book-requires
-    (λ c κs. search rules) (λ c. search rules)
+    (λ c. search rules)
+    (λ c. search rules)
     returns-4
-    (λ c κs. search rules) (λ c. search rules)
+    (λ c. search rules)
+    (λ c. search rules)
     returns-5)

@@ -53,6 +53,7 @@ many-some (not_this x m) h = let r = many-some m h in (r.0, there r.1, r.2)
 
 -- Where some member has it, at least one does.
 some-many : {A : Type 0} {Q : A → Type 0} {a : A} {l : List A} {n : ℕ} → a ∈ l → Q a → HowMany Q l n → 1 ≤ n
+some-many {A = A} {Q = Q} {a = a} i q none_left = elim i [ ]
 some-many i q (one_more p m) = omega arith
 some-many {Q} (here e) q (not_this x m) = absurd (x (subst Q e q))
 some-many (there i) q (not_this x m) = some-many i q m
