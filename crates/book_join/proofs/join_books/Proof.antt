@@ -1,5 +1,6 @@
 -- `book_join::join_books` meets its contract, by the tests that it makes in turn. Assumes nothing.
-use mathlib.Core.Path.{◌∙◌}
+use mathlib.Core.Bool.{not}
+use mathlib.Core.Path.{◌∙◌, ap}
 use borrow.Author.Rules.{rules}
 use Rattle.book.specs.Decoding.{book_in}
 use Rattle.book.proofs.Openings.{told}
@@ -12,7 +13,7 @@ use Rattle.book_join.proofs.join_books.Tie as tie
 both : (c : tie.Else-not-both_agree) →
     Both c.args.book.now c.args.other.now (book_in c.args.book.now) (book_in c.args.other.now)
 both c =
-    both_agree _ _ _ _ c.requires.0 c.requires.1 c.if-k-other_k.false _ c.both_agree.ensures c.if-not-both_agree.false
+    both_agree _ _ _ _ c.requires.0 c.requires.1 c.if-k-other_k.false _ c.both_agree.ensures (ap not c.if-not-both_agree.false)
 
 returns : tie.Need-returns-then-k-other_k
 returns c =
@@ -20,7 +21,7 @@ returns c =
 
 returns-2 : tie.Need-returns-then-not-both_agree
 returns-2 c =
-    told _ _ _ c.answered-then-not-both_agree.ensures ∙ one-disagrees _ _ _ _ c.requires.0 c.requires.1 c.if-k-other_k.false _ c.both_agree.ensures c.if-not-both_agree.true
+    told _ _ _ c.answered-then-not-both_agree.ensures ∙ one-disagrees _ _ _ _ c.requires.0 c.requires.1 c.if-k-other_k.false _ c.both_agree.ensures (ap not c.if-not-both_agree.true)
 
 sub-if3 : tie.Need-overflow_sub-more
 sub-if3 c =
@@ -35,11 +36,11 @@ add-book-requires c κs =
 
 returns-4 : tie.Need-returns-then-not-add_book
 returns-4 c =
-    told _ _ _ c.answered-then-not-add_book.ensures ∙ join-no_room _ _ (both c.before.before.before.before.before.before.before.before.before) c.if-more-live.false _ _ c.add_book.ensures.0 c.add_book.ensures.1 c.if-not-add_book.true
+    told _ _ _ c.answered-then-not-add_book.ensures ∙ join-no_room _ _ (both c.before.before.before.before.before.before.before.before.before) c.if-more-live.false _ _ c.add_book.ensures.0 c.add_book.ensures.1 (ap not c.if-not-add_book.true)
 
 returns-5 : tie.Need-returns
 returns-5 c =
-    told _ _ _ c.answered-2.ensures ∙ join-done _ _ (both c.before.before.before.before.before.before.before.before.before) c.if-more-live.false _ _ c.add_book.ensures.0 c.add_book.ensures.1 c.if-not-add_book.false
+    told _ _ _ c.answered-2.ensures ∙ join-done _ _ (both c.before.before.before.before.before.before.before.before.before) c.if-more-live.false _ _ c.add_book.ensures.0 c.add_book.ensures.1 (ap not c.if-not-add_book.false)
 
 pub join_books_spec : {M : Type 1} → statement M
 join_books_spec =
