@@ -8,14 +8,18 @@ use borrow.Author.Rules.{rules}
 use Rattle.ofb.proofs.ofb_check.Statement.{statement}
 use Rattle.ofb.proofs.ofb_check.Tie as tie
 
-check-requires : tie.Need-check-requires
+check-requires : tie.Need-check-answer-requires
 check-requires c κs = search rules
 
 told-requires : tie.Need-told-requires
-told-requires c κs = omega (arith, ap (λ (a : Answer). a.line) c.check.ensures, check_line c.before.before.args.book.now)
+told-requires c κs = omega (arith, ap (λ (a : Answer). a.line) c.check-answer.ensures, check_line c.args.book.now)
 
 returns : tie.Need-returns
-returns c = c.told.ensures ∙ ap told_of c.before.check.ensures
+returns c = c.told.ensures ∙ ap told_of c.check-answer.ensures
 
-pub ofb-check-spec : {M : Type 1} → statement M
-ofb-check-spec = tie.close (tie.spec check-requires told-requires returns)
+pub ofb_check_spec : {M : Type 1} → statement M
+ofb_check_spec = tie.close
+    (tie.spec
+    check-requires
+    told-requires
+    returns)

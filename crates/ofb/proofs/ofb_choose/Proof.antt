@@ -8,16 +8,20 @@ use borrow.Author.Rules.{rules}
 use Rattle.ofb.proofs.ofb_choose.Statement.{statement}
 use Rattle.ofb.proofs.ofb_choose.Tie as tie
 
-choose-requires : tie.Need-choose-requires
+choose-requires : tie.Need-choose-chosen-requires
 choose-requires c κs = search rules
 
-told-image-requires : tie.Need-told-image-requires
+told-image-requires : tie.Need-told_image-requires
 told-image-requires c κs =
-    let a = c.before.before.before.before.args in
-    omega (arith, ap (λ (h : Chosen). h.line) c.choose.ensures, choose_line-most a.book.now a.order.now a.rules.now)
+    let a = c.args in
+    omega (arith, ap (λ (h : Chosen). h.line) c.choose-chosen.ensures, choose_line-most a.book.now a.order.now a.rules.now)
 
 returns : tie.Need-returns
-returns c = c.told-image.ensures ∙ ap told_image_of c.before.choose.ensures
+returns c = c.told_image.ensures ∙ ap told_image_of c.choose-chosen.ensures
 
-pub ofb-choose-spec : {M : Type 1} → statement M
-ofb-choose-spec = tie.close (tie.spec choose-requires told-image-requires returns)
+pub ofb_choose_spec : {M : Type 1} → statement M
+ofb_choose_spec = tie.close
+    (tie.spec
+    choose-requires
+    told-image-requires
+    returns)

@@ -5,17 +5,22 @@ use borrow.Author.Rules.{rules}
 use Rattle.ofb.proofs.ofb_join.Statement.{statement}
 use Rattle.ofb.proofs.ofb_join.Tie as tie
 
-join-requires : tie.Need-join-requires
+join-requires : tie.Need-join-answer-requires
 join-requires c κs = search rules
 
 told-requires : tie.Need-told-requires
-told-requires c κs = outcome_fits c.before.before.join.ensures (join-line _ _)
+told-requires c κs = outcome_fits c.join-answer.ensures (join-line _ _)
 
-same_length : tie.Need-same-length
+same_length : tie.Need-shape_of-book
 same_length c = search rules
 
 returns : tie.Need-returns
-returns c = outcome-handed c.before.before.before.join.ensures c.told.ensures
+returns c = outcome-handed c.join-answer.ensures c.told.ensures
 
-pub ofb-join-spec : {M : Type 1} → statement M
-ofb-join-spec = tie.close (tie.spec join-requires told-requires same_length returns)
+pub ofb_join_spec : {M : Type 1} → statement M
+ofb_join_spec = tie.close
+    (tie.spec
+    join-requires
+    told-requires
+    same_length
+    returns)

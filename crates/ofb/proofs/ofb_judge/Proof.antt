@@ -10,18 +10,22 @@ use borrow.Author.Rules.{rules}
 use Rattle.ofb.proofs.ofb_judge.Statement.{statement}
 use Rattle.ofb.proofs.ofb_judge.Tie as tie
 
-judge-requires : tie.Need-judge-requires
+judge-requires : tie.Need-judge-judged-requires
 judge-requires c κs = search rules
 
-told-judged-requires : tie.Need-told-judged-requires
+told-judged-requires : tie.Need-told_judged-requires
 told-judged-requires c κs =
-    let a = c.before.before.before.args in (
-      omega (arith, ap (λ (j : Judgement). j.answer.line) c.judge.ensures, judge_line-most a.book.now a.order.now),
-      subst (λ (j : Judgement). Small (2 ^ 16) j.near) (sym c.judge.ensures) (expected-fits a.book.now a.order.now),
+    let a = c.args in (
+      omega (arith, ap (λ (j : Judgement). j.answer.line) c.judge-judged.ensures, judge_line-most a.book.now a.order.now),
+      subst (λ (j : Judgement). Small (2 ^ 16) j.near) (sym c.judge-judged.ensures) (expected-fits a.book.now a.order.now),
     )
 
 returns : tie.Need-returns
-returns c = c.told-judged.ensures ∙ ap told_judged_of c.before.judge.ensures
+returns c = c.told_judged.ensures ∙ ap told_judged_of c.judge-judged.ensures
 
-pub ofb-judge-spec : {M : Type 1} → statement M
-ofb-judge-spec = tie.close (tie.spec judge-requires told-judged-requires returns)
+pub ofb_judge_spec : {M : Type 1} → statement M
+ofb_judge_spec = tie.close
+    (tie.spec
+    judge-requires
+    told-judged-requires
+    returns)

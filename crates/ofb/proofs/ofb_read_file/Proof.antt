@@ -5,17 +5,22 @@ use borrow.Author.Rules.{rules}
 use Rattle.ofb.proofs.ofb_read_file.Statement.{statement}
 use Rattle.ofb.proofs.ofb_read_file.Tie as tie
 
-read-requires : tie.Need-read-requires
+read-requires : tie.Need-read-answer-requires
 read-requires c κs = search rules
 
 told-requires : tie.Need-told-requires
-told-requires c κs = outcome_fits c.before.before.read.ensures (restored_line _ _)
+told-requires c κs = outcome_fits c.read-answer.ensures (restored_line _ _)
 
-same_length : tie.Need-same-length
+same_length : tie.Need-shape_of-book
 same_length c = search rules
 
 returns : tie.Need-returns
-returns c = outcome-handed c.before.before.before.read.ensures c.told.ensures
+returns c = outcome-handed c.read-answer.ensures c.told.ensures
 
-pub ofb-read-file-spec : {M : Type 1} → statement M
-ofb-read-file-spec = tie.close (tie.spec read-requires told-requires same_length returns)
+pub ofb_read_file_spec : {M : Type 1} → statement M
+ofb_read_file_spec = tie.close
+    (tie.spec
+    read-requires
+    told-requires
+    same_length
+    returns)

@@ -10,7 +10,7 @@ use borrow.Author.Rules.{rules}
 use Rattle.ofb.proofs.ofb_subtree.Statement.{statement}
 use Rattle.ofb.proofs.ofb_subtree.Tie as tie
 
-subtree-requires : tie.Need-subtree-requires
+subtree-requires : tie.Need-subtree-words-requires
 subtree-requires c κs = search rules
 
 -- A part in C.
@@ -21,29 +21,37 @@ part start n = record { start = start; words = n }
 many : {p : (ℕ × ℕ) × List ℕ} {at : ℕ × ℕ} {ws : List ℕ} → ◌≡◌ {A = (ℕ × ℕ) × List ℕ} (at, ws) p → length ws ≡ length p.1
 many e = ap (λ (x : (ℕ × ℕ) × List ℕ). length x.1) e
 
-returns : tie.Need-returns
+returns : tie.Need-returns-then-words-eq0
 returns c =
-    let e = many c.before.subtree.ensures in
-    ap₂ part (sym (part_none _ _ (sym e ∙ c.if1.true))) (sym c.if1.true ∙ e)
+    let e = many c.subtree-words.ensures in
+    ap₂ part (sym (part_none _ _ (sym e ∙ c.if-words-eq0.true))) (sym c.if-words-eq0.true ∙ e)
 
 -- Where it has words it lies within 128.
-within : (c : tie.Else1) → let a = c.before.before.before.args in Within a.order.now a.line
-within c = part-some _ _ (λ z. c.if1.false (many c.before.subtree.ensures ∙ z))
+within : (c : tie.Else-words-eq0) → let a = c.args in Within a.order.now a.line
+within c = part-some _ _ (λ z. c.if-words-eq0.false (many c.subtree-words.ensures ∙ z))
 
-sub-start : tie.Need-overflow-sub-start
+sub-start : tie.Need-overflow_sub-start
 sub-start c = (within c).some
 
-mul-start : tie.Need-overflow-mul-start
+mul-start : tie.Need-overflow_mul-start
 mul-start c = omega (arith, (within c).short)
 
-cast-t8 : tie.Need-overflow-cast-t8
+cast-t8 : tie.Need-overflow_cast-result
 cast-t8 c = omega (arith, (within c).short)
 
-cast-t9 : tie.Need-overflow-cast-t9
-cast-t9 c = omega (arith, (within c).short, many c.before.subtree.ensures)
+cast-t9 : tie.Need-overflow_cast-result-2
+cast-t9 c = omega (arith, (within c).short, many c.subtree-words.ensures)
 
-returns-2 : tie.Need-returns-2
-returns-2 c = ap₂ part (sym (within c).start) (many c.before.subtree.ensures)
+returns-2 : tie.Need-returns
+returns-2 c = ap₂ part (sym (within c).start) (many c.subtree-words.ensures)
 
-pub ofb-subtree-spec : {M : Type 1} → statement M
-ofb-subtree-spec = tie.close (tie.spec subtree-requires returns sub-start mul-start cast-t8 cast-t9 returns-2)
+pub ofb_subtree_spec : {M : Type 1} → statement M
+ofb_subtree_spec = tie.close
+    (tie.spec
+    subtree-requires
+    returns
+    sub-start
+    mul-start
+    cast-t8
+    cast-t9
+    returns-2)

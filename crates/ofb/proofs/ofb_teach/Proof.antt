@@ -5,17 +5,22 @@ use borrow.Author.Rules.{rules}
 use Rattle.ofb.proofs.ofb_teach.Statement.{statement}
 use Rattle.ofb.proofs.ofb_teach.Tie as tie
 
-teach-requires : tie.Need-teach-requires
+teach-requires : tie.Need-teach-answer-requires
 teach-requires c κs = search rules
 
 told-requires : tie.Need-told-requires
-told-requires c κs = outcome_fits c.before.before.teach.ensures (teach-line _ _)
+told-requires c κs = outcome_fits c.teach-answer.ensures (teach-line _ _)
 
-same_length : tie.Need-same-length
+same_length : tie.Need-shape_of-book
 same_length c = search rules
 
 returns : tie.Need-returns
-returns c = outcome-handed c.before.before.before.teach.ensures c.told.ensures
+returns c = outcome-handed c.teach-answer.ensures c.told.ensures
 
-pub ofb-teach-spec : {M : Type 1} → statement M
-ofb-teach-spec = tie.close (tie.spec teach-requires told-requires same_length returns)
+pub ofb_teach_spec : {M : Type 1} → statement M
+ofb_teach_spec = tie.close
+    (tie.spec
+    teach-requires
+    told-requires
+    same_length
+    returns)

@@ -5,17 +5,22 @@ use borrow.Author.Rules.{rules}
 use Rattle.ofb.proofs.ofb_write_text.Statement.{statement}
 use Rattle.ofb.proofs.ofb_write_text.Tie as tie
 
-write-requires : tie.Need-write-requires
+write-requires : tie.Need-write-answer-requires
 write-requires c κs = search rules
 
-told-written-requires : tie.Need-told-written-requires
-told-written-requires c κs = subst Fits (sym c.before.before.write.ensures) (print_fits _ _)
+told-written-requires : tie.Need-told_written-requires
+told-written-requires c κs = subst Fits (sym c.write-answer.ensures) (print_fits _ _)
 
-same_length : tie.Need-same-length
+same_length : tie.Need-shape_of-out
 same_length c = search rules
 
 returns : tie.Need-returns
-returns c = writing-handed c.before.before.before.write.ensures c.told-written.ensures
+returns c = writing-handed c.write-answer.ensures c.told_written.ensures
 
-pub ofb-write-text-spec : {M : Type 1} → statement M
-ofb-write-text-spec = tie.close (tie.spec write-requires told-written-requires same_length returns)
+pub ofb_write_text_spec : {M : Type 1} → statement M
+ofb_write_text_spec = tie.close
+    (tie.spec
+    write-requires
+    told-written-requires
+    same_length
+    returns)
