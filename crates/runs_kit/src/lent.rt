@@ -1,7 +1,8 @@
 // What a call did with a lent output: its answer, what it wrote at the front, and what stands behind that. Assumes nothing.
-ghost use Rattle.std.specs.Prelude.{◌≤◌};
+ghost use Rattle.std.specs.Prelude.{◌≤◌, IfOk};
 
 use crate::{kept, mark, say, wide};
+use std::io;
 
 // The words or bytes that are lent to be written an order, a part or a form to: more than any has.
 pub const MOST: usize = 640;
@@ -16,74 +17,74 @@ pub const HELD_BYTE: u8 = b'#';
 const MANY: usize = 512;
 
 // Says the answer: its number, its line and its count.
-pub fn answer(number: u16, line: usize, count: usize) {
-    say::heard(number, line);
-    say::text(b", ");
-    say::count(count);
-    say::text(b" written:");
+pub fn answer(rt: &impl Print, number: u16, line: usize, count: usize) -> io::Result<()> {
+    say::heard(rt, number, line)?;
+    say::text(rt, b", ")?;
+    say::count(rt, count)?;
+    say::text(rt, b" written:")
 }
 
 // How many words or bytes of an output are said as written, by how many it has and the count that a call answered: so many, or none where that is
 // more than was lent. Where there are none, says why.
-fn front(lent: usize, count: usize) -> usize
-    ensures { result ≤ lent }
+fn front(rt: &impl Print, lent: usize, count: usize) -> io::Result<usize>
+    ensures { IfOk result (λ end. end ≤ lent) }
 {
     if lent < count {
-        say::text(b" more than was lent");
-        return 0;
+        say::text(rt, b" more than was lent")?;
+        return Ok(0);
     }
     if count == 0 {
-        say::text(b" nothing");
+        say::text(rt, b" nothing")?;
     }
-    count
+    Ok(count)
 }
 
 // Says the words behind those that were written, if there are any.
-fn behind(rest: &[u16]) {
+fn behind(rt: &impl Print, rest: &[u16]) -> io::Result<()> {
     if rest.len() == 0 {
-        return;
+        return Ok(());
     }
-    say::text(b", then");
-    say::runs(rest);
+    say::text(rt, b", then")?;
+    say::runs(rt, rest)
 }
 
 // Says the words that were written, or their mark where they are many, and the words behind them.
-pub fn words(out: &[u16], count: usize) {
-    let end = front(out.len(), count);
+pub fn words(rt: &impl Print, out: &[u16], count: usize) -> io::Result<()> {
+    let end = front(rt, out.len(), count)?;
     if MANY < end {
-        say::text(b" mark ");
-        say::count(mark::of(&out[0..end]) as usize);
+        say::text(rt, b" mark ")?;
+        say::count(rt, mark::of(&out[0..end]) as usize)?;
     } else {
-        say::runs(&out[0..end]);
+        say::runs(rt, &out[0..end])?;
     }
-    behind(&out[end..]);
+    behind(rt, &out[end..])
 }
 
 // Says the tree that was written, and the words behind it.
-pub fn tree(out: &[u16], count: usize) {
-    let end = front(out.len(), count);
+pub fn tree(rt: &impl Print, out: &[u16], count: usize) -> io::Result<()> {
+    let end = front(rt, out.len(), count)?;
     if 0 < end {
-        say::text(b" ");
-        say::tree(&out[0..end]);
+        say::text(rt, b" ")?;
+        say::tree(rt, &out[0..end])?;
     }
-    behind(&out[end..]);
+    behind(rt, &out[end..])
 }
 
 // Says the text that was written, and the bytes behind it as numbers.
-pub fn text(out: &[u8], count: usize) {
-    let end = front(out.len(), count);
+pub fn text(rt: &impl Print, out: &[u8], count: usize) -> io::Result<()> {
+    let end = front(rt, out.len(), count)?;
     if 0 < end {
-        say::text(b" ");
-        say::bytes(&out[0..end]);
+        say::text(rt, b" ")?;
+        say::bytes(rt, &out[0..end])?;
     }
     let mut rest = [0u16; MOST];
     let n = wide::widen(&out[end..], &mut rest);
-    behind(&rest[0..n]);
+    behind(rt, &rest[0..n])
 }
 
 // Says the bytes that were written as `words` says words.
-pub fn bytes(out: &[u8], count: usize) {
+pub fn bytes(rt: &impl Print, out: &[u8], count: usize) -> io::Result<()> {
     let mut wide = [0u16; kept::MOST_FILE];
     let n = wide::widen(out, &mut wide);
-    words(&wide[0..n], count);
+    words(rt, &wide[0..n], count)
 }
