@@ -1,7 +1,9 @@
 // The program `desk`: forms in on standard input, one line per call out on standard output.
-use libc::STDIN_FILENO;
+#![tactic(auto)]
+
+use std::io;
 
 // Runs the desk on standard input.
-fn main() {
-    desk_loop::from(STDIN_FILENO);
+fn main(rt: HostRuntime) -> io::Result<()> {
+    desk_loop::from(&rt, &mut rt.reader())
 }

@@ -15,88 +15,86 @@ use crate::kinds;
 use book::{BookForm, Places};
 use ofb::OfbAnswer;
 use runs_kit::{fill, kept, mark, say, wide};
+use std::io;
 
 // Says the k of a book, the places where its sections R, L and P start, and its words used.
-fn places(places: Places) {
-    say::text(b"k ");
-    say::word(places.k.value());
-    say::text(b", R at ");
-    say::count(places.tops);
-    say::text(b", L at ");
-    say::count(places.lows);
-    say::text(b", P at ");
-    say::count(places.middles);
-    say::text(b", ");
-    say::count(places.used);
-    say::text(b" words used");
+fn places(rt: &impl Print, places: Places) -> io::Result<()> {
+    say::text(rt, b"k ")?;
+    say::word(rt, places.k.value())?;
+    say::text(rt, b", R at ")?;
+    say::count(rt, places.tops)?;
+    say::text(rt, b", L at ")?;
+    say::count(rt, places.lows)?;
+    say::text(rt, b", P at ")?;
+    say::count(rt, places.middles)?;
+    say::text(rt, b", ")?;
+    say::count(rt, places.used)?;
+    say::text(rt, b" words used")
 }
 
 // Says what a look at a book's form gave.
-pub fn form(form: BookForm) {
+pub fn form(rt: &impl Print, form: BookForm) -> io::Result<()> {
     match form {
         BookForm::Refused(number) => {
-            say::text(b"refused ");
-            say::word(number);
+            say::text(rt, b"refused ")?;
+            say::word(rt, number)
         }
-        BookForm::InForm(found) => places(found),
+        BookForm::InForm(found) => places(rt, found),
     }
 }
 
 // Says word 1 of a book, which has its words used, or 0 where there is no such word, and the mark of all its words.
-fn state(book: &[u16]) {
+fn state(rt: &impl Print, book: &[u16]) -> io::Result<()> {
     let mut used = 0;
     if 1 < book.len() {
         used = book[1];
     }
-    say::word(used);
-    say::text(b" used, mark ");
-    say::count(mark::of(book) as usize);
+    say::word(rt, used)?;
+    say::text(rt, b" used, mark ")?;
+    say::count(rt, mark::of(book) as usize)
 }
 
 // Opens a book in a slice, each of whose words is 9 before, and says the answer and every word of the slice.
-fn open_in(slice: &mut [u16], k: u16) {
+fn open_in(rt: &impl Print, slice: &mut [u16], k: u16) -> io::Result<()> {
     fill::words(slice, kept::BEFORE);
     let answer = ofb::ofb_open(slice, k);
-    say::heard(answer.number, answer.line as usize);
-    say::text(b":");
-    say::slice(slice);
+    say::heard(rt, answer.number, answer.line as usize)?;
+    say::text(rt, b":")?;
+    say::slice(rt, slice)
 }
 
 // Runs a case of `open`.
-pub fn open(given: &[u16], held: &mut [u16]) {
+pub fn open(rt: &impl Print, given: &[u16], held: &mut [u16]) -> io::Result<()> {
     if given.len() != 2 {
-        say::not_understood();
-        return;
+        return say::not_understood(rt);
     }
     let room = given[0];
     let end = 1 + wide::number(room);
     if held.len() < end {
-        say::not_understood();
-        return;
+        return say::not_understood(rt);
     }
-    open_in(&mut held[1..end], given[1]);
+    open_in(rt, &mut held[1..end], given[1])?;
     held[0] = room;
+    Ok(())
 }
 
 // Keeps words as a book, and says how many they are and how it stands.
-pub fn lay(given: &[u16], held: &mut [u16]) {
+pub fn lay(rt: &impl Print, given: &[u16], held: &mut [u16]) -> io::Result<()> {
     if !kept::put(given, 0, held) {
-        say::not_understood();
-        return;
+        return say::not_understood(rt);
     }
-    say::count(given.len());
-    say::text(b" words, ");
-    state(given);
+    say::count(rt, given.len())?;
+    say::text(rt, b" words, ")?;
+    state(rt, given)
 }
 
 // Runs a case of `show`.
-pub fn show(given: &[u16], held: &[u16]) {
+pub fn show(rt: &impl Print, given: &[u16], held: &[u16]) -> io::Result<()> {
     if given.len() != 0 {
-        say::not_understood();
-        return;
+        return say::not_understood(rt);
     }
-    say::text(b"words:");
-    say::slice(kept::all(held));
+    say::text(rt, b"words:")?;
+    say::slice(rt, kept::all(held))
 }
 
 // Makes a call on a book, by its kind, one of the four, and what it is given: an order, or the words of the book that is joined.
@@ -110,83 +108,79 @@ fn made(kind: u64, given: &[u16], book: &mut [u16]) -> OfbAnswer {
 }
 
 // Makes a call on the kept book, by its kind and what it is given, and says what it answered and how the book stands then.
-fn on_kept(kind: u64, given: &[u16], held: &mut [u16]) {
+fn on_kept(rt: &impl Print, kind: u64, given: &[u16], held: &mut [u16]) -> io::Result<()> {
     if held.len() == 0 {
-        return;
+        return Ok(());
     }
     let end = 1 + wide::number(held[0]);
     if held.len() < end {
-        return;
+        return Ok(());
     }
     let answer = made(kind, given, &mut held[1..end]);
-    say::heard(answer.number, answer.line as usize);
-    say::text(b", ");
-    state(kept::all(held));
+    say::heard(rt, answer.number, answer.line as usize)?;
+    say::text(rt, b", ")?;
+    state(rt, kept::all(held))
 }
 
 // Says whether something is there, by a number that is not 0 if it is.
-fn whether(there: u16) {
+fn whether(rt: &impl Print, there: u16) -> io::Result<()> {
     if there == 0 {
-        say::text(b"not ");
+        say::text(rt, b"not ")?;
     }
-    say::text(b"there");
+    say::text(rt, b"there")
 }
 
 // Runs a case of `ask`: says the answer, what the book expected, and how the book stands.
-pub fn ask(given: &[u16], held: &[u16]) {
+pub fn ask(rt: &impl Print, given: &[u16], held: &[u16]) -> io::Result<()> {
     let judged = ofb::ofb_judge(kept::all(held), given);
-    say::heard(judged.number, judged.line as usize);
-    say::text(b", below ");
-    say::word(judged.below);
-    say::text(b", ");
-    whether(judged.there);
-    say::text(b", places ");
-    say::word(judged.place_below);
-    say::text(b" and ");
-    say::word(judged.place_above);
-    say::text(b", ");
-    state(kept::all(held));
+    say::heard(rt, judged.number, judged.line as usize)?;
+    say::text(rt, b", below ")?;
+    say::word(rt, judged.below)?;
+    say::text(rt, b", ")?;
+    whether(rt, judged.there)?;
+    say::text(rt, b", places ")?;
+    say::word(rt, judged.place_below)?;
+    say::text(rt, b" and ")?;
+    say::word(rt, judged.place_above)?;
+    say::text(rt, b", ")?;
+    state(rt, kept::all(held))
 }
 
 // Runs a case of `choose`: says the answer, the image, and how the book stands.
-pub fn choose(given: &[u16], held: &[u16]) {
+pub fn choose(rt: &impl Print, given: &[u16], held: &[u16]) -> io::Result<()> {
     if given.len() == 0 {
-        say::not_understood();
-        return;
+        return say::not_understood(rt);
     }
     let end = 1 + wide::number(given[0]);
     if given.len() < end {
-        say::not_understood();
-        return;
+        return say::not_understood(rt);
     }
     let chosen = ofb::ofb_choose(kept::all(held), &given[1..end], &given[end..]);
-    say::heard(chosen.number, chosen.line as usize);
-    say::text(b", image ");
-    say::count(chosen.image as usize);
-    say::text(b", ");
-    state(kept::all(held));
+    say::heard(rt, chosen.number, chosen.line as usize)?;
+    say::text(rt, b", image ")?;
+    say::count(rt, chosen.image as usize)?;
+    say::text(rt, b", ")?;
+    state(rt, kept::all(held))
 }
 
 // Runs a case of `teach`, `withdraw` or `agrees`, of which the last has no order.
-pub fn call(kind: u64, given: &[u16], held: &mut [u16]) {
+pub fn call(rt: &impl Print, kind: u64, given: &[u16], held: &mut [u16]) -> io::Result<()> {
     if kind == kinds::AGREES {
         if given.len() != 0 {
-            say::not_understood();
-            return;
+            return say::not_understood(rt);
         }
     }
-    on_kept(kind, given, held);
+    on_kept(rt, kind, given, held)
 }
 
 // Runs a case of `join`, and says whether the words of the other book are the same as before, by their mark.
-pub fn join(given: &[u16], held: &mut [u16], other: &[u16]) {
+pub fn join(rt: &impl Print, given: &[u16], held: &mut [u16], other: &[u16]) -> io::Result<()> {
     if given.len() != 0 {
-        say::not_understood();
-        return;
+        return say::not_understood(rt);
     }
     let before = mark::of(kept::all(other));
-    on_kept(kinds::JOIN, kept::all(other), held);
+    on_kept(rt, kinds::JOIN, kept::all(other), held)?;
     let after = mark::of(kept::all(other));
-    say::text(b", the other ");
-    say::came_back(after == before);
+    say::text(rt, b", the other ")?;
+    say::came_back(rt, after == before)
 }

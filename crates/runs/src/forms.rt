@@ -7,20 +7,20 @@
 use figures::numbers;
 use runs_kit::lent::{HELD, HELD_BYTE, MOST};
 use runs_kit::{lent, line, same, say, wide};
+use std::io;
 
 // Reads a text to an output, and says what came of it.
-fn read_to(text: &[u8], out: &mut [u16]) {
+fn read_to(rt: &impl Print, text: &[u8], out: &mut [u16]) -> io::Result<()> {
     let answer = ofb::ofb_read_text(text, out);
     let count = answer.written as usize;
-    lent::answer(answer.number, answer.line as usize, count);
-    lent::words(out, count);
+    lent::answer(rt, answer.number, answer.line as usize, count)?;
+    lent::words(rt, out, count)
 }
 
 // Runs a case of `read`, by what stands behind its kind.
-pub fn read(behind: &[u8]) {
+pub fn read(rt: &impl Print, behind: &[u8]) -> io::Result<()> {
     if behind.len() == 0 {
-        say::not_understood();
-        return;
+        return say::not_understood(rt);
     }
     let end = line::find(behind, b' ', 1);
     let room = line::number(&behind[1..end]);
@@ -28,14 +28,12 @@ pub fn read(behind: &[u8]) {
     let mut text = [0u8; MOST];
     let n = line::text(&behind[end..], &mut text);
     if out.len() < room {
-        say::not_understood();
-        return;
+        return say::not_understood(rt);
     }
     if text.len() < n {
-        say::not_understood();
-        return;
+        return say::not_understood(rt);
     }
-    read_to(&text[0..n], &mut out[0..room]);
+    read_to(rt, &text[0..n], &mut out[0..room])
 }
 
 // Whether a text is read, and its words are written, to the same bytes.
@@ -62,37 +60,34 @@ fn is_back(text: &[u8]) -> bool {
 }
 
 // Runs a case of `back`, by what stands behind its kind.
-pub fn back(behind: &[u8]) {
+pub fn back(rt: &impl Print, behind: &[u8]) -> io::Result<()> {
     let mut text = [0u8; MOST];
     let n = line::text(behind, &mut text);
     if text.len() < n {
-        say::not_understood();
-        return;
+        return say::not_understood(rt);
     }
-    say::came_back(is_back(&text[0..n]));
+    say::came_back(rt, is_back(&text[0..n]))
 }
 
 // Writes an order to an output, and says what came of it.
-fn write_to(order: &[u16], out: &mut [u8]) {
+fn write_to(rt: &impl Print, order: &[u16], out: &mut [u8]) -> io::Result<()> {
     let answer = ofb::ofb_write_text(order, out);
     let count = answer.written as usize;
-    lent::answer(answer.number, answer.line as usize, count);
-    lent::text(out, count);
+    lent::answer(rt, answer.number, answer.line as usize, count)?;
+    lent::text(rt, out, count)
 }
 
 // Runs a case of `write`.
-pub fn write(given: &[u16]) {
+pub fn write(rt: &impl Print, given: &[u16]) -> io::Result<()> {
     if given.len() == 0 {
-        say::not_understood();
-        return;
+        return say::not_understood(rt);
     }
     let room = wide::number(given[0]);
     let mut out = [HELD_BYTE; MOST];
     if out.len() < room {
-        say::not_understood();
-        return;
+        return say::not_understood(rt);
     }
-    write_to(&given[1..], &mut out[0..room]);
+    write_to(rt, &given[1..], &mut out[0..room])
 }
 
 // Whether an order is written, and its text is read, to the same words.
@@ -119,6 +114,6 @@ fn is_there(order: &[u16]) -> bool {
 }
 
 // Runs a case of `there`.
-pub fn there(order: &[u16]) {
-    say::came_back(is_there(order));
+pub fn there(rt: &impl Print, order: &[u16]) -> io::Result<()> {
+    say::came_back(rt, is_there(order))
 }

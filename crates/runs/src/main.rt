@@ -2,6 +2,8 @@
 // after the other. A file of the folder `desk` is an input of the program `desk`, and is run as that program runs it; every other file has a case
 // on each line. Its call is made through the function for C (`ofb`) where there is one. `stdout` has what is said: the name of each file, and
 // below it the desk's lines, or each line with what came of it. Assumes what the kit assumes of C's functions.
+#![tactic(auto)]
+
 mod books;
 mod cases;
 mod forms;
@@ -10,9 +12,12 @@ mod kinds;
 mod orders;
 mod stored;
 
+use std::{env, io};
+
 // Runs each file that the arguments name.
-fn main() {
-    for i in 1..os::arg_count() {
-        input::argument(i);
+fn main(rt: HostRuntime) -> io::Result<()> {
+    for i in 1..env::args(&rt)?.len() {
+        input::argument(&rt, i)?;
     }
+    Ok(())
 }
