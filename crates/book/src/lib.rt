@@ -1,5 +1,7 @@
 // The book: its sections and where each starts, what a look at its form gives (`book_form` takes that look), whether a slice has the size of one, and
 // opening one. Assumes nothing.
+#![tactic(auto)]
+
 ghost use Rattle.std.specs.Prelude.{◌≡◌};
 ghost use Rattle.words.specs.Base.{within};
 ghost use Rattle.figures.specs.Limits.{head_words, most_book_words};

@@ -1,5 +1,7 @@
 // A book changed by another: weighed against it, and then changed by it, section by section. Teaching adds an order's own book, withdrawing
 // takes it away, and joining adds a book of many orders. Assumes nothing beyond each function's `requires`.
+#![tactic(auto)]
+
 ghost use Rattle.std.specs.Prelude.{◌≡◌, true, ◌+◌, ◌-◌, ◌≤◌, leb, length};
 ghost use Rattle.words.specs.Base.{if◌then◌else◌};
 ghost use Rattle.section.specs.Entries.{section_words, entries, span, Sorted};

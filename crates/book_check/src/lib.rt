@@ -1,5 +1,7 @@
 // Whether a book agrees with itself: for each entry of R, L and P the counts of the taught orders that have it are tallied, and held to its own.
 // Assumes nothing beyond each inner function's `requires`.
+#![tactic(auto)]
+
 ghost use Rattle.std.specs.Prelude.{◌≡◌, ◌≤◌, length};
 ghost use Rattle.words.specs.Base.{◌and◌};
 ghost use Rattle.book.specs.Book.{section_of};

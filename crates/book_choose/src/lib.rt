@@ -1,5 +1,7 @@
 // Choosing the image to build an order with: judge's verdict, and then whether the rules of a lent list that fit name one image. Nothing lent is
 // changed. Assumes nothing beyond each inner function's `requires`.
+#![tactic(auto)]
+
 ghost use Rattle.std.specs.Prelude.{◌≡◌, ◌≤◌};
 ghost use Rattle.figures.specs.Limits.{least_k, greatest_k};
 ghost use Rattle.figures.specs.Numbers.{done};

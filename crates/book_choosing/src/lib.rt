@@ -1,6 +1,7 @@
 // Choosing an image as definitions and laws: what is answered for an order by a book and a rule list, and that it is exactly what 02 says by
 // document 000; no code. Here are the type of what choosing answers, and those of what the functions of `book_rules` and `book_choose` tell each
 // other. Assumes nothing.
+#![tactic(auto)]
 
 // What choosing answers: the number, the line that judging speaks of, and the image, which is 0 with every number but 0.
 #[derive(Clone, Copy)]

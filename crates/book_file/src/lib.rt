@@ -1,5 +1,7 @@
 // The stored book, version 1: written from a book that agrees with itself, and read back. Assumes nothing beyond each inner function's
 // `requires`.
+#![tactic(auto)]
+
 ghost use Rattle.std.specs.Prelude.{◌≡◌, [], ◌∷◌, ◌++◌, ◌-◌, ◌≤◌, length, replicate};
 ghost use Rattle.octets.specs.Octets.{bytes_of};
 ghost use Rattle.order.specs.Answers.{writing};

@@ -1,5 +1,7 @@
 // The look at a book's form: whether a lent slice of words is a book in form, and where its sections start. Assumes nothing beyond each
 // inner function's `requires`.
+#![tactic(auto)]
+
 ghost use Rattle.std.specs.Prelude.{◌≡◌, ◌≤◌, length, drop};
 ghost use Rattle.figures.specs.Limits.{most_nodes, greatest_depth, head_words};
 ghost use Rattle.book.specs.Decoding.{book_form_of};

@@ -1,5 +1,7 @@
 // Two books joined: the first becomes the book of the live orders of both. Nothing is written before the last refusal is ruled out. Assumes
 // nothing beyond the inner function's `requires`.
+#![tactic(auto)]
+
 ghost use Rattle.std.specs.Prelude.{◌≡◌};
 ghost use Rattle.book.specs.Holding.{Holds};
 ghost use Rattle.book.specs.Opening.{outcome};

@@ -1,6 +1,8 @@
 // Judging: whether an order's top and parts are all in the book, and otherwise the line to fix: the first one whose part is not, while all that
 // stands strictly below it is; and where that part would stand in the book. Nothing lent is changed. Assumes nothing beyond each inner function's
 // `requires`.
+#![tactic(auto)]
+
 ghost use Rattle.std.specs.Prelude.{◌≡◌};
 ghost use Rattle.order.specs.Levels.{LinesLevelled};
 ghost use Rattle.order.specs.Spans.{GoneOver};

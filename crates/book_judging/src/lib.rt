@@ -1,5 +1,7 @@
 // Judging as definitions and laws: what is answered for an order by a book, and that it passes exactly by document 000; no code. Here are the
 // type that a line's part is sought by, and that of what judging answers. Assumes nothing.
+#![tactic(auto)]
+
 use figures::Answer;
 use section::Neighbours;
 

@@ -1,5 +1,7 @@
 // An order's own book: the book of some teachings of it, listed in a lent slice. Each part is entered once, where it belongs, so that the parts
 // ascend and a book can be weighed against them and changed by them in one pass. Assumes nothing beyond each function's `requires`.
+#![tactic(auto)]
+
 ghost use Rattle.std.specs.Prelude.{◌≡◌, ◌+◌, ◌*◌, ◌/◌, ◌≤◌, ◌<◌, length, replicate};
 ghost use Rattle.words.specs.Base.{over};
 ghost use Rattle.figures.specs.Limits.{least_k, greatest_k};

@@ -1,5 +1,7 @@
 // What the taught orders of a book count in one of its sections, counted anew: each order takes its turn, and each of its parts is tallied for the
 // section's entry that it has, once a turn by a mark. Assumes nothing beyond each function's `requires`.
+#![tactic(auto)]
+
 ghost use Rattle.std.specs.Prelude.{◌≡◌, true, ◌+◌, ◌*◌, ◌/◌, ◌≤◌, ◌<◌, length, drop, replicate};
 ghost use Rattle.figures.specs.Limits.{least_k, most_nodes, most_words};
 ghost use Rattle.figures.specs.Numbers.{done};

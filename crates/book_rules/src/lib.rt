@@ -1,5 +1,7 @@
 // The rules of a list, one by one: whether one stands at a word, whether it fits an order, and what is named then. Nothing lent is changed but a
 // scratch. Assumes nothing beyond each function's `requires`.
+#![tactic(auto)]
+
 ghost use Rattle.std.specs.Prelude.{◌≡◌, ◌≤◌, ◌<◌, length};
 ghost use Rattle.words.specs.Base.{if◌then◌else◌};
 ghost use Rattle.figures.specs.Limits.{most_nodes, greatest_k};

@@ -1,5 +1,7 @@
 // Looking up the parts of an order's lines in a book: the first line whose part is not in its section, and where it would stand there. Nothing
 // lent is changed but a scratch. Assumes nothing beyond each function's `requires`.
+#![tactic(auto)]
+
 ghost use Rattle.std.specs.Prelude.{◌≡◌, ◌+◌, ◌*◌, ◌/◌, ◌≤◌, ◌<◌, length, get_or};
 ghost use Rattle.words.specs.Compare.{compare_of};
 ghost use Rattle.figures.specs.Limits.{most_words};

@@ -1,5 +1,7 @@
 // Teaching and withdrawing: the order's own book is listed, weighed against the book, and then added to it or taken from it. Nothing is
 // written before the last refusal is ruled out. Assumes nothing beyond each inner function's `requires`.
+#![tactic(auto)]
+
 ghost use Rattle.std.specs.Prelude.{◌≡◌};
 ghost use Rattle.book.specs.Holding.{Holds};
 ghost use Rattle.book.specs.Opening.{outcome};

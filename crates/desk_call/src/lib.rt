@@ -1,4 +1,6 @@
 // One call at the desk: its form is read, and its order taught to the book, withdrawn from it or judged by it. Assumes nothing.
+#![tactic(auto)]
+
 ghost use Rattle.std.specs.Prelude.{◌≡◌, get_or};
 ghost use Rattle.figures.specs.Limits.{used_word};
 ghost use Rattle.book.specs.Opening.{outcome};

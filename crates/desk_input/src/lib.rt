@@ -1,5 +1,7 @@
 // What is handed in at the desk: its first line, its letter lines, and the forms between them. Knows nothing of books. Assumes nothing beyond each
 // inner function's `requires`.
+#![tactic(auto)]
+
 ghost use Rattle.std.specs.Prelude.{true, ◌≡◌, ◌+◌, ◌≤◌, length, drop};
 ghost use Rattle.desk_input.specs.Sheets.{letter_byte, letter_of, opening_of};
 ghost use Rattle.desk_input.specs.Places.{letter_at, size_to, depth_on};

@@ -1,4 +1,6 @@
 // What the desk prints for a call: numbers in decimal, and the line of an answer. Assumes nothing beyond each inner function's `requires`.
+#![tactic(auto)]
+
 ghost use Rattle.std.specs.Prelude.{◌≡◌, ◌≤◌, length};
 ghost use Rattle.words.specs.Base.{over};
 ghost use Rattle.desk_line.specs.Replies.{last_digits, decimal, field, reply, reply_room};

@@ -1,4 +1,6 @@
 // The steps of the desk: the opening, and one for each form that is handed in, with the line that is printed for each. Assumes nothing.
+#![tactic(auto)]
+
 ghost use Rattle.std.specs.Prelude.{◌≡◌};
 ghost use Rattle.desk_step.specs.Steps.{stepping, begin_of, step_of};
 

@@ -1,4 +1,6 @@
 // The figures and numbers of 01 by name, k, what can be a node, and the form of an answer: what the crates above count with. Assumes nothing.
+#![tactic(auto)]
+
 ghost use Rattle.std.specs.Prelude.{◌≡◌};
 ghost use Rattle.figures.specs.Answers.{answered, refused_at, wrote};
 

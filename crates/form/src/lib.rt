@@ -1,5 +1,7 @@
 // Order form text: one line per node in preorder. `form_read_line` and `form_read` read it to words, and `form_write_line` and
 // `form_write` write it. Assumes nothing.
+#![tactic(auto)]
+
 mod reading;
 
 pub use reading::{Fault, LineRead};

@@ -1,4 +1,6 @@
 // Order form text, read: its lines in one pass over the bytes, and the words of its nodes. Assumes nothing beyond each function's `requires`.
+#![tactic(auto)]
+
 ghost use Rattle.std.specs.Prelude.{◌≡◌, ◌≤◌, length, drop};
 ghost use Rattle.figures.specs.Limits.{most_words};
 ghost use Rattle.order.specs.Answers.{writing};

@@ -1,4 +1,6 @@
 // How a line of a form is spelt: its level, a space, four digits and LF. Assumes nothing beyond each function's `requires`.
+#![tactic(auto)]
+
 ghost use Rattle.std.specs.Prelude.{true, ◌≡◌, ◌+◌, ◌≤◌, ◌<◌, length, drop};
 ghost use Rattle.form.specs.Reading.{is_digit, figure, is_code, value, code_behind, spelt_of};
 

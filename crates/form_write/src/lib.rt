@@ -1,5 +1,7 @@
 // Order form text, written: how many bytes it takes, by the order's depth or the levels of its lines, and then each line's bytes once. Assumes
 // nothing beyond each function's `requires`.
+#![tactic(auto)]
+
 ghost use Rattle.std.specs.Prelude.{◌≡◌, true, ◌≤◌, length};
 ghost use Rattle.words.specs.Base.{over};
 ghost use Rattle.figures.specs.Numbers.{done};

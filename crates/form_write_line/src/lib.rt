@@ -1,4 +1,6 @@
 // Order form text, written line by line: the bytes of a level, of a code and of a line. Assumes nothing beyond each function's `requires`.
+#![tactic(auto)]
+
 ghost use Rattle.std.specs.Prelude.{◌≡◌, ◌+◌, ◌≤◌, ◌<◌, length};
 ghost use Rattle.words.specs.Base.{over};
 ghost use Rattle.form.specs.Text.{digit, code_size, level_text, code_text, line_text};

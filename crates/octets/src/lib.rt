@@ -1,4 +1,6 @@
 // Words as bytes, high byte first: written and read. It knows nothing of books, and assumes nothing beyond each function's `requires`.
+#![tactic(auto)]
+
 ghost use Rattle.std.specs.Prelude.{◌≡◌, ◌+◌, ◌*◌, ◌/◌, ◌%◌, ◌<◌, length, set};
 ghost use Rattle.octets.specs.Octets.{bytes_of, words_of, word_at_byte};
 

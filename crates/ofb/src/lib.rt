@@ -1,5 +1,7 @@
 // The C interface of the library: the twelve functions of include/ofb.h, each of which calls the function below it and hands its answer on in C's
 // numbers. A slice is a pointer and a length to C. Assumes nothing beyond each inner function's `requires`.
+#![tactic(auto)]
+
 ghost use Rattle.std.specs.Prelude.{◌≡◌, ◌^◌, ◌<◌};
 ghost use Rattle.order.specs.Answers.{subtree_of};
 ghost use Rattle.book.specs.Opening.{open_of};

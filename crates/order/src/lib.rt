@@ -1,5 +1,7 @@
 // Orders as trees: their words, how words are read as an order, subtrees, cuts and parts, and that these are document 000's; as definitions and
 // laws, and no code. Here are the types that what goes over orders is answered by. Assumes nothing.
+#![tactic(auto)]
+
 use figures::Written;
 
 // What a node comes to that has so many children: it lacks one; or the line past its subtree, and how deep that is.

@@ -1,5 +1,7 @@
 // Orders: trees as 16-bit words in a lent slice. Whether words are an order, and the levels of its lines. Assumes nothing beyond each inner
 // function's `requires`.
+#![tactic(auto)]
+
 ghost use Rattle.std.specs.Prelude.{◌≡◌, ◌/◌, ◌≤◌, length};
 ghost use Rattle.figures.specs.Limits.{most_words};
 ghost use Rattle.figures.specs.Numbers.{done};

@@ -1,5 +1,7 @@
 // The subtree of a line of an order, as that part of its words, and its cut, written to a lent slice. Assumes nothing beyond the `requires` of an
 // inner function.
+#![tactic(auto)]
+
 ghost use Rattle.std.specs.Prelude.{◌≡◌, ◌+◌, ◌*◌, ◌/◌, ◌≤◌, ◌<◌, length, get_or, leb};
 ghost use Rattle.words.specs.Base.{over, if◌then◌else◌, same_words};
 ghost use Rattle.figures.specs.Limits.{most_words};

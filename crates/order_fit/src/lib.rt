@@ -1,5 +1,7 @@
 // How deep the tree is that words are, where nothing else is asked of its lines: by a stack of depths in a lent scratch, from the last node to
 // the first. Assumes nothing beyond each function's `requires`.
+#![tactic(auto)]
+
 ghost use Rattle.std.specs.Prelude.{◌≡◌, ◌*◌, ◌/◌, ◌≤◌, ◌<◌, length};
 ghost use Rattle.figures.specs.Limits.{most_nodes, most_words, greatest_depth};
 ghost use Rattle.order.specs.Trees.{Forest};

@@ -1,4 +1,6 @@
 // The part that a line of an order stands for at k, by the depth of its uncut subtree. Assumes nothing beyond the `requires` of an inner function.
+#![tactic(auto)]
+
 ghost use Rattle.std.specs.Prelude.{◌≡◌, ◌+◌, ◌-◌, ◌*◌, ◌<◌, leb, length, get_or};
 ghost use Rattle.words.specs.Base.{if◌then◌else◌};
 ghost use Rattle.order.specs.Answers.{no_part, part_writing, part_into_of};

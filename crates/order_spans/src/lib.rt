@@ -1,5 +1,7 @@
 // The spans of an order's lines: where the subtree of each ends and how deep it is, found from the last line to the first, in a lent scratch.
 // Assumes nothing beyond each function's `requires`.
+#![tactic(auto)]
+
 ghost use Rattle.std.specs.Prelude.{◌≡◌, suc, ◌+◌, ◌*◌, ◌-◌, ◌^◌, ◌≤◌, ◌<◌, max, length, take, drop, set};
 ghost use Rattle.order.specs.Trees.{Tree, subtrees};
 ghost use Rattle.order.specs.Reading.{found, tree_of};

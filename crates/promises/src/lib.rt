@@ -1,1 +1,3 @@
 // The three demands and the numbered cases, as theorems: no code.
+#![tactic(auto)]
+

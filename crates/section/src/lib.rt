@@ -1,5 +1,7 @@
 // Sections of a book: counted entries one after the other in a lent slice, their keys ascending. It knows nothing of trees, and assumes
 // nothing beyond each function's `requires`.
+#![tactic(auto)]
+
 ghost use Rattle.std.specs.Prelude.{◌≡◌, ◌+◌, ◌*◌, ◌≤◌, ◌<◌, length, get_or, drop};
 ghost use Rattle.section.specs.Entries.{entries, span, look};
 ghost use Rattle.section.specs.Near.{near_in, place_at, SearchedTo};

@@ -2,6 +2,8 @@
 // What the other would enter is weighed first; then it is added, or one less of each is taken. Adding opens a gap in front for all that is
 // lacking, and moves what it has passed down over it; taking moves what it has passed down over what it took out. Assumes nothing beyond each
 // function's `requires`.
+#![tactic(auto)]
+
 ghost use Rattle.std.specs.Prelude.{◌≡◌, true, ◌++◌, ◌+◌, ◌*◌, ◌-◌, ◌≤◌, length, get_or, set, take, drop};
 ghost use Rattle.figures.specs.Limits.{greatest_count};
 ghost use Rattle.section.specs.Entries.{section_words, width, first_entry, entries, span, Sorted, add_once};

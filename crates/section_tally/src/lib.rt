@@ -1,5 +1,7 @@
 // Counts tallied for the entries of a section: an index of their places, the entry of a key by halving, and more for the entry of a key,
 // once a turn. It knows nothing of trees, and assumes nothing beyond each function's `requires`.
+#![tactic(auto)]
+
 ghost use Rattle.std.specs.Prelude.{◌≡◌, ◌+◌, ◌≤◌, length, get_or, drop};
 ghost use Rattle.words.specs.Base.{over};
 ghost use Rattle.words.specs.Compare.{compare_of};

@@ -1,5 +1,7 @@
 // Lent slices of 16-bit words: compared, copied, shifted and cleared. It knows nothing of entries or trees, and assumes nothing beyond
 // each function's `requires`.
+#![tactic(auto)]
+
 ghost use Rattle.std.specs.Prelude.{◌≡◌, ◌++◌, suc, ◌+◌, ◌-◌, ◌≤◌, ◌<◌, ◌^◌, pos, negsuc, length, get_or, take, drop, replicate};
 ghost use Rattle.words.specs.Base.{over};
 ghost use Rattle.words.specs.Compare.{compare_of, before, signed_of, size_of};

@@ -1,6 +1,5 @@
 -- `form_read::line_at` meets its contract: a refusal is handed on, and a node is counted under its parent. Assumes nothing.
 use mathlib.Core.Path.{sym, ◌∙◌}
-use borrow.Author.Tests.{not-true, not-false}
 use Rattle.form.proofs.Steps.{under-refused, its_parent, under-full, under_one}
 use borrow.Author.Rules.{rules}
 use Rattle.form_read.proofs.line_at.Statement.{statement}

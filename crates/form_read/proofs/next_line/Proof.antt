@@ -1,7 +1,6 @@
 -- `form_read::next_line` meets its contract: each return has the first fault that its tests found. Assumes nothing.
 use mathlib.Core.Path.{sym, ◌∙◌}
 use lib.ListN.{drop}
-use borrow.Author.Tests.{not-true, not-false}
 use Rattle.form.proofs.Steps.{next_past, next-misspelt, next-zero, next_level, next-deep, next-node}
 use borrow.Author.Rules.{rules}
 use Rattle.form_read.proofs.next_line.Statement.{statement}

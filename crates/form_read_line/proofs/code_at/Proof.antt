@@ -2,7 +2,6 @@
 use mathlib.Core.Path.{sym, ◌∙◌}
 use Prim.Native.Nat.{◌+◌}
 use native.Mathlib.Omega.{arith}
-use borrow.Author.Tests.{not-true, not-false}
 use Rattle.form.proofs.Spelling.{code-short, code-bad, code-good, of_code}
 use borrow.Author.Rules.{rules}
 use Rattle.form_read_line.proofs.code_at.Statement.{statement}

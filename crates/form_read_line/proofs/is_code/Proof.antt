@@ -1,6 +1,6 @@
 -- `form_read_line::is_code` meets its contract: each test that led to a return decides one part of `is_code`. Assumes nothing.
 use mathlib.Core.Path.{sym, ◌∙◌}
-use borrow.Author.Tests.{eq-eqb, ne_eqb, not-true, not-false}
+use borrow.Author.Tests.{eq-eqb, ne_eqb}
 use Rattle.words.specs.Base.{◌and◌}
 use Rattle.form.specs.Reading.{is_code}
 use borrow.Author.Rules.{rules}

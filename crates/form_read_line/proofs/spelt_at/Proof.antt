@@ -1,7 +1,6 @@
 -- `form_read_line::spelt_at` meets its contract, by the digits of the level. Assumes nothing.
 use mathlib.Core.Path.{sym, ◌∙◌}
 use native.Mathlib.Omega.{arith}
-use borrow.Author.Tests.{not-true, not-false}
 use Rattle.form.proofs.Spelling.{line-short, line-bad, line-one, line-zero, line-two}
 use borrow.Author.Rules.{rules}
 use Rattle.form_read_line.proofs.spelt_at.Statement.{statement}

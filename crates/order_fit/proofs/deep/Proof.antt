@@ -1,7 +1,6 @@
 -- `order_fit::deep` meets its contract: each turn puts a node over the trees behind it. Assumes nothing.
 use mathlib.Core.Path.{refl, sym, ◌∙◌}
 use native.Mathlib.Omega.{arith}
-use borrow.Author.Tests.{not-true, not-false}
 use borrow.Author.Rules.{rules}
 use Rattle.order.proofs.Stacking.{
   Stacked,

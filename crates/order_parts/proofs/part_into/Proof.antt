@@ -47,7 +47,6 @@ returns-2 c = ap (λ (r : PartWritten). part_writing r c.args.out.now) c.no_part
 returns-3 : tie.Need-returns-in-At
 unfolding is_low
 returns-3 c =
-    
     let x = c.args in
     let over = c.find_line.ensures.1.0 (stands c.before.before.before.before.before.before.before.before.before).passes in
     let s = stands-span _ _ over _ _ (has c.before.before.before.before.before.before.before.before.before) (stands c.before.before.before.before.before.before.before.before.before) in
