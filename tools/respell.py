@@ -5,7 +5,8 @@ usage: python3 tools/respell.py [--names FILE]      at the top of a repository, 
 
 Functions, lemmas, fields and constructors are in snake case: a capital inside a name begins a new word (`compareOf`: `compare_of`), and a dash
 becomes `_` but where it joins the name of a definition to something (`length-drop` keeps its dash). A lemma that
-would then have another's name gets `_lem`. Types and modules, names of Rattle sources, of the kit's library and of what the check generates keep theirs. --names writes the table of old and new names.
+would then have another's name gets `_lem`. Types and modules, names of Rattle sources, of the kit's library and of what the check generates keep theirs. The
+choice by a test is `when◌then◌else◌`, since `if◌then◌else◌` is the library's own. --names writes the table of old and new names.
 """
 import glob
 import os
@@ -148,6 +149,11 @@ def main(argv):
         text = re.sub(r"`[^`]*`", lambda m: code(m.group(0)), text)
         return WORD.sub(lambda m: table[m.group(0)] if m.group(0) in table and re.search(r"[a-z][A-Z]", m.group(0)) else m.group(0), text)
 
+    def choice(line, rt):
+        """The choice by a test under its own name; in a source only within a clause, where `then` stands."""
+        line = line.replace("if◌then◌else◌", "when◌then◌else◌")
+        return re.sub(r"(?<![\w.'-])if(?![\w'-])" + (r"(?=.* then )" if rt else ""), "when", line)
+
     changed = 0
     for f in files("crates/**/*.antt") + files("crates/**/*.rt"):
         mark = "--" if f.endswith(".antt") else "//"
@@ -155,7 +161,7 @@ def main(argv):
         lines = []
         for line in (ahead(old) if f.endswith(".antt") else old).split("\n"):
             at = 0 if line.lstrip().startswith(mark) else None
-            lines.append(comment(line) if at == 0 else code(line))
+            lines.append(comment(line) if at == 0 else choice(code(line), f.endswith(".rt")))
         new = "\n".join(lines)
         if new != old:
             open(f, "w", encoding="utf-8").write(new)

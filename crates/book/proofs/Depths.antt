@@ -2,7 +2,7 @@
 use Prim.Native.Nat.{ℕ}
 use mathlib.Core.Path.{◌≡◌, refl, sym, ◌∙◌}
 use mathlib.Core.Bool.{Bool, true, false}
-use Rattle.words.specs.Base.{if◌then◌else◌, within}
+use Rattle.words.specs.Base.{when◌then◌else◌, within}
 use Rattle.figures.specs.Limits.{least_k, greatest_k}
 use Rattle.figures.specs.Answers.{depth_of}
 use Rattle.figures.specs.declared.depths.Depth.{Depth}
@@ -16,10 +16,10 @@ Tells k Outside = within least_k greatest_k k ≡ false
 
 -- It tells what is so.
 tells : (k : ℕ) → Tells k (depth_of k)
-unfolding depth_of if◌then◌else◌
+unfolding depth_of when◌then◌else◌
 tells k = go (within least_k greatest_k k) refl
   where
-    go : (b : Bool) → within least_k greatest_k k ≡ b → Tells k (if b then Allowed (record { k = k }) else Outside)
+    go : (b : Bool) → within least_k greatest_k k ≡ b → Tells k (when b then Allowed (record { k = k }) else Outside)
     go true e = (refl, e)
     go false e = e
 

@@ -7,7 +7,7 @@ use native.Mathlib.Nat.{zero-add}
 use borrow.Author.Tests.{le-leb, lt-leb, leb-true}
 use lib.Dec.{leb}
 use lib.ListN.{length, get_or, drop}
-use Rattle.words.specs.Base.{◌and◌, if◌then◌else◌, within}
+use Rattle.words.specs.Base.{◌and◌, when◌then◌else◌, within}
 use Rattle.words.proofs.Tests.{and_left, and_right, and_both, fails_left, fails_right}
 use Rattle.figures.specs.Limits.{head_words, most_book_words, least_k, greatest_k, greatest_count}
 use Rattle.figures.specs.Numbers.{book_size, not_in_form}
@@ -65,17 +65,17 @@ sized-by ws b e = e
 module _ {A : Type 0} (r : ℕ → A) (ws : List ℕ) (f : Book → A) where
   -- In a slice of no size for a book it refuses by 4.
   pub on-unsized : sized ws ≡ false → on_book r ws f ≡ r book_size
-  unfolding on_book if◌then◌else◌
+  unfolding on_book when◌then◌else◌
   on-unsized e = rw e
 
   -- Where the words are no book in form it refuses by 5.
   pub on-unformed : sized ws ≡ true → formed ws ≡ false → on_book r ws f ≡ r not_in_form
-  unfolding on_book decode by_book if◌then◌else◌
+  unfolding on_book decode by_book when◌then◌else◌
   on-unformed e g = rw (e, g)
 
   -- Where they are one it goes by the book.
   on-formed : sized ws ≡ true → formed ws ≡ true → on_book r ws f ≡ f (book_in ws)
-  unfolding on_book decode by_book if◌then◌else◌
+  unfolding on_book decode by_book when◌then◌else◌
   on-formed e g = rw (e, g)
 
 -- What a look at the form gives, by the size and by whether the words are a book in form.
@@ -126,11 +126,11 @@ module _ (ws : List ℕ) (s : Section) where
 
   -- It is what stands there.
   tells : Tells (stretch_of ws (start_of s (places_in ws)) (get_or ws (slot_of s) 0) (shallowest s (get_or ws 0 0)) (deepest s (get_or ws 0 0)))
-  unfolding stretch_of stretch if◌then◌else◌
+  unfolding stretch_of stretch when◌then◌else◌
   tells = go (run_of ws s) refl
     where
       go : (b : Bool) → run_of ws s ≡ b
-          → Tells (if b
+          → Tells (when b
           then InOrder (start_of s (places_in ws) + span (get_or ws (slot_of s) 0) (drop (start_of s (places_in ws)) ws)) (0 + total (entries (get_or ws (slot_of s) 0) (drop (start_of s (places_in ws)) ws)))
           else Broken)
       go true e = record { runs = e; next = end_of s ws; sums = zero-add _ ∙ ap total (sym (section-in s ws)) }

@@ -10,7 +10,7 @@ use mathlib.Core.List.{List, [], ◌∷◌}
 use native.Mathlib.Omega.{arith}
 use borrow.Author.Tests.{leb-true}
 use lib.ListN.{length, get_or, drop}
-use Rattle.words.specs.Base.{if◌then◌else◌, ◌∈◌}
+use Rattle.words.specs.Base.{when◌then◌else◌, ◌∈◌}
 use Rattle.words.proofs.Ordered.{before-lower, lower-before}
 use Rattle.words.proofs.Tests.{and_left, and_right, and_both, never}
 use Rattle.figures.specs.Limits.{head_words, least_k, greatest_k}
@@ -74,7 +74,7 @@ ends_by Middles ws = omega arith
 
 -- Words that are a book in form hold it, and its sections start where they say.
 holding : (ws : List ℕ) → sized ws ≡ true → formed ws ≡ true → Holds ws (places_in ws)
-unfolding sized decode if◌then◌else◌ book_in
+unfolding sized decode when◌then◌else◌ book_in
 holding ws z f =
     let p = formed-passed ws f in
     let b = form-proper (book_in ws) (is-formed ws p) in

@@ -9,7 +9,7 @@ use lib.Dec.{leb, eqb}
 use borrow.Author.Tests.{le-leb, leb-true, eq-eqb, eqb-true}
 use lib.ListN.{length, get_or, drop, replicate, length-append, length-drop, length-replicate}
 use lib.Seq.{drop-drop, drop-append_seam}
-use Rattle.words.specs.Base.{◌and◌, if◌then◌else◌, within, same_words}
+use Rattle.words.specs.Base.{◌and◌, when◌then◌else◌, within, same_words}
 use Rattle.words.proofs.Tests.{and_left, and_right, and_both, same-words, words_same, either, never}
 use Rattle.figures.specs.Limits.{head_words, least_k, greatest_k, greatest_count}
 use Rattle.order.proofs.Fitting.{fits-even}
@@ -373,16 +373,16 @@ formed-passed ws e = passed ws (sym (formed-passes ws) ∙ e)
 
 -- Words that are decoded to a book are its words and then zeros, and it is in form.
 pub decoded : (ws : List ℕ) (b : Book) → decode ws ≡ some b → (lay (length ws) b ≡ ws) × (in_form b ≡ true)
-unfolding decode if◌then◌else◌
+unfolding decode when◌then◌else◌
 decoded ws b e = go (formed ws) refl e
   where
-    go : (t : Bool) → formed ws ≡ t → (if t then some (book_in ws) else none) ≡ some b → (lay (length ws) b ≡ ws) × (in_form b ≡ true)
+    go : (t : Bool) → formed ws ≡ t → (when t then some (book_in ws) else none) ≡ some b → (lay (length ws) b ≡ ws) × (in_form b ≡ true)
     go true f g = let q : book_in ws ≡ b = cc in let p = formed-passed ws f in rw (← q) (is-laid ws p, is-formed ws p)
     go false f g = never cc
 
 -- A book in form is what its words are decoded to.
 pub read_back : (n : ℕ) (b : Book) → in_form b ≡ true → decode (lay n b) ≡ some b
-unfolding decode if◌then◌else◌
+unfolding decode when◌then◌else◌
 read_back n b f = rw (formed-passes (lay n b) ∙ laid-passes n b f, laid-read n b f)
 
 module _ (ws : List ℕ) where

@@ -7,7 +7,7 @@ use mathlib.Core.List.{List, [], ◌∷◌}
 use native.Mathlib.Omega.{arith}
 use borrow.Author.Tests.{le-leb}
 use lib.ListN.{length, replicate, set}
-use Rattle.words.specs.Base.{if◌then◌else◌, within}
+use Rattle.words.specs.Base.{when◌then◌else◌, within}
 use Rattle.words.proofs.Tests.{and_both, either_way}
 use Rattle.figures.specs.Limits.{head_words, most_book_words, least_k, greatest_k}
 use Rattle.figures.specs.Numbers.{done, k_outside, book_size}
@@ -60,18 +60,18 @@ opened-formed k l g =
 module _ (ws : List ℕ) (k : ℕ) (a : Answer) where
   -- A slice of no size for a book is refused by 4.
   pub open_unsized : a ≡ answered book_size → sized ws ≡ false → open_of ws k ≡ outcome a ws
-  unfolding open_of if◌then◌else◌
+  unfolding open_of when◌then◌else◌
   open_unsized e z = rw (z, e)
 
   -- In any other a k outside is refused by 3.
   pub no_depth : a ≡ answered k_outside → sized ws ≡ true → within least_k greatest_k k ≡ false → open_of ws k ≡ outcome a ws
-  unfolding open_of if◌then◌else◌
+  unfolding open_of when◌then◌else◌
   no_depth e z w = rw (z, w, e)
 
   -- Else k and the words of the head, written over zeros, are the opened book.
   pub opens : a ≡ answered done → sized ws ≡ true → within least_k greatest_k k ≡ true → head_words ≤ length ws
       → (l : List ℕ) (v : ℕ) → l ≡ replicate (length ws) 0 → v ≡ k → open_of ws k ≡ outcome a (set (set l 0 v) 1 head_words)
-  unfolding open_of if◌then◌else◌
+  unfolding open_of when◌then◌else◌
   opens e z w h l v f g = rw (z, w, e, f, g, empty-laid (length ws) k h)
 
 -- ---- what opening does
@@ -85,7 +85,7 @@ opened-used k = refl
 module _ (ws : List ℕ) (k : ℕ) (l : head_words ≤ length ws) (s : length ws ≤ most_book_words) (a : least_k ≤ k) (z : k ≤ greatest_k) where
   -- It is answered by 0, and the whole slice is written.
   pub opened : open_of ws k ≡ outcome (answered done) (lay (length ws) (book_of k []))
-  unfolding open_of if◌then◌else◌
+  unfolding open_of when◌then◌else◌
   opened = rw (is-sized ws l s, and_both (le-leb least_k k a) (le-leb k greatest_k z))
 
   -- The words are then those of the empty book.

@@ -10,7 +10,7 @@ use lib.Dec.{leb, eqb}
 use borrow.Author.Tests.{le-leb, lt-leb, leb-true, leb-false, eq-eqb, ne_eqb}
 use lib.ListN.{length, get_or, take, drop, length-drop, drop_of_length-le}
 use lib.Seq.{drop-drop, get_or-drop, drop-cons}
-use Rattle.words.specs.Base.{◌and◌, if◌then◌else◌}
+use Rattle.words.specs.Base.{◌and◌, when◌then◌else◌}
 use Rattle.words.specs.Compare.{before}
 use Rattle.words.proofs.Tests.{fails_left, fails_right}
 use Rattle.figures.specs.Limits.{greatest_count}
@@ -32,12 +32,12 @@ module _ (ws : List ℕ) (at : ℕ) where
 
   -- Where its words are not all there, there is none.
   pub not_whole : length ws < at + 2 + 2 * get_or ws at 0 → whole_at ws at ≡ NoEntry
-  unfolding whole_at if◌then◌else◌
+  unfolding whole_at when◌then◌else◌
   not_whole h = rw (ends_at, lt-leb (at + 2 + 2 * get_or ws at 0) (length ws) h)
 
   -- Where they are, it is told by its end and its count.
   pub whole : at + 2 + 2 * get_or ws at 0 ≤ length ws → whole_at ws at ≡ Ends (at + 2 + 2 * get_or ws at 0) (get_or ws (at + 1) 0)
-  unfolding whole_at if◌then◌else◌
+  unfolding whole_at when◌then◌else◌
   whole h = rw (ends_at, le-leb (at + 2 + 2 * get_or ws at 0) (length ws) h)
 
 -- What an entry that is told has: its end, its count, and all its words.
@@ -54,10 +54,10 @@ module _ (ws : List ℕ) (at : ℕ) where
 
   -- It tells what stands there.
   tells : Tells (whole_at ws at)
-  unfolding whole_at if◌then◌else◌
+  unfolding whole_at when◌then◌else◌
   tells = rw (ends_at ws at) (go (leb (at + 2 + 2 * get_or ws at 0) (length ws)) refl)
     where
-      go : (b : Bool) → leb (at + 2 + 2 * get_or ws at 0) (length ws) ≡ b → Tells (if b then Ends (at + 2 + 2 * get_or ws at 0) (get_or ws (at + 1) 0) else NoEntry)
+      go : (b : Bool) → leb (at + 2 + 2 * get_or ws at 0) (length ws) ≡ b → Tells (when b then Ends (at + 2 + 2 * get_or ws at 0) (get_or ws (at + 1) 0) else NoEntry)
       go true e = record { ends = refl; counts = refl; fits = leb-true _ _ e }
       go false e = leb-false _ _ e
 
@@ -113,12 +113,12 @@ run_step least greatest last ws (suc n) h = rw sub-one
 
 -- A run that is none is told as broken.
 broken : (least greatest : ℕ) (last : List ℕ) (at sum n : ℕ) (ws : List ℕ) → run least greatest last n ws ≡ false → stretch least greatest last at sum n ws ≡ Broken
-unfolding stretch if◌then◌else◌
+unfolding stretch when◌then◌else◌
 broken least greatest last at sum n ws e = rw e
 
 -- With no entry left the run ends here.
 pub all-passed : (least greatest : ℕ) (last : List ℕ) (at sum n : ℕ) (ws : List ℕ) → n ≤ 0 → stretch least greatest last at sum n ws ≡ InOrder at sum
-unfolding stretch if◌then◌else◌ run span entries total
+unfolding stretch when◌then◌else◌ run span entries total
 all-passed least greatest last at sum n ws h = let z : n ≡ 0 = omega arith in rw z (rw (add-zero at, add-zero sum) refl)
 
 -- The entry at `at`, past entries of which the last has the key `last`.

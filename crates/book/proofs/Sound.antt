@@ -12,7 +12,7 @@ use native.Mathlib.Omega.{arith}
 use borrow.Author.Tests.{le-leb, leb-true}
 use lib.ListN.{length, get_or, replicate, get_or-replicate}
 use lib.Seq.{get_or-append-add}
-use Rattle.words.specs.Base.{if◌then◌else◌, within, ◌∈◌}
+use Rattle.words.specs.Base.{when◌then◌else◌, within, ◌∈◌}
 use Rattle.words.specs.Compare.{◌≺◌}
 use Rattle.words.proofs.Tests.{and_left, and_right, and_both, never}
 use Rattle.figures.specs.Limits.{head_words, most_book_words, least_k, greatest_k, least_count, greatest_count}
@@ -148,19 +148,19 @@ module _ (ws : List ℕ) where
 
   -- Where the words are those of a book a call goes by it.
   pub on-any : (b : Book) → IsBook ws b → {A : Type 0} (r : ℕ → A) (f : Book → A) → on_book r ws f ≡ f b
-  unfolding on_book by_book if◌then◌else◌
+  unfolding on_book by_book when◌then◌else◌
   on-any b i r f = rw (is-sized ws i.long i.short, book-decode b i)
 
 -- ---- what a look at the form gives
 
 -- Words that are not in form are decoded to none.
 unformed_none : (ws : List ℕ) → formed ws ≡ false → decode ws ≡ none
-unfolding decode if◌then◌else◌
+unfolding decode when◌then◌else◌
 unformed_none ws e = rw e
 
 -- Words in form are decoded to the book that they hold.
 formed-some : (ws : List ℕ) → formed ws ≡ true → decode ws ≡ some (book_in ws)
-unfolding decode if◌then◌else◌
+unfolding decode when◌then◌else◌
 formed-some ws e = rw e
 
 module _ (ws : List ℕ) where

@@ -8,7 +8,7 @@ use mathlib.Core.List.Memᴰ.{tail as there}
 use mathlib.Core.List.{List, [], ◌∷◌}
 use native.Mathlib.Omega.{arith}
 use borrow.Author.Tests.{eq-eqb, eqb-true}
-use Rattle.words.specs.Base.{if◌then◌else◌, ◌∈◌}
+use Rattle.words.specs.Base.{when◌then◌else◌, ◌∈◌}
 use Rattle.words.proofs.Tests.{no_test, and_left, and_right, and_both, same-words, words_same, by_test}
 use Rattle.figures.specs.Limits.{greatest_depth, least_k, greatest_k, greatest_count}
 use Rattle.order.specs.Trees.{Tree, words}
@@ -32,7 +32,7 @@ use Rattle.book.proofs.Sections.{sections_form}
 
 -- A tree that the test finds in a list stands there.
 pub any_in : (u : Tree) (ts : List Tree) → any_tree u ts ≡ true → u ∈ ts
-unfolding any_tree if◌then◌else◌
+unfolding any_tree when◌then◌else◌
 any_in u [] e = no_test e
 any_in u (t ∷ ts) e = go (same_tree t u) refl (any_in u ts)
   where
@@ -42,11 +42,11 @@ any_in u (t ∷ ts) e = go (same_tree t u) refl (any_in u ts)
 
 -- A tree that stands in a list is found by the test.
 pub in_any : (u : Tree) {ts : List Tree} → u ∈ ts → any_tree u ts ≡ true
-unfolding any_tree if◌then◌else◌
+unfolding any_tree when◌then◌else◌
 in_any u (here {x} e) = let q : same_tree x u ≡ true = rw e (same-tree x) in rw q
 in_any u (there {x} {xs} m) = go (same_tree x u) (in_any u m)
   where
-    go : (b : Bool) → any_tree u xs ≡ true → (if b then true else any_tree u xs) ≡ true
+    go : (b : Bool) → any_tree u xs ≡ true → (when b then true else any_tree u xs) ≡ true
     go true n = refl
     go false n = n
 
@@ -57,18 +57,18 @@ lacks_any u ts lacks = by_test (any_tree u ts) (λ e. absurd (lacks (any_in u ts
 -- ---- counts
 
 -- An entry of a tree counts for the same tree.
-counts-tree : (n : ℕ) (t u : Tree) → counts_for (words u) (counted (words t) n) ≡ (if same_tree t u then n else 0)
+counts-tree : (n : ℕ) (t u : Tree) → counts_for (words u) (counted (words t) n) ≡ (when same_tree t u then n else 0)
 unfolding counts_for same_tree
 counts-tree n t u = refl
 
 -- n more of each tree of a list without repeats count n more for each tree of it, once.
 pub count-each : (n : ℕ) (u : Tree) (ts : List Tree) (es : List Entry) → NoRepeats ts
-    → count_of (words u) (add_each n ts es) ≡ (if any_tree u ts then n else 0) + count_of (words u) es
-unfolding add_each any_tree if◌then◌else◌ NoRepeats
+    → count_of (words u) (add_each n ts es) ≡ (when any_tree u ts then n else 0) + count_of (words u) es
+unfolding add_each any_tree when◌then◌else◌ NoRepeats
 count-each n u [] es r = omega arith
 count-each n u (t ∷ ts) es r = rw (count_add n (words t) (words u) (add_each n ts es), counts-tree n t u, count-each n u ts es r.1) (go (same_tree t u) refl)
   where
-    go : (b : Bool) → same_tree t u ≡ b → (if b then n else 0) + ((if any_tree u ts then n else 0) + count_of (words u) es) ≡ (if (if b then true else any_tree u ts) then n else 0) + count_of (words u) es
+    go : (b : Bool) → same_tree t u ≡ b → (when b then n else 0) + ((when any_tree u ts then n else 0) + count_of (words u) es) ≡ (when (when b then true else any_tree u ts) then n else 0) + count_of (words u) es
     go true e = rw (lacks_any u ts (λ m. r.0 (rw (tree-same t u e) m))) (omega arith)
     go false e = omega arith
 
@@ -157,11 +157,11 @@ taught-fits k (o ∷ os) f Middles e m =
 
 -- No test passes for more teachings than are live.
 teachings-most : (test : Tree → Bool) (k : ℕ) (os : List Teaching) → teachings test os ≤ live (book_of k os)
-unfolding teachings book_of taught live total if◌then◌else◌
+unfolding teachings book_of taught live total when◌then◌else◌
 teachings-most test k [] = omega arith
 teachings-most test k (o ∷ os) = go (test o.order) (teachings-most test k os)
   where
-    go : (b : Bool) → teachings test os ≤ total (book_of k os).T → (if b then o.times else 0) + teachings test os ≤ total (add o.times (words o.order) (book_of k os).T)
+    go : (b : Bool) → teachings test os ≤ total (book_of k os).T → (when b then o.times else 0) + teachings test os ≤ total (add o.times (words o.order) (book_of k os).T)
     go true h = omega (arith, total-add o.times (words o.order) (book_of k os).T)
     go false h = omega (arith, total-add o.times (words o.order) (book_of k os).T)
 

@@ -5,7 +5,7 @@ use mathlib.Core.Bool.{Bool, true, false}
 use mathlib.Core.List.Memᴰ
 use mathlib.Core.List.{List, [], ◌∷◌}
 use native.Mathlib.Omega.{arith}
-use Rattle.words.specs.Base.{if◌then◌else◌, same_words, ◌∈◌}
+use Rattle.words.specs.Base.{when◌then◌else◌, same_words, ◌∈◌}
 use Rattle.words.proofs.Tests.{words_same}
 use Rattle.order.specs.Trees.{Tree, words}
 use Rattle.order.proofs.Once.{NoRepeats, lows-once, middles-once}
@@ -33,16 +33,16 @@ count-each_apart n z (t ∷ ts) es =
     omega (arith, count_add n (words t) z (add_each n ts es), count_add n (words t) z (add_each n ts []), count-each_apart n z ts es)
 
 -- n of each tree of a list without repeats count n for a key that one of each has, and nothing for others.
-pub each-count : (n : ℕ) (z : List ℕ) (ts : List Tree) → NoRepeats ts → count_of z (add_each n ts []) ≡ (if has z (add_each 1 ts []) then n else 0)
-unfolding NoRepeats add_each count_of has if◌then◌else◌
+pub each-count : (n : ℕ) (z : List ℕ) (ts : List Tree) → NoRepeats ts → count_of z (add_each n ts []) ≡ (when has z (add_each 1 ts []) then n else 0)
+unfolding NoRepeats add_each count_of has when◌then◌else◌
 each-count n z [] r = refl
 each-count n z (t ∷ ts) r = go (same_words (words t) z) refl (each-count n z ts r.1)
   where
     none : count_of (words t) (add_each n ts []) ≡ 0
     none = count-each n t ts [] r.1 ∙ rw (lacks_any t ts r.0) (omega arith)
 
-    go : (b : Bool) → same_words (words t) z ≡ b → count_of z (add_each n ts []) ≡ (if has z (add_each 1 ts []) then n else 0)
-        → count_of z (add_each n (t ∷ ts) []) ≡ (if has z (add_each 1 (t ∷ ts) []) then n else 0)
+    go : (b : Bool) → same_words (words t) z ≡ b → count_of z (add_each n ts []) ≡ (when has z (add_each 1 ts []) then n else 0)
+        → count_of z (add_each n (t ∷ ts) []) ≡ (when has z (add_each 1 (t ∷ ts) []) then n else 0)
     go true e ih = rw (has-add 1 (words t) z (add_each 1 ts []), e) (omega (arith, count_add n (words t) z (add_each n ts []), counts-own (words t) z n e, rw (words_same (words t) z e) at none))
     go false e ih = rw (has-add 1 (words t) z (add_each 1 ts []), e) (omega (arith, count_add n (words t) z (add_each n ts []), counts-other (words t) z n e, ih))
 
@@ -81,12 +81,12 @@ live-taught n t b = omega (arith, total-add n (words t) b.T)
 module _ (s : Section) (k n : ℕ) (t u : Tree) where
   -- n teachings count n for a tree that they count in the section.
   pub times-counted : u ∈ trees_in s k t → times_in s k n t u ≡ n
-  unfolding times_in if◌then◌else◌
+  unfolding times_in when◌then◌else◌
   times-counted m = rw (in_any u m)
 
   -- They count nothing for another.
   pub times-other : (u ∈ trees_in s k t → ⊥) → times_in s k n t u ≡ 0
-  unfolding times_in if◌then◌else◌
+  unfolding times_in when◌then◌else◌
   times-other lacks = rw (lacks_any u (trees_in s k t) lacks)
 
 -- n teachings of an order count n more, in each section, for each tree that they count there, and nothing for others.

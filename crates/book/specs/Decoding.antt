@@ -2,7 +2,7 @@
 -- definitions.
 use Rattle.std.specs.Prelude.{ℕ, ◌+◌, Bool, not, List, length, get_or, drop}
 use Rattle.std.proofs.Math.Option.{Option, none, some}
-use Rattle.words.specs.Base.{◌and◌, if◌then◌else◌, within, same_words}
+use Rattle.words.specs.Base.{◌and◌, when◌then◌else◌, within, same_words}
 use Rattle.figures.specs.Limits.{head_words, k_word, taught_word, tops_word, lows_word, middles_word, most_book_words}
 use Rattle.figures.specs.Numbers.{done, book_size, not_in_form}
 use Rattle.figures.specs.Answers.{answered}
@@ -52,7 +52,7 @@ formed ws = in_form (book_in ws) and same_words (lay (length ws) (book_in ws)) w
 
 -- The book in form that the words are, if they are one.
 unfoldable pub decode : List ℕ → Option Book
-decode ws = if formed ws then some (book_in ws) else none
+decode ws = when formed ws then some (book_in ws) else none
 
 -- What follows a book, and what stands where there is none.
 unfoldable pub by_book {ℓ} : {A : Type ℓ} → Option Book → A → (Book → A) → A
@@ -66,7 +66,7 @@ sized ws = within head_words most_book_words (length ws)
 -- 4 and 5, and then what a call does with the book.
 unfoldable pub on_book {ℓ} : {A : Type ℓ} → (ℕ → A) → List ℕ → (Book → A) → A
 on_book refuse ws f =
-    if not (sized ws) then refuse book_size else
+    when not (sized ws) then refuse book_size else
     by_book (decode ws) (refuse not_in_form) f
 
 -- k, where the sections R, L and P of a book start, and where its used words end.

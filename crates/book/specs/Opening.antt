@@ -1,6 +1,6 @@
 -- What `open` answers, for all inputs. Assumes nothing: these are definitions.
 use Rattle.std.specs.Prelude.{ℕ, not, List, [], length}
-use Rattle.words.specs.Base.{if◌then◌else◌, within}
+use Rattle.words.specs.Base.{when◌then◌else◌, within}
 use Rattle.figures.specs.Limits.{least_k, greatest_k}
 use Rattle.figures.specs.Numbers.{done, k_outside, book_size}
 use Rattle.figures.specs.Answers.{answered}
@@ -29,6 +29,6 @@ write_book ws b = outcome (answered done) (lay (length ws) b)
 -- "Open: 4, 3." An opened book is the book of no orders.
 unfoldable pub open_of : List ℕ → ℕ → Outcome
 open_of ws k =
-    if not (sized ws) then leave ws book_size else
-    if not (within least_k greatest_k k) then leave ws k_outside else
+    when not (sized ws) then leave ws book_size else
+    when not (within least_k greatest_k k) then leave ws k_outside else
     write_book ws (book_of k [])

@@ -1,7 +1,7 @@
 -- Inner: no promise rests on these definitions.
 -- What one pass over the words of a section finds, by the definitions of a book in form. Assumes nothing: these are definitions.
 use Rattle.std.specs.Prelude.{ℕ, zero, suc, ◌+◌, Bool, true, List, [], ◌∷◌, leb, eqb, length, get_or, drop}
-use Rattle.words.specs.Base.{◌and◌, if◌then◌else◌}
+use Rattle.words.specs.Base.{◌and◌, when◌then◌else◌}
 use Rattle.words.specs.Compare.{before}
 use Rattle.figures.specs.Limits.{used_word, live_word}
 use Rattle.section.specs.Entries.{first_entry, entries, width, span, total}
@@ -14,7 +14,7 @@ use Rattle.book.specs.declared.Stretch.TheVariants.{InOrder, Broken}
 -- The entry at a word, if all its words are there.
 unfoldable pub whole_at : List ℕ → ℕ → Whole
 whole_at ws at =
-    if leb (at + width (drop at ws)) (length ws)
+    when leb (at + width (drop at ws)) (length ws)
     then Ends (at + width (drop at ws)) (get_or ws (at + 1) 0)
     else NoEntry
 
@@ -28,7 +28,7 @@ run least greatest last (suc n) ws =
 -- What is found of n entries at the front of the words, which stand at word `at`, past entries with this sum of counts.
 unfoldable pub stretch : ℕ → ℕ → List ℕ → ℕ → ℕ → ℕ → List ℕ → Stretch
 stretch least greatest last at sum n ws =
-    if run least greatest last n ws then InOrder (at + span n ws) (sum + total (entries n ws)) else Broken
+    when run least greatest last n ws then InOrder (at + span n ws) (sum + total (entries n ws)) else Broken
 
 -- What is found of the section of n entries that stands at word `from`.
 unfoldable pub stretch_of : List ℕ → ℕ → ℕ → ℕ → ℕ → Stretch

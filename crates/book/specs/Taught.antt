@@ -1,6 +1,6 @@
 -- The book of the orders taught, and a book that agrees with itself (01, "The book"). Assumes nothing: these are definitions.
 use Rattle.std.specs.Prelude.{ℕ, ◌+◌, Bool, true, false, List, [], ◌∷◌, eqb}
-use Rattle.words.specs.Base.{◌and◌, if◌then◌else◌, same_words}
+use Rattle.words.specs.Base.{◌and◌, when◌then◌else◌, same_words}
 use Rattle.section.specs.Entries.{Entry, add}
 use Rattle.order.specs.Trees.{Tree, words}
 use Rattle.order.specs.Reading.{by_found, tree_of}
@@ -41,12 +41,12 @@ book_of k (o ∷ os) = taught o.times o.order (book_of k os)
 -- "the number of live teachings whose order has that part": those of the orders that pass the test
 unfoldable pub teachings : (Tree → Bool) → List Teaching → ℕ
 teachings test [] = 0
-teachings test (o ∷ os) = (if test o.order then o.times else 0) + teachings test os
+teachings test (o ∷ os) = (when test o.order then o.times else 0) + teachings test os
 
 -- Some tree of the list is the same as u.
 unfoldable pub any_tree : Tree → List Tree → Bool
 any_tree u [] = false
-any_tree u (t ∷ ts) = if same_tree t u then true else any_tree u ts
+any_tree u (t ∷ ts) = when same_tree t u then true else any_tree u ts
 
 -- The trees that a teaching of an order counts in a section: the order, its top, its low parts, its middle parts.
 abbrev pub trees_in : Section → ℕ → Tree → List Tree
@@ -57,7 +57,7 @@ trees_in Middles k t = middle_parts k t
 
 -- How often n teachings of an order count a tree in a section, each once.
 unfoldable pub times_in : Section → ℕ → ℕ → Tree → Tree → ℕ
-times_in s k n t u = if any_tree u (trees_in s k t) then n else 0
+times_in s k n t u = when any_tree u (trees_in s k t) then n else 0
 
 -- The teachings that a section T counts.
 unfoldable pub teachings_in : List Entry → List Teaching

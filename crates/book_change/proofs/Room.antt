@@ -7,7 +7,6 @@ use native.Mathlib.Omega.{arith}
 use lib.Dec.{leb}
 use lib.ListN.{length}
 use borrow.Author.Tests.{le-leb, lt-leb}
-use Rattle.words.specs.Base.{if◌then◌else◌}
 use Rattle.book.specs.Book.{Book, used}
 use Rattle.book.specs.Decoding.{book_in}
 use Rattle.book.specs.Holding.{Holds}

@@ -6,7 +6,7 @@ use mathlib.Core.Bool.{Bool, true, false}
 use mathlib.Core.List.{List, [], ◌∷◌}
 use native.Mathlib.Omega.{arith}
 use lib.ListN.{length, get_or, take, drop, length-append, length-drop}
-use Rattle.words.specs.Base.{if◌then◌else◌}
+use Rattle.words.specs.Base.{when◌then◌else◌}
 use Rattle.words.proofs.Shifts.{tail_all}
 use Rattle.figures.specs.Limits.{most_book_words}
 use Rattle.section.specs.Entries.{Entry, section_words, entries, span, has, Sorted}
@@ -49,7 +49,7 @@ module _ (ws : List ℕ) (p : Places) (h : Holds ws p) (s : Section) (at word : 
 
 -- What is lacking of a section is at most its words.
 lacking_most : (os es : List Entry) → lacking_words os es ≤ length (section_words os)
-unfolding lacking_words section_words if◌then◌else◌
+unfolding lacking_words section_words when◌then◌else◌
 lacking_most [] es = omega arith
 lacking_most (o ∷ os) es = go (has o.key es) refl (lacking_most os es)
   where
@@ -75,7 +75,7 @@ parts-weighed other b r l p d e f = rw (d, e, f)
 
 -- What four sections lack, and whether a count of one of them would pass 65,535, is what the other book would do.
 pub book-weighed : (other b : Book) (t r l p : Weighed) → t ≡ weighed_in Taught other b → r ≡ weighed_in Tops other b → l ≡ weighed_in Lows other b → p ≡ weighed_in Middles other b
-    → (x y z : Bool) → x ≡ (if l.overfull then true else p.overfull) → y ≡ (if r.overfull then true else x) → z ≡ (if t.overfull then true else y)
+    → (x y z : Bool) → x ≡ (when l.overfull then true else p.overfull) → y ≡ (when r.overfull then true else x) → z ≡ (when t.overfull then true else y)
     → let each : Lacking = record { taught = t.lacking; tops = r.lacking; lows = l.lacking; middles = p.lacking } in
     ◌≡◌ {A = BookWeighed} (record { each = each; lacking = t.lacking + (r.lacking + l.lacking + p.lacking); overfull = z }) (weighed_book other b)
 unfolding lacking_each lacking_all lacking_parts overfull_any section_of

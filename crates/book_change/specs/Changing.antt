@@ -2,7 +2,7 @@
 -- A book changed by another, section by section: teaching adds an order's own book, in which every count is 1, withdrawing takes it away, and
 -- joining adds a book of any counts. Assumes nothing: these are definitions.
 use Rattle.std.specs.Prelude.{ℕ, ◌+◌, ◌-◌, ◌≤◌, ◌≡◌, Bool, true, List, length}
-use Rattle.words.specs.Base.{if◌then◌else◌}
+use Rattle.words.specs.Base.{when◌then◌else◌}
 use Rattle.figures.specs.Limits.{head_words, most_book_words, greatest_count}
 use Rattle.section.specs.Entries.{Entry}
 use Rattle.section_change.specs.Editing.{add_all, lower_all, lacking_words, overfull, weighed}
@@ -102,9 +102,9 @@ lacking_all other b = lacking_words other.T b.T + lacking_parts other b
 -- "a touched count would pass 65,535", in one of the sections
 unfoldable pub overfull_any : Book → Book → Bool
 overfull_any other b =
-    if overfull other.T b.T then true else
-    (if overfull other.R b.R then true else
-    (if overfull other.L b.L then true else overfull other.P b.P))
+    when overfull other.T b.T then true else
+    (when overfull other.R b.R then true else
+    (when overfull other.L b.L then true else overfull other.P b.P))
 
 -- What another book would do to the book.
 abbrev pub weighed_book : Book → Book → BookWeighed

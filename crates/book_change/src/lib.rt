@@ -3,7 +3,7 @@
 #![tactic(auto)]
 
 ghost use Rattle.std.specs.Prelude.{◌≡◌, true, ◌+◌, ◌-◌, ◌≤◌, leb, length};
-ghost use Rattle.words.specs.Base.{if◌then◌else◌};
+ghost use Rattle.words.specs.Base.{when◌then◌else◌};
 ghost use Rattle.section.specs.Entries.{section_words, entries, span, Sorted};
 ghost use Rattle.section_change.specs.Editing.{fitting, Laid, Edited};
 ghost use Rattle.book.specs.Book.{section_of, used, lay};
@@ -77,7 +77,7 @@ pub fn lacking_parts(book: &[u16], places: Places, other: &[u16], others: Places
 
 // Whether one of two holds.
 fn either(one: bool, other: bool) -> bool
-    ensures { result ≡ (if one then true else other) }
+    ensures { result ≡ (when one then true else other) }
 {
     if one {
         return true;
@@ -267,7 +267,7 @@ pub fn add_book(book: &mut [u16], places: Places, other: &[u16], others: Places)
     ensures came { result ≡ leb (used (changed_book Teach (book_in other.now) (book_in book.old)))
         (length book.old) }
     ensures wrote { book.new ≡
-        (if result then lay (length book.old) (changed_book Teach (book_in other.now) (book_in book.old))
+        (when result then lay (length book.old) (changed_book Teach (book_in other.now) (book_in book.old))
         else book.old) }
 {
     let weighed = weigh_book(book, places, other, others);

@@ -9,7 +9,7 @@ use mathlib.Core.List.{List, [], ◌∷◌}
 use native.Mathlib.Omega.{arith}
 use lib.ListN.{length, get_or, replicate}
 use borrow.Author.Tests.{eq-eqb, eqb-true}
-use Rattle.words.specs.Base.{if◌then◌else◌, ◌∈◌}
+use Rattle.words.specs.Base.{when◌then◌else◌, ◌∈◌}
 use Rattle.words.proofs.Tests.{and_left, and_right, and_both}
 use Rattle.figures.specs.Limits.{greatest_depth}
 use Rattle.section.specs.Entries.{Entry, has, count_of, total, Sorted}
@@ -33,7 +33,7 @@ use Rattle.book_recount.specs.Tallies.{parts_in, all_known, tallied_all}
 
 -- n teachings of an order count n more in a section for each key that one teaching counts there, and nothing for others.
 count-own : (n : ℕ) (t : Tree) (b : Book) (s : Section) (z : List ℕ)
-    → count_of z (section_of s (taught n t b)) ≡ (if has z (section_of s (own_book b.k 1 t)) then n else 0) + count_of z (section_of s b)
+    → count_of z (section_of s (taught n t b)) ≡ (when has z (section_of s (own_book b.k 1 t)) then n else 0) + count_of z (section_of s b)
 count-own n t b s z =
     let ts : List Tree = trees_in s b.k t in
     rw (taught-section n t b s, own_section 1 b.k t s) (omega (arith, count-each_apart n z ts (section_of s b), each-count n z ts (trees-once b.k t s)))
@@ -49,7 +49,7 @@ own_parts s k os t e f = rw (order-read os t (fits-order_of os t e f))
 
 -- Each order of a T in form counts, for the keys that one teaching of it counts, as often as its entry counts.
 count-more : (s : Section) (k : ℕ) (e : Entry) (ts : List Entry) → TaughtOrders (e ∷ ts) → (z : List ℕ)
-    → count_of z (counted_in s k (e ∷ ts)) ≡ (if has z (parts_in s k e.key) then e.count else 0) + count_of z (counted_in s k ts)
+    → count_of z (counted_in s k (e ∷ ts)) ≡ (when has z (parts_in s k e.key) then e.count else 0) + count_of z (counted_in s k ts)
 unfolding book_of
 count-more s k e ts o z =
     let f = first e ts o in
@@ -57,15 +57,15 @@ count-more s k e ts o z =
     let same = own_parts s k e.key f.tree f.spelt (o.limits e (here refl)) in
     let own : section_of s (own_book B.k 1 f.tree) ≡ parts_in s k e.key = ap (λ (n : ℕ). section_of s (own_book n 1 f.tree)) (taught-k k (teachings_in ts)) ∙ sym same in
     ap (λ (os : List Teaching). count_of z (section_of s (book_of k os))) f.reads ∙ count-own e.count f.tree B s z
-    ∙ ap (λ (es : List Entry). (if has z es then e.count else 0) + count_of z (section_of s B)) own
+    ∙ ap (λ (es : List Entry). (when has z es then e.count else 0) + count_of z (section_of s B)) own
 
 -- The orders of a T count for no key more than they count together.
 pub count_most : (s : Section) (k : ℕ) (ts : List Entry) → TaughtOrders ts → (z : List ℕ) → count_of z (counted_in s k ts) ≤ total ts
-unfolding teachings_in count_of total if◌then◌else◌
+unfolding teachings_in count_of total when◌then◌else◌
 count_most s k [] o z = rw (none_in s k) (omega arith)
 count_most s k (e ∷ ts) o z = go (has z (parts_in s k e.key)) (count-more s k e ts o z) (count_most s k ts (later-taught e ts o) z)
   where
-    go : (b : Bool) → count_of z (counted_in s k (e ∷ ts)) ≡ (if b then e.count else 0) + count_of z (counted_in s k ts) → count_of z (counted_in s k ts) ≤ total ts
+    go : (b : Bool) → count_of z (counted_in s k (e ∷ ts)) ≡ (when b then e.count else 0) + count_of z (counted_in s k ts) → count_of z (counted_in s k ts) ≤ total ts
         → count_of z (counted_in s k (e ∷ ts)) ≤ e.count + total ts
     go true q ih = omega arith
     go false q ih = omega arith
@@ -97,12 +97,12 @@ counts-few f n (e ∷ es) h zero = h e.key
 counts-few f n (e ∷ es) h (suc i) = counts-few f n es h i
 
 -- What is tallied for an order is n more for each key that it counts.
-tallied-counts : (n : ℕ) (os es : List Entry) (f : List ℕ → ℕ) → tallied n os es (counts_by f es) ≡ counts_by (λ z. f z + (if has z os then n else 0)) es
-unfolding on_each counts_by if◌then◌else◌
+tallied-counts : (n : ℕ) (os es : List Entry) (f : List ℕ → ℕ) → tallied n os es (counts_by f es) ≡ counts_by (λ z. f z + (when has z os then n else 0)) es
+unfolding on_each counts_by when◌then◌else◌
 tallied-counts n os [] f = refl
 tallied-counts n os (e ∷ es) f = ap₂ (λ (c : ℕ) (cs : List ℕ). c ∷ cs) (go (has e.key os)) (tallied-counts n os es f)
   where
-    go : (b : Bool) → (if b then f e.key + n else f e.key) ≡ f e.key + (if b then n else 0)
+    go : (b : Bool) → (when b then f e.key + n else f e.key) ≡ f e.key + (when b then n else 0)
     go true = refl
     go false = omega arith
 
@@ -112,7 +112,7 @@ unfolding tallied_all teachings_in count_of
 all-counts s k [] es o f = counts_same _ _ es (λ z. rw (none_in s k) (omega arith))
 all-counts s k (t ∷ ts) es o f =
     ap (tallied_all s k ts es) (tallied-counts t.count (parts_in s k t.key) es f)
-    ∙ all-counts s k ts es (later-taught t ts o) (λ z. f z + (if has z (parts_in s k t.key) then t.count else 0))
+    ∙ all-counts s k ts es (later-taught t ts o) (λ z. f z + (when has z (parts_in s k t.key) then t.count else 0))
     ∙ counts_same _ _ es (λ z. omega (arith, count-more s k t ts o z))
 
 -- Tallied from zeros on, it is what they count.
@@ -137,7 +137,7 @@ by_same f (e ∷ es) h i (there m) = by_same f es (and_right _ _ h) i m
 module _ (s : Section) (k : ℕ) where
   -- All is known where each key that the orders count has an entry.
   pub counted-known : (ts es : List Entry) → TaughtOrders ts → ((z : List ℕ) → 1 ≤ count_of z (counted_in s k ts) → has z es ≡ true) → all_known s k ts es ≡ true
-  unfolding all_known if◌then◌else◌ Sorted
+  unfolding all_known when◌then◌else◌ Sorted
   counted-known [] es o h = refl
   counted-known (t ∷ ts) es o h =
       and_both (each-known (parts_in s k t.key) es (λ i m. h i.key (part i m)))
@@ -148,11 +148,11 @@ module _ (s : Section) (k : ℕ) where
 
   -- Where all is known each key that the orders count has an entry.
   pub known-counted : (ts es : List Entry) → TaughtOrders ts → all_known s k ts es ≡ true → (z : List ℕ) → 1 ≤ count_of z (counted_in s k ts) → has z es ≡ true
-  unfolding all_known teachings_in count_of if◌then◌else◌
+  unfolding all_known teachings_in count_of when◌then◌else◌
   known-counted [] es o h z p = absurd (omega (arith, ap (count_of z) (none_in s k)))
   known-counted (t ∷ ts) es o h z p = go (has z (parts_in s k t.key)) refl (count-more s k t ts o z) (known-counted ts es (later-taught t ts o) (and_right _ _ h) z)
     where
-      go : (b : Bool) → has z (parts_in s k t.key) ≡ b → count_of z (counted_in s k (t ∷ ts)) ≡ (if b then t.count else 0) + count_of z (counted_in s k ts)
+      go : (b : Bool) → has z (parts_in s k t.key) ≡ b → count_of z (counted_in s k (t ∷ ts)) ≡ (when b then t.count else 0) + count_of z (counted_in s k ts)
           → (1 ≤ count_of z (counted_in s k ts) → has z es ≡ true) → has z es ≡ true
       go true q c ih =
           let i = has-entry z (parts_in s k t.key) q in

@@ -9,7 +9,7 @@ use native.Mathlib.Omega.{arith}
 use borrow.Author.Tests.{eqb-true, eqb-false, eq-eqb, ne_eqb}
 use lib.Dec.{eqb}
 use lib.ListN.{length, get_or}
-use Rattle.words.specs.Base.{if◌then◌else◌, ◌∈◌, ◌exactly_when◌}
+use Rattle.words.specs.Base.{when◌then◌else◌, ◌∈◌, ◌exactly_when◌}
 use Rattle.words.proofs.Tests.{by_test}
 use Rattle.figures.specs.Limits.{head_words, k_word, least_k, greatest_k, least_image, greatest_image}
 use Rattle.figures.specs.Numbers.{done, no_rules}
@@ -42,12 +42,12 @@ use Rattle.book_choosing.proofs.Images.{image-named, named_image, ByImages, none
 
 -- A verdict that refuses is handed on,
 verdict-stays : (a : Answer) (c : Chosen) → (a.number ≡ done → ⊥) → after_verdict a c ≡ refused_by a
-unfolding after_verdict if◌then◌else◌
+unfolding after_verdict when◌then◌else◌
 verdict-stays a c n = rw (ne_eqb a.number done n)
 
 -- and one that passes gives way to what follows it.
 verdict-passes : (a : Answer) (c : Chosen) → a.number ≡ done → after_verdict a c ≡ c
-unfolding after_verdict if◌then◌else◌
+unfolding after_verdict when◌then◌else◌
 verdict-passes a c e = rw (eq-eqb a.number done e)
 
 -- A slice that is no book in form is refused by 4 or 5.

@@ -7,7 +7,7 @@ use native.Mathlib.Nat.{add-zero}
 use native.Mathlib.Omega.{arith}
 use lib.ListN.{length, drop, get_or, drop_of_length-le}
 use lib.Seq.{get_or-drop}
-use Rattle.words.specs.Base.{if◌then◌else◌, same_words}
+use Rattle.words.specs.Base.{when◌then◌else◌, same_words}
 use Rattle.words.proofs.Tests.{words_same, fails}
 use Rattle.figures.specs.Numbers.{done}
 use Rattle.order.specs.Trees.{Tree, node, words, cut, subtrees}
@@ -58,7 +58,7 @@ module _ (os : List ℕ) (d : ℕ) (tree : List ℕ) (line : ℕ) (sound : cause
     spot = line-spot os t line passes (omega (arith, two_words-a_line os t passes))
 
     -- The line's cut is looked at first.
-    looked_at : cut_from os d tree line ≡ (if same_words (cut_of os (line * 2) d) tree then true else cut_from os d tree (line + 1))
+    looked_at : cut_from os d tree line ≡ (when same_words (cut_of os (line * 2) d) tree then true else cut_from os d tree (line + 1))
     unfolding is_one_of
     looked_at =
         by_tree line
@@ -67,12 +67,12 @@ module _ (os : List ℕ) (d : ℕ) (tree : List ℕ) (line : ℕ) (sound : cause
 
     -- One that has the words is found,
     pub cut-here : same_words (cut_of os (line * 2) d) tree ≡ true → cut_from os d tree line ≡ true
-    unfolding if◌then◌else◌
+    unfolding when◌then◌else◌
     cut-here e = looked_at ∙ rw e
 
     -- and behind another the search goes on.
     pub cut-past : same_words (cut_of os (line * 2) d) tree ≡ false → cut_from os d tree line ≡ cut_from os d tree (line + 1)
-    unfolding if◌then◌else◌
+    unfolding when◌then◌else◌
     cut-past e = looked_at ∙ rw e
 
     -- A line with another code has another cut.

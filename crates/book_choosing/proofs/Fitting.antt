@@ -10,7 +10,7 @@ use mathlib.Core.List.Memᴰ.{tail as there}
 use mathlib.Core.List.{List, [], ◌∷◌, ◌++◌, map}
 use native.Mathlib.Decide.{dec_lt}
 use native.Mathlib.Omega.{arith}
-use Rattle.words.specs.Base.{if◌then◌else◌, same_words, ◌∈◌}
+use Rattle.words.specs.Base.{when◌then◌else◌, same_words, ◌∈◌}
 use Rattle.words.proofs.Tests.{no_test, by_test, either, same-words, words_same}
 use Rattle.order.specs.Trees.{Tree, words, depth, cut, subtrees}
 use Rattle.order.specs.Parts.{low_parts, middle_parts}
@@ -29,7 +29,7 @@ OneOf ws ts = (u : Tree) × (u ∈ ts) × (words u ≡ ws)
 
 -- Words that pass are those of a tree of the list,
 one_of : (ws : List ℕ) (ts : List Tree) → is_one_of ws ts ≡ true → OneOf ws ts
-unfolding is_one_of if◌then◌else◌
+unfolding is_one_of when◌then◌else◌
 one_of ws [] e = no_test e
 one_of ws (t ∷ ts) e =
     by_test (same_words (words t) ws)
@@ -38,7 +38,7 @@ one_of ws (t ∷ ts) e =
 
 -- and the words of a tree of the list pass.
 of_one : {u : Tree} {ts : List Tree} (ws : List ℕ) → u ∈ ts → words u ≡ ws → is_one_of ws ts ≡ true
-unfolding is_one_of if◌then◌else◌
+unfolding is_one_of when◌then◌else◌
 of_one {u} {ts} ws (here {x} e) s = let h : same_words (words x) ws ≡ true = rw (sym s ∙ ap words e) (same-words (words x)) in rw h
 of_one {u} {ts} ws (there {x} m) s = by_test (same_words (words x) ws) (λ h. rw h) (λ h. rw h (of_one ws m s))
 

@@ -9,7 +9,7 @@ use mathlib.Core.List.Memᴰ.{tail as there}
 use mathlib.Core.List.{List, [], ◌∷◌}
 use borrow.Author.Tests.{eqb-true, eqb-false, eq-eqb}
 use lib.Dec.{eqb}
-use Rattle.words.specs.Base.{if◌then◌else◌, ◌and◌, keep, ◌∈◌, ◌exactly_when◌}
+use Rattle.words.specs.Base.{when◌then◌else◌, ◌and◌, keep, ◌∈◌, ◌exactly_when◌}
 use Rattle.words.proofs.Tests.{no_test, by_test, and_left, and_right, and_both}
 use Rattle.figures.specs.Numbers.{no_image, two_images}
 use Rattle.order.specs.Trees.{Tree}
@@ -78,7 +78,7 @@ pub data ByImages (is : List ℕ) (c : Chosen) : Type 0 where
 
 -- What is chosen has its reason,
 pub images_is : (is : List ℕ) → ByImages is (one_image is)
-unfolding one_image if◌then◌else◌
+unfolding one_image when◌then◌else◌
 images_is [] = none_named refl (λ i m. Memᴰ.not-nil m)
 images_is (x ∷ is) =
     by_test (all_are x is)

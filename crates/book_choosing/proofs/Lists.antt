@@ -13,7 +13,7 @@ use borrow.Author.Tests.{leb-true, le-leb}
 use lib.Dec.{leb}
 use lib.ListN.{length, take, drop, length-append, take-append-drop}
 use lib.Seq.{length-take-le, take-append_seam, drop-append_seam}
-use Rattle.words.specs.Base.{if◌then◌else◌, ◌and◌, within, ◌∈◌}
+use Rattle.words.specs.Base.{when◌then◌else◌, ◌and◌, within, ◌∈◌}
 use Rattle.words.proofs.Tests.{by_test, never, and_left, and_right, and_both}
 use Rattle.figures.specs.Limits.{most_rules, least_image, greatest_image}
 use Rattle.order.proofs.Fitting.{fits-tree, tree-fits, fits-even}
@@ -107,7 +107,7 @@ to_words k (r ∷ l) each =
 
 -- What is read as a list of rules is one,
 pub rules-is : (k : ℕ) (rs : List ℕ) (l : List ImageRule) → rules_of k rs ≡ some l → IsRules k rs l
-unfolding rules_of if◌then◌else◌
+unfolding rules_of when◌then◌else◌
 rules-is k [] l e = no_list e
 rules-is k (n ∷ ws) l e =
     by_test (leb n most_rules)
@@ -118,7 +118,7 @@ rules-is k (n ∷ ws) l e =
 
 -- a list of rules is read as it,
 pub rules-only : (k : ℕ) (rs : List ℕ) (l : List ImageRule) → IsRules k rs l → rules_of k rs ≡ some l
-unfolding rules_of if◌then◌else◌
+unfolding rules_of when◌then◌else◌
 rules-only k rs l i = ap (rules_of k) i.spelt ∙ rw (le-leb (length l) most_rules i.few) (to_words k l i.each)
 
 -- and what is read as none is none.

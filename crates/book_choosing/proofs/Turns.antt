@@ -9,7 +9,7 @@ use borrow.Author.Tests.{leb-true, leb-false, le-leb, lt-leb}
 use lib.Dec.{leb, eqb}
 use lib.ListN.{length, get_or, take, drop, length-drop, drop_of_length-le}
 use lib.Seq.{drop-drop, length-take-le}
-use Rattle.words.specs.Base.{◌and◌, if◌then◌else◌, keep}
+use Rattle.words.specs.Base.{◌and◌, when◌then◌else◌, keep}
 use Rattle.words.proofs.Tests.{by_test, either, no_test, and_right}
 use Rattle.figures.specs.Limits.{most_rules, least_image, greatest_image, least_k}
 use Rattle.figures.specs.Numbers.{done, no_rules}
@@ -43,7 +43,7 @@ AtRule k rs at (Ends end) = OneThere k rs at end
 
 -- A sound rule's tree has words.
 sound-some : (k image : ℕ) (ws : List ℕ) → sound_rule k (record { image = image; tree = ws }) ≡ true → 0 < length ws
-unfolding sound_rule fits_of order_of by_order if◌then◌else◌
+unfolding sound_rule fits_of order_of by_order when◌then◌else◌
 sound-some k image [] e = no_test (and_right _ _ e)
 sound-some k image (w ∷ ws) e = omega arith
 
@@ -79,11 +79,11 @@ module _ (k : ℕ) (rs : List ℕ) (at : ℕ) where
 
   -- What is told of a word is so.
   rule-there : AtRule k rs at (rule_at_of k rs at)
-  unfolding rule_at_of if◌then◌else◌ ◌and◌ rule_before
+  unfolding rule_at_of when◌then◌else◌ ◌and◌ rule_before
   rule-there = go (leb (at + 2) (length rs)) refl (leb (rule_past rs at) (length rs)) refl (sound_rule k (rule_within rs at (rule_past rs at))) refl
     where
       go : (a : Bool) → leb (at + 2) (length rs) ≡ a → (b : Bool) → leb (rule_past rs at) (length rs) ≡ b → (c : Bool) → sound_rule k (rule_within rs at (rule_past rs at)) ≡ c
-          → AtRule k rs at (if not a then NoRule else (if not b then NoRule else (if not c then NoRule else Ends (rule_past rs at))))
+          → AtRule k rs at (when not a then NoRule else (when not b then NoRule else (when not c then NoRule else Ends (rule_past rs at))))
       go false e b f c g = λ n. rules-short n (leb-false (at + 2) (length rs) e)
       go true e false f c g = λ n. rules-next n (leb-true (at + 2) (length rs) e) ∙ rw f
       go true e true f false g = λ n. rules-next n (leb-true (at + 2) (length rs) e) ∙ rw (f, g)
@@ -105,24 +105,24 @@ module _ (k : ℕ) (rs : List ℕ) (at : ℕ) where
 module _ (k : ℕ) (rs : List ℕ) (at : ℕ) where
   -- Two words are not there.
   pub told-short : length rs - at < 2 → NoRule ≡ rule_at_of k rs at
-  unfolding rule_at_of if◌then◌else◌
+  unfolding rule_at_of when◌then◌else◌
   told-short h = rw (lt-leb (at + 2) (length rs) (omega arith)) refl
 
   module _ (two-there : at + 2 ≤ length rs) where
     -- The tree does not end within the list.
     pub told-cut_off : (length rs - (at + 2)) / 2 < get_or rs (at + 1) 0 → NoRule ≡ rule_at_of k rs at
-    unfolding rule_at_of if◌then◌else◌
+    unfolding rule_at_of when◌then◌else◌
     told-cut_off h = rw (le-leb (at + 2) (length rs) two-there, lt-leb (rule_past rs at) (length rs) (omega arith)) refl
 
     module _ (lies : rule_past rs at ≤ length rs) where
       -- The image or the tree is at fault.
       pub told-fault : sound_rule k (rule_within rs at (rule_past rs at)) ≡ false → NoRule ≡ rule_at_of k rs at
-      unfolding rule_at_of if◌then◌else◌
+      unfolding rule_at_of when◌then◌else◌
       told-fault e = rw (le-leb (at + 2) (length rs) two-there, le-leb (rule_past rs at) (length rs) lies, e) refl
 
       -- Neither is.
       pub told-rule : sound_rule k (rule_within rs at (rule_past rs at)) ≡ true → Ends (rule_past rs at) ≡ rule_at_of k rs at
-      unfolding rule_at_of if◌then◌else◌
+      unfolding rule_at_of when◌then◌else◌
       told-rule e = rw (le-leb (at + 2) (length rs) two-there, le-leb (rule_past rs at) (length rs) lies, e) refl
 
 -- A rule whose image is 0 is at fault,
@@ -139,14 +139,14 @@ image-sound k r l g = rw (le-leb least_image r.image l, le-leb r.image greatest_
 
 -- A rule that would not change what is named leaves it.
 pub named_stays : (named : Named) (i : ℕ) → would_change named i ≡ false → also_of named i ≡ named
-unfolding would_change also_of if◌then◌else◌
+unfolding would_change also_of when◌then◌else◌
 named_stays Nothing i e = no_test (sym e)
 named_stays (One j) i e = by_test (eqb i j) (λ h. rw h) (λ h. no_test (sym (rw h at e)))
 named_stays Two i e = refl
 
 -- Whether such a rule fits does not matter.
-pub fits-or_not : (b : Bool) (named : Named) (i : ℕ) → also_of named i ≡ named → named ≡ (if b then also_of named i else named)
-unfolding if◌then◌else◌
+pub fits-or_not : (b : Bool) (named : Named) (i : ℕ) → also_of named i ≡ named → named ≡ (when b then also_of named i else named)
+unfolding when◌then◌else◌
 fits-or_not true named i e = sym e
 fits-or_not false named i e = refl
 
@@ -157,8 +157,8 @@ two_stay [] = refl
 two_stay (i ∷ is) = two_stay is
 
 -- What is named behind one image.
-named_behind : (i : ℕ) (is : List ℕ) → told_of (also_all (One i) is) ≡ told_of (if not (all_are i is) then Two else One i)
-unfolding also_all also_of all_are if◌then◌else◌ ◌and◌
+named_behind : (i : ℕ) (is : List ℕ) → told_of (also_all (One i) is) ≡ told_of (when not (all_are i is) then Two else One i)
+unfolding also_all also_of all_are when◌then◌else◌ ◌and◌
 named_behind i [] = refl
 named_behind i (j ∷ js) =
     by_test (eqb j i)
@@ -167,7 +167,7 @@ named_behind i (j ∷ js) =
 
 -- What is named in the end is what all the images come to.
 named_all : (is : List ℕ) → told_of (also_all Nothing is) ≡ one_image is
-unfolding also_all also_of one_image told_of if◌then◌else◌
+unfolding also_all also_of one_image told_of when◌then◌else◌
 named_all [] = refl
 named_all (i ∷ is) = named_behind i is ∙ by_test (all_are i is) (λ e. rw e) (λ e. rw e)
 
@@ -181,12 +181,12 @@ rule-first (some l) r a f = refl
 
 -- The images of the rules that fit begin with that of a first one that fits,
 images_fit : (k : ℕ) (t : Tree) (r : ImageRule) (l : List ImageRule) → rule_fits k t r ≡ true → images_for k t (r ∷ l) ≡ r.image ∷ images_for k t l
-unfolding images_for keep if◌then◌else◌
+unfolding images_for keep when◌then◌else◌
 images_fit k t r l e = rw e
 
 -- and one that does not fit has none among them.
 images_past : (k : ℕ) (t : Tree) (r : ImageRule) (l : List ImageRule) → rule_fits k t r ≡ false → images_for k t (r ∷ l) ≡ images_for k t l
-unfolding images_for keep if◌then◌else◌
+unfolding images_for keep when◌then◌else◌
 images_past k t r l e = rw e
 
 module _ (k : ℕ) (os rs : List ℕ) (sound : cause_of os ≡ done) where
@@ -216,7 +216,7 @@ module _ (k : ℕ) (os rs : List ℕ) (sound : cause_of os ≡ done) where
 
   -- Nor are over 64 rules.
   pub too_many-rules : most_rules < get_or rs 0 0 → chosen_for k os rs ≡ unchosen no_rules
-  unfolding chosen_by by_rules rules_of if◌then◌else◌
+  unfolding chosen_by by_rules rules_of when◌then◌else◌
   too_many-rules h = for_tree ∙ go rs h
     where
       go : (ws : List ℕ) → most_rules < get_or ws 0 0 → chosen_by k t ws ≡ unchosen no_rules
@@ -225,7 +225,7 @@ module _ (k : ℕ) (os rs : List ℕ) (sound : cause_of os ≡ done) where
 
   -- Otherwise the rules from word 1 on decide.
   pub all_left : 0 < length rs → get_or rs 0 0 ≤ most_rules → chosen_for k os rs ≡ chosen_from k os rs Nothing (get_or rs 0 0) 1
-  unfolding chosen_by rules_of if◌then◌else◌ by_rules
+  unfolding chosen_by rules_of when◌then◌else◌ by_rules
   all_left any few = for_tree ∙ go rs any few ∙ sym (from_tree Nothing (get_or rs 0 0) 1)
     where
       -- By what is read of the rules.
@@ -293,14 +293,14 @@ module _ (k : ℕ) (os rs : List ℕ) (sound : cause_of os ≡ done) where
 
       -- It is named too if it fits.
       looked_at : chosen_from k os rs named left at
-          ≡ chosen_from k os rs (if cut_from os (k - 1) rule.tree 0 then also_of named (get_or rs at 0) else named) (left - 1) end
-      unfolding also_all if◌then◌else◌
+          ≡ chosen_from k os rs (when cut_from os (k - 1) rule.tree 0 then also_of named (get_or rs at 0) else named) (left - 1) end
+      unfolding also_all when◌then◌else◌
       looked_at =
           by_test (cut_from os (k - 1) rule.tree 0)
           (λ e. rw e (behind (also_of named (get_or rs at 0)) (λ l. ap (also_all named) (images_fit k t rule l (fits-by_cut ∙ e)))))
           (λ e. rw e (behind named (λ l. ap (also_all named) (images_past k t rule l (fits-by_cut ∙ e)))))
 
       -- So what is named then, by the cuts at k-1, and the rules behind it decide.
-      pub rule-looked_at : (d : ℕ) (now : Named) → d ≡ k - 1 → now ≡ (if cut_from os d rule.tree 0 then also_of named (get_or rs at 0) else named)
+      pub rule-looked_at : (d : ℕ) (now : Named) → d ≡ k - 1 → now ≡ (when cut_from os d rule.tree 0 then also_of named (get_or rs at 0) else named)
           → chosen_from k os rs named left at ≡ chosen_from k os rs now (left - 1) end
       rule-looked_at d now e f = rw (f, e) looked_at

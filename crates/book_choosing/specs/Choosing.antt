@@ -1,6 +1,6 @@
 -- What `choose` answers, for all inputs (02, "Choose the firmware image"). Assumes nothing: these are definitions.
 use Rattle.std.specs.Prelude.{ℕ, Bool, true, false, not, List, [], ◌∷◌, ◌++◌, map, eqb}
-use Rattle.words.specs.Base.{◌and◌, if◌then◌else◌, same_words, keep}
+use Rattle.words.specs.Base.{◌and◌, when◌then◌else◌, same_words, keep}
 use Rattle.figures.specs.Numbers.{done, no_image, two_images, no_rules}
 use Rattle.figures.specs.declared.Answer.{Answer}
 use Rattle.order.specs.Trees.{Tree, words}
@@ -14,7 +14,7 @@ use Rattle.book_choosing.specs.declared.Chosen.{Chosen}
 -- The words are those of one of the trees.
 unfoldable pub is_one_of : List ℕ → List Tree → Bool
 is_one_of ws [] = false
-is_one_of ws (t ∷ ts) = if same_words (words t) ws then true else is_one_of ws ts
+is_one_of ws (t ∷ ts) = when same_words (words t) ws then true else is_one_of ws ts
 
 -- "A rule fits an order if its tree is one of that order's low or middle parts at the book's k."
 unfoldable pub rule_fits : ℕ → Tree → ImageRule → Bool
@@ -44,7 +44,7 @@ all_are i (j ∷ js) = eqb j i and all_are i js
 -- "The answer is the image when at least one rule fits and all that fit name the same one": by the images of the rules that fit.
 unfoldable pub one_image : List ℕ → Chosen
 one_image [] = unchosen no_image
-one_image (i ∷ is) = if not (all_are i is) then unchosen two_images else chosen i
+one_image (i ∷ is) = when not (all_are i is) then unchosen two_images else chosen i
 
 -- "then 32 for a rule list not so laid out or a rule tree deeper than k-1, then 30 exactly if no rule fits, 31 exactly if two that fit differ"
 unfoldable pub chosen_by : ℕ → Tree → List ℕ → Chosen
@@ -52,7 +52,7 @@ chosen_by k t rs = by_rules (rules_of k rs) (unchosen no_rules) (λ rules. one_i
 
 -- The verdict before what follows it.
 unfoldable pub after_verdict : Answer → Chosen → Chosen
-after_verdict a c = if not (eqb a.number done) then refused_by a else c
+after_verdict a c = when not (eqb a.number done) then refused_by a else c
 
 -- "judge's own checks and verdict first", and then the rules
 unfoldable pub choose_of : List ℕ → List ℕ → List ℕ → Chosen

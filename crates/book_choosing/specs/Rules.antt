@@ -1,7 +1,7 @@
 -- Rule lists and their words (02, "Choose the firmware image"). Assumes nothing: these are definitions.
 use Rattle.std.specs.Prelude.{ℕ, zero, suc, ◌*◌, ◌-◌, Bool, true, false, not, List, [], ◌∷◌, leb, length, take, drop}
 use Rattle.std.proofs.Math.Option.{Option, none, some}
-use Rattle.words.specs.Base.{◌and◌, if◌then◌else◌, within}
+use Rattle.words.specs.Base.{◌and◌, when◌then◌else◌, within}
 use Rattle.figures.specs.Limits.{most_rules, least_image, greatest_image}
 use Rattle.order.specs.Fits.{fits_of}
 
@@ -34,7 +34,7 @@ rules_from k (suc n) (image ∷ nodes ∷ ws) =
 -- The rules of a list: "the number of rules, 0 to 64, then" the rules.
 unfoldable pub rules_of : ℕ → List ℕ → Option (List ImageRule)
 rules_of k [] = none
-rules_of k (n ∷ ws) = if not (leb n most_rules) then none else rules_from k n ws
+rules_of k (n ∷ ws) = when not (leb n most_rules) then none else rules_from k n ws
 
 -- What follows the rules of a list, and what stands where there is no list.
 unfoldable pub by_rules {ℓ} : {A : Type ℓ} → Option (List ImageRule) → A → (List ImageRule → A) → A

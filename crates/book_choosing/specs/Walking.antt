@@ -1,7 +1,7 @@
 -- Inner: no promise rests on these definitions.
 -- What the functions of `book_rules` and `book_choose` find at each rule and at each line. Assumes nothing: these are definitions.
 use Rattle.std.specs.Prelude.{ℕ, ◌+◌, ◌*◌, ◌-◌, Bool, true, false, not, List, [], ◌∷◌, map, leb, eqb, length, get_or, take, drop}
-use Rattle.words.specs.Base.{if◌then◌else◌}
+use Rattle.words.specs.Base.{when◌then◌else◌}
 use Rattle.figures.specs.Numbers.{no_image, two_images, no_rules}
 use Rattle.order.specs.Trees.{cut, subtrees}
 use Rattle.order.specs.Reading.{by_order, order_of}
@@ -24,9 +24,9 @@ rule_within rs at end = record { image = get_or rs at 0; tree = take (end - (at 
 -- What stands at a word of a rule list.
 unfoldable pub rule_at_of : ℕ → List ℕ → ℕ → RuleAt
 rule_at_of k rs at =
-    if not (leb (at + 2) (length rs)) then NoRule else
-    if not (leb (rule_past rs at) (length rs)) then NoRule else
-    if not (sound_rule k (rule_within rs at (rule_past rs at))) then NoRule else
+    when not (leb (at + 2) (length rs)) then NoRule else
+    when not (leb (rule_past rs at) (length rs)) then NoRule else
+    when not (sound_rule k (rule_within rs at (rule_past rs at))) then NoRule else
     Ends (rule_past rs at)
 
 -- Whether the cut at d of one of the order's subtrees has the words of a tree, from a line on, the lines counted from 0.
@@ -36,7 +36,7 @@ cut_from os d tree line = by_order (order_of os) (λ n. false) (λ t. is_one_of 
 -- What is named once one more rule fits.
 unfoldable pub also_of : Named → ℕ → Named
 also_of Nothing i = One i
-also_of (One j) i = if eqb i j then One j else Two
+also_of (One j) i = when eqb i j then One j else Two
 also_of Two i = Two
 
 -- Whether one more rule with this image changes what is named.

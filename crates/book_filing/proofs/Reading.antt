@@ -7,7 +7,7 @@ use native.Mathlib.Omega.{arith}
 use borrow.Author.Tests.{le-leb, lt-leb, leb-true}
 use lib.Dec.{eqb}
 use lib.ListN.{length, get_or, drop}
-use Rattle.words.specs.Base.{◌and◌, if◌then◌else◌, same_words}
+use Rattle.words.specs.Base.{◌and◌, when◌then◌else◌, same_words}
 use Rattle.words.proofs.Tests.{and_left, fails_left}
 use Rattle.figures.specs.Numbers.{book_size, no_mark, other_version}
 use Rattle.figures.specs.Answers.{answered}
@@ -53,22 +53,22 @@ mark-last file h p q = mark-by file h ∙ rw (p, q)
 module _ (file ws : List ℕ) where
   -- A slice of no size for a book is refused by 4.
   pub read-unsized : (a : Answer) → a ≡ answered book_size → sized ws ≡ false → read_file_of file ws ≡ outcome a ws
-  unfolding read_file_of if◌then◌else◌
+  unfolding read_file_of when◌then◌else◌
   read-unsized a e z = rw (z, e)
 
   -- A file without the mark is refused by 12.
   pub read-unmarked : (a : Answer) → a ≡ answered no_mark → sized ws ≡ true → is_marked file ≡ false → read_file_of file ws ≡ outcome a ws
-  unfolding read_file_of if◌then◌else◌
+  unfolding read_file_of when◌then◌else◌
   read-unmarked a e z m = rw (z, m, e)
 
   -- Another version is refused by 13.
   pub read-other : (a : Answer) → a ≡ answered other_version → sized ws ≡ true → is_marked file ≡ true → eqb (word_at_byte file mark_bytes) version ≡ false
       → read_file_of file ws ≡ outcome a ws
-  unfolding read_file_of if◌then◌else◌
+  unfolding read_file_of when◌then◌else◌
   read-other a e z m v = rw (z, m, v, e)
 
   -- In any other file the bytes past the version decide.
   pub read-rest : sized ws ≡ true → is_marked file ≡ true → eqb (word_at_byte file mark_bytes) version ≡ true
       → read_file_of file ws ≡ read_rest_of (drop front_bytes file) ws
-  unfolding read_file_of if◌then◌else◌
+  unfolding read_file_of when◌then◌else◌
   read-rest z m v = rw (z, m, v)

@@ -8,7 +8,7 @@ use native.Mathlib.Omega.{arith}
 use borrow.Author.Tests.{le-leb, lt-leb, eqb-true, eq-eqb}
 use lib.Dec.{eqb}
 use lib.ListN.{length, replicate, drop}
-use Rattle.words.specs.Base.{if◌then◌else◌}
+use Rattle.words.specs.Base.{when◌then◌else◌}
 use Rattle.words.proofs.Tests.{no_test, either_way, never}
 use Rattle.figures.specs.Limits.{most_book_words}
 use Rattle.figures.specs.Numbers.{done, no_room, not_agreeing, no_stored_book}
@@ -48,17 +48,17 @@ no_stored rest v other = restore_none rest v (λ b s. other (used b) s.short (om
 module _ (v : List ℕ) (b : Book) where
   -- A book that does not agree with itself is refused by 9.
   pub restored_disagreeing : agreeing b ≡ false → read_book_of v b ≡ leave v not_agreeing
-  unfolding read_book_of if◌then◌else◌
+  unfolding read_book_of when◌then◌else◌
   restored_disagreeing e = rw e
 
   -- A book that has no room in the slice is refused by 6.
   pub restored_short : agreeing b ≡ true → length v < used b → read_book_of v b ≡ leave v no_room
-  unfolding read_book_of if◌then◌else◌
+  unfolding read_book_of when◌then◌else◌
   restored_short e h = rw (e, lt-leb (used b) (length v) h)
 
   -- A book that agrees with itself and has room is written.
   pub restored_written : agreeing b ≡ true → used b ≤ length v → read_book_of v b ≡ write_book v b
-  unfolding read_book_of if◌then◌else◌
+  unfolding read_book_of when◌then◌else◌
   restored_written e h = rw (e, le-leb (used b) (length v) h)
 
 -- ---- by the form of the words
@@ -97,12 +97,12 @@ module _ (ws : List ℕ) where
     module _ (p : Places) (e : book_form_of ws ≡ InForm p) where
       -- A number other than done refuses, and nothing is read.
       pub restore_numbered : (stored_number ws p.used ≡ done → ⊥) → read_rest_of (bytes_of ws) v ≡ leave v (stored_number ws p.used)
-      unfolding stored_number if◌then◌else◌
+      unfolding stored_number when◌then◌else◌
       restore_numbered = go (eqb p.used (length ws)) (agreeing (book_in ws)) refl refl
         where
           -- By whether all the words are used, and whether their book agrees with itself.
-          go : (t a : Bool) → eqb p.used (length ws) ≡ t → agreeing (book_in ws) ≡ a → ((if not t then no_stored_book else if a then done else not_agreeing) ≡ done → ⊥)
-              → read_rest_of (bytes_of ws) v ≡ leave v (if not t then no_stored_book else if a then done else not_agreeing)
+          go : (t a : Bool) → eqb p.used (length ws) ≡ t → agreeing (book_in ws) ≡ a → ((when not t then no_stored_book else when a then done else not_agreeing) ≡ done → ⊥)
+              → read_rest_of (bytes_of ws) v ≡ leave v (when not t then no_stored_book else when a then done else not_agreeing)
           go true true q r n = absurd (n refl)
           go true false q r n = restore_some (bytes_of ws) v (book_in ws) (form-stored p e (eqb-true p.used (length ws) q)) ∙ restored_disagreeing v (book_in ws) r
           go false a q r n = restore_unused p e (λ u. no_test (sym q ∙ eq-eqb p.used (length ws) u))
@@ -110,11 +110,11 @@ module _ (ws : List ℕ) where
       module _ (d : stored_number ws p.used ≡ done) where
         -- Words that are answered by done are all used, by a book that agrees with itself.
         done-means : (p.used ≡ length ws) × (agreeing (book_in ws) ≡ true)
-        unfolding stored_number if◌then◌else◌
+        unfolding stored_number when◌then◌else◌
         done-means = go (eqb p.used (length ws)) (agreeing (book_in ws)) refl refl d
           where
             -- By whether all the words are used, and whether their book agrees with itself.
-            go : (t a : Bool) → eqb p.used (length ws) ≡ t → agreeing (book_in ws) ≡ a → (if not t then no_stored_book else if a then done else not_agreeing) ≡ done
+            go : (t a : Bool) → eqb p.used (length ws) ≡ t → agreeing (book_in ws) ≡ a → (when not t then no_stored_book else when a then done else not_agreeing) ≡ done
                 → (p.used ≡ length ws) × (agreeing (book_in ws) ≡ true)
             go true true q r c = (eqb-true p.used (length ws) q, r)
             go true false q r c = absurd (omega arith)

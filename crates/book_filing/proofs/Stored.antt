@@ -8,7 +8,7 @@ use native.Mathlib.Omega.{arith}
 use lib.Dec.{leb}
 use borrow.Author.Tests.{le-leb, leb-true}
 use lib.ListN.{length, replicate}
-use Rattle.words.specs.Base.{◌and◌, if◌then◌else◌, same_words}
+use Rattle.words.specs.Base.{◌and◌, when◌then◌else◌, same_words}
 use Rattle.words.proofs.Tests.{and_left, and_right, and_both, same-words, words_same, never}
 use Rattle.figures.specs.Limits.{head_words, most_book_words}
 use Rattle.book.specs.Book.{Book, used, encode, lay, in_form}
@@ -69,12 +69,12 @@ module _ (rest : List ℕ) where
 
   -- Where the book that they hold passes the test, it is the one stored.
   passes-some : stores held ≡ true → stored_in rest ≡ some held
-  unfolding stored_in if◌then◌else◌
+  unfolding stored_in when◌then◌else◌
   passes-some e = rw e
 
   -- Where it fails there is none.
   fails_none : stores held ≡ false → stored_in rest ≡ none
-  unfolding stored_in if◌then◌else◌
+  unfolding stored_in when◌then◌else◌
   fails_none e = rw e
 
   -- The book whose used words the bytes are is found in them.

@@ -7,7 +7,7 @@ use native.Mathlib.Omega.{arith}
 use lib.ListN.{length, get_or, set, take, drop, replicate, drop_of_length-le}
 use lib.Seq.{sets-eq, take_at, drop_at, drop-drop}
 use borrow.Rule.Slice.PartMut.{put_mid}
-use Rattle.words.specs.Base.{if◌then◌else◌, over}
+use Rattle.words.specs.Base.{when◌then◌else◌, over}
 use Rattle.words.proofs.Tests.{either_way}
 use Rattle.figures.specs.Numbers.{done, book_size, not_in_form, not_agreeing}
 use Rattle.figures.specs.Answers.{answered, wrote}
@@ -54,12 +54,12 @@ pub record Agreed (ws : List ℕ) : Type 0 where
 
 module _ (ws : List ℕ) where
   -- A book's words are checked by whether it passes the test of agreeing.
-  check_by : (b : Book) → IsBook ws b → (x : Bool) → agreeing b ≡ x → agree_of ws ≡ answered (if x then done else not_agreeing)
-  check_by b i x e = check_held ws b i ∙ ap (λ (y : Bool). answered (if y then done else not_agreeing)) e
+  check_by : (b : Book) → IsBook ws b → (x : Bool) → agreeing b ≡ x → agree_of ws ≡ answered (when x then done else not_agreeing)
+  check_by b i x e = check_held ws b i ∙ ap (λ (y : Bool). answered (when y then done else not_agreeing)) e
 
   -- Words that are checked with 0 are those of a book that agrees with itself.
   pub checked_agreed : (agree_of ws).number ≡ done → Agreed ws
-  unfolding if◌then◌else◌
+  unfolding when◌then◌else◌
   checked_agreed e = go (why-is ws)
     where
       -- A check with another number is none with 0.
@@ -82,23 +82,23 @@ module _ (ws : List ℕ) where
     -- Where the words are no book in form nothing is written.
     pub file_unheld : (n : ℕ) → book_form_of ws ≡ Refused n → write_file_of ws out ≡ refuse n out
     unfolding write_file_of
-    file_unheld n e = refused-book ws n e (λ m. refuse m out) (λ b. if not (agreeing b) then refuse not_agreeing out else write (file_of b) out)
+    file_unheld n e = refused-book ws n e (λ m. refuse m out) (λ b. when not (agreeing b) then refuse not_agreeing out else write (file_of b) out)
 
     -- A book's file is written by whether it passes the test of agreeing.
-    pub file_by : (b : Book) → IsBook ws b → (x : Bool) → agreeing b ≡ x → write_file_of ws out ≡ (if not x then refuse not_agreeing out else write (file_of b) out)
+    pub file_by : (b : Book) → IsBook ws b → (x : Bool) → agreeing b ≡ x → write_file_of ws out ≡ (when not x then refuse not_agreeing out else write (file_of b) out)
     unfolding write_file_of
     file_by b i x e =
-        on-any ws b i (λ m. refuse m out) (λ c. if not (agreeing c) then refuse not_agreeing out else write (file_of c) out)
-        ∙ ap (λ (y : Bool). if not y then refuse not_agreeing out else write (file_of b) out) e
+        on-any ws b i (λ m. refuse m out) (λ c. when not (agreeing c) then refuse not_agreeing out else write (file_of c) out)
+        ∙ ap (λ (y : Bool). when not y then refuse not_agreeing out else write (file_of b) out) e
 
     -- The file of a book that agrees with itself is written.
     pub agreed_file : (g : Agreed ws) → write_file_of ws out ≡ write (file_of g.held) out
-    unfolding if◌then◌else◌
+    unfolding when◌then◌else◌
     agreed_file g = file_by g.held g.is_book true g.agrees
 
     -- A check with another number than 0 refuses by it, and nothing is written.
     pub refused-file : (n : ℕ) (r : Written) → n ≡ (agree_of ws).number → (n ≡ done → ⊥) → r ≡ wrote n 0 → writing r out ≡ write_file_of ws out
-    unfolding if◌then◌else◌
+    unfolding when◌then◌else◌
     refused-file n r e h a = ap (λ (w : Written). writing w out) a ∙ go (why-is ws)
       where
         -- The check's number is the one that refuses.

@@ -2,7 +2,7 @@
 -- Assumes nothing: these are definitions.
 use Rattle.std.specs.Prelude.{ℕ, Bool, not, List, [], ◌∷◌, ◌++◌, leb, eqb, length, take, drop}
 use Rattle.std.proofs.Math.Option.{Option, none, some}
-use Rattle.words.specs.Base.{◌and◌, if◌then◌else◌, same_words}
+use Rattle.words.specs.Base.{◌and◌, when◌then◌else◌, same_words}
 use Rattle.figures.specs.Limits.{most_book_words}
 use Rattle.figures.specs.Numbers.{done, book_size, no_room, not_agreeing, no_mark, other_version, no_stored_book}
 use Rattle.octets.specs.Octets.{bytes_of, words_of, word_at_byte}
@@ -40,7 +40,7 @@ file_of b = mark ++ bytes_of (version ∷ encode b)
 unfoldable pub write_file_of : List ℕ → List ℕ → Writing
 write_file_of ws out =
     on_book (λ n. refuse n out) ws (λ b.
-    if not (agreeing b) then refuse not_agreeing out else
+    when not (agreeing b) then refuse not_agreeing out else
     write (file_of b) out)
 
 -- ---- read
@@ -54,13 +54,13 @@ is_marked file = leb front_bytes (length file) and same_words (take mark_bytes f
 unfoldable pub stored_in : List ℕ → Option Book
 stored_in rest =
     let b : Book = book_in (words_of rest) in
-    if in_form b and leb (used b) most_book_words and same_words (bytes_of (encode b)) rest then some b else none
+    when in_form b and leb (used b) most_book_words and same_words (bytes_of (encode b)) rest then some b else none
 
 -- 9 and 6, by the book; and then the whole slice is the book.
 unfoldable pub read_book_of : List ℕ → Book → Outcome
 read_book_of ws b =
-    if not (agreeing b) then leave ws not_agreeing else
-    if not (leb (used b) (length ws)) then leave ws no_room else
+    when not (agreeing b) then leave ws not_agreeing else
+    when not (leb (used b) (length ws)) then leave ws no_room else
     write_book ws b
 
 -- 14, 9 and 6, by the bytes past the version.
@@ -70,9 +70,9 @@ read_rest_of rest ws = by_book (stored_in rest) (leave ws no_stored_book) (read_
 -- "Read file: 4, 12, 13, 14, 9, 6."
 unfoldable pub read_file_of : List ℕ → List ℕ → Outcome
 read_file_of file ws =
-    if not (sized ws) then leave ws book_size else
-    if not (is_marked file) then leave ws no_mark else
-    if not (eqb (word_at_byte file mark_bytes) version) then leave ws other_version else
+    when not (sized ws) then leave ws book_size else
+    when not (is_marked file) then leave ws no_mark else
+    when not (eqb (word_at_byte file mark_bytes) version) then leave ws other_version else
     read_rest_of (drop front_bytes file) ws
 
 -- ---- within reading
@@ -80,5 +80,5 @@ read_file_of file ws =
 -- What words that are a book in form, with so many used, are answered by: 14 if these are not all the words, and else 9 or 0.
 unfoldable pub stored_number : List ℕ → ℕ → ℕ
 stored_number ws n =
-    if not (eqb n (length ws)) then no_stored_book else
-    if agreeing (book_in ws) then done else not_agreeing
+    when not (eqb n (length ws)) then no_stored_book else
+    when agreeing (book_in ws) then done else not_agreeing

@@ -8,7 +8,7 @@ use native.Mathlib.Omega.{arith}
 use lib.Dec.{leb, eqb}
 use lib.ListN.{length}
 use borrow.Author.Tests.{le-leb, leb-true, leb-false, eq-eqb, eqb-true}
-use Rattle.words.specs.Base.{if◌then◌else◌}
+use Rattle.words.specs.Base.{when◌then◌else◌}
 use Rattle.words.proofs.Tests.{no_test}
 use Rattle.figures.specs.Limits.{head_words, most_book_words, greatest_count}
 use Rattle.figures.specs.Numbers.{done, book_size, not_in_form, no_room, too_many, not_agreeing, other_k}
@@ -89,28 +89,28 @@ module _ (ws vs : List ℕ) where
         -- By the test of k.
         go : (p : Bool) → eqb b.k c.k ≡ p → join_books ws b c ≡ leave ws other_k
         go true e = absurd (x (eqb-true b.k c.k e))
-        go false e = unfold join_books if◌then◌else◌ in rw e
+        go false e = unfold join_books when◌then◌else◌ in rw e
 
     module _ (same : b.k ≡ c.k) where
       -- 9 on the first
       pub first-unagreed : agreeing b ≡ false → join_of ws vs ≡ leave ws not_agreeing
-      unfolding join_books if◌then◌else◌
+      unfolding join_books when◌then◌else◌
       first-unagreed y = by_both ∙ rw (eq-eqb b.k c.k same, y)
 
       -- 9 on the second
       pub second-unagreed : agreeing b ≡ true → agreeing c ≡ false → join_of ws vs ≡ leave ws not_agreeing
-      unfolding join_books if◌then◌else◌
+      unfolding join_books when◌then◌else◌
       second-unagreed y z = by_both ∙ rw (eq-eqb b.k c.k same, y, z)
 
 module _ (ws vs : List ℕ) (b c : Book) (both : Both ws vs b c) where
   -- What both ask is met.
-  passed : join_of ws vs ≡ (if not (within_counts (joined b c)) then leave ws too_many else (if not (leb (used (joined b c)) (length ws)) then leave ws no_room else write_book ws (joined b c)))
-  unfolding join_books if◌then◌else◌
+  passed : join_of ws vs ≡ (when not (within_counts (joined b c)) then leave ws too_many else (when not (leb (used (joined b c)) (length ws)) then leave ws no_room else write_book ws (joined b c)))
+  unfolding join_books when◌then◌else◌
   passed = by_both ws vs b c both.is_first both.is_second ∙ rw (eq-eqb b.k c.k both.same, both.grown_first.agrees, both.grown_second.agrees)
 
   -- 7
   pub join-passes : greatest_count < live b + live c → join_of ws vs ≡ leave ws too_many
-  unfolding if◌then◌else◌
+  unfolding when◌then◌else◌
   join-passes h = passed ∙ rw (joined-passes b c both.grown_first both.grown_second both.same h)
 
   module _ (few : live b + live c ≤ greatest_count) where
@@ -120,12 +120,12 @@ module _ (ws vs : List ℕ) (b c : Book) (both : Both ws vs b c) where
 
     -- 6
     pub join-crowded : leb (used (joined b c)) (length ws) ≡ false → join_of ws vs ≡ leave ws no_room
-    unfolding if◌then◌else◌
+    unfolding when◌then◌else◌
     join-crowded l = passed ∙ rw (within, l)
 
     -- 0
     pub join-does : used (joined b c) ≤ length ws → join_of ws vs ≡ write_book ws (joined b c)
-    unfolding if◌then◌else◌
+    unfolding when◌then◌else◌
     join-does room = passed ∙ rw (within, le-leb (used (joined b c)) (length ws) room)
 
 -- Joining meets one of the cases.

@@ -7,7 +7,7 @@ use native.Mathlib.Omega.{arith}
 use lib.Dec.{leb}
 use lib.ListN.{length, get_or}
 use borrow.Author.Tests.{leb-true, not-true, not-false}
-use Rattle.words.specs.Base.{◌and◌, if◌then◌else◌}
+use Rattle.words.specs.Base.{◌and◌, when◌then◌else◌}
 use Rattle.words.proofs.Tests.{no_test, and_left, and_right}
 use Rattle.figures.specs.Limits.{greatest_count}
 use Rattle.figures.specs.Numbers.{done, no_room, too_many, not_agreeing, other_k}
@@ -101,21 +101,21 @@ module _ (ws vs : List ℕ) (both : Both ws vs (book_in ws) (book_in vs)) where
     may_add = (sym both.same, ap within_counts (sym sum) ∙ joined-within (book_in ws) (book_in vs) both.grown_first both.grown_second both.same few-live)
 
     module _ (last : List ℕ) (r : Bool) (came : r ≡ leb (used (changed_book Teach (book_in vs) (book_in ws))) (length ws))
-        (wrote : last ≡ (if r then lay (length ws) (changed_book Teach (book_in vs) (book_in ws)) else ws)) where
+        (wrote : last ≡ (when r then lay (length ws) (changed_book Teach (book_in vs) (book_in ws)) else ws)) where
       -- Whether there was room for the joined book.
       room-told : leb (used (joined (book_in ws) (book_in vs))) (length ws) ≡ r
       room-told = ap (λ (b : Book). leb (used b) (length ws)) sum ∙ sym came
 
       -- Where there was none, joining answers 6.
       pub join-no_room : not r ≡ true → outcome (answered no_room) last ≡ join_of ws vs
-      unfolding if◌then◌else◌
+      unfolding when◌then◌else◌
       join-no_room e =
           let z = not-true r e in
           ap (outcome (answered no_room)) (rw z at wrote) ∙ sym (join-crowded ws vs (book_in ws) (book_in vs) both few-live (room-told ∙ z))
 
       -- Where there was, joining answers 0.
       pub join-done : not r ≡ false → outcome (answered done) last ≡ join_of ws vs
-      unfolding if◌then◌else◌
+      unfolding when◌then◌else◌
       join-done e =
           let z = not-false r e in
           ap (outcome (answered done)) ((rw z at wrote) ∙ ap (lay (length ws)) (sym sum))

@@ -1,7 +1,7 @@
 -- What joining two books answers, and what the first is then, for all inputs (02, "Join the workshop's book to the desk's"). Assumes nothing: these
 -- are definitions.
 use Rattle.std.specs.Prelude.{ℕ, ◌+◌, ◌≡◌, not, List, ◌++◌, leb, eqb, length}
-use Rattle.words.specs.Base.{if◌then◌else◌}
+use Rattle.words.specs.Base.{when◌then◌else◌}
 use Rattle.figures.specs.Numbers.{no_room, too_many, not_agreeing, other_k}
 use Rattle.section.specs.Entries.{count_of}
 use Rattle.book.specs.Book.{Book, section_of, used}
@@ -27,11 +27,11 @@ joined b c = book_of b.k (teachings_in b.T ++ teachings_in c.T)
 unfoldable pub join_books : List ℕ → Book → Book → Outcome
 join_books ws b c =
     let sum : Book = joined b c in
-    if not (eqb b.k c.k) then leave ws other_k else
-    if not (agreeing b) then leave ws not_agreeing else
-    if not (agreeing c) then leave ws not_agreeing else
-    if not (within_counts sum) then leave ws too_many else
-    if not (leb (used sum) (length ws)) then leave ws no_room else
+    when not (eqb b.k c.k) then leave ws other_k else
+    when not (agreeing b) then leave ws not_agreeing else
+    when not (agreeing c) then leave ws not_agreeing else
+    when not (within_counts sum) then leave ws too_many else
+    when not (leb (used sum) (length ws)) then leave ws no_room else
     write_book ws sum
 
 -- "Refusals: 4 and 5 on the first book, 4 and 5 on the second, 15 where k differs, 9 on the first, 9 on the second, 7, 6."

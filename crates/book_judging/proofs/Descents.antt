@@ -6,7 +6,7 @@ use mathlib.Core.List.{List, [], ◌∷◌, ◌++◌, append_assoc, append-nil}
 use native.Mathlib.Omega.{arith}
 use lib.ListN.{length, drop, get_or, length-append}
 use lib.Seq.{take-append_seam, drop-append_seam, drop-drop}
-use Rattle.words.specs.Base.{if◌then◌else◌, ◌and◌}
+use Rattle.words.specs.Base.{when◌then◌else◌, ◌and◌}
 use Rattle.figures.specs.Numbers.{done}
 use Rattle.order.specs.Trees.{Tree, node, Forest, bare, cons, subtrees, subtrees_f}
 use Rattle.order.specs.Reading.{found, by_order, cause_of}
@@ -33,12 +33,12 @@ data FirstOf (b : Book) (line : ℕ) (ss : List Tree) (r : ℕ) : Type 0 where
 
 -- `unknown_line` is it.
 first_of : (b : Book) (line : ℕ) (ss : List Tree) → FirstOf b line ss (unknown_line b line ss)
-unfolding unknown_line knows_each ◌and◌ if◌then◌else◌
+unfolding unknown_line knows_each ◌and◌ when◌then◌else◌
 first_of b line [] = all_known_lem refl refl
 first_of b line (s ∷ ss) = go (knows b s) refl (first_of b (suc line) ss)
   where
     -- By whether the first is known, and by the others.
-    go : (x : Bool) → knows b s ≡ x → FirstOf b (suc line) ss (unknown_line b (suc line) ss) → FirstOf b line (s ∷ ss) (if x then unknown_line b (suc line) ss else line)
+    go : (x : Bool) → knows b s ≡ x → FirstOf b (suc line) ss (unknown_line b (suc line) ss) → FirstOf b line (s ∷ ss) (when x then unknown_line b (suc line) ss else line)
     go true k (all_known_lem z e) = all_known_lem z (rw (k, e) refl)
     go true k (unknown-at us u vs z e f g) = unknown-at (s ∷ us) u vs (z ∙ omega arith) (rw e refl) (rw (k, f) refl) g
     go false k h = unknown-at [] s ss (omega arith) refl refl k

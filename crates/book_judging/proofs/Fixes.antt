@@ -6,7 +6,7 @@ use mathlib.Core.Bool.{Bool, true, false}
 use mathlib.Core.List.{List, [], ◌∷◌, ◌++◌}
 use native.Mathlib.Omega.{arith}
 use lib.ListN.{length}
-use Rattle.words.specs.Base.{if◌then◌else◌, ◌and◌}
+use Rattle.words.specs.Base.{when◌then◌else◌, ◌and◌}
 use Rattle.words.proofs.Tests.{no_test, never}
 use Rattle.order.specs.Trees.{Tree, node, Forest, bare, cons, subtrees, subtrees_f, below}
 use Rattle.order.specs.Reading.{found}
@@ -48,17 +48,17 @@ module _ (b : Book) where
 
   -- A known line is none to fix.
   pub known-not : (s : Tree) → knows b s ≡ true → to_fix b s ≡ false
-  unfolding to_fix if◌then◌else◌
+  unfolding to_fix when◌then◌else◌
   known-not s e = rw e
 
   -- An unknown line is one to fix exactly if all below it are known.
   pub unknown-fix : (s : Tree) → knows b s ≡ false → to_fix b s ≡ knows_each b (below s)
-  unfolding to_fix if◌then◌else◌
+  unfolding to_fix when◌then◌else◌
   unknown-fix s e = rw e
 
   -- Of two runs the first line to fix is that of the first, or else of the second.
   least-both : (line : ℕ) (us vs : List Tree) → least_to_fix b line (us ++ vs) ≡ or_doubt (least_to_fix b line us) (least_to_fix b (line + length us) vs)
-  unfolding least_to_fix if◌then◌else◌
+  unfolding least_to_fix when◌then◌else◌
   least-both line [] vs = ap (λ (n : ℕ). least_to_fix b n vs) (omega arith)
   least-both line (u ∷ us) vs = go (to_fix b u) (least-both (suc line) us vs)
     where
@@ -68,13 +68,13 @@ module _ (b : Book) where
 
       -- By whether the first is to be fixed.
       go : (x : Bool) → least_to_fix b (suc line) (us ++ vs) ≡ or_doubt (least_to_fix b (suc line) us) (least_to_fix b (suc line + length us) vs)
-          → (if x then doubt line u else least_to_fix b (suc line) (us ++ vs)) ≡ or_doubt (if x then doubt line u else least_to_fix b (suc line) us) (least_to_fix b (line + suc (length us)) vs)
+          → (when x then doubt line u else least_to_fix b (suc line) (us ++ vs)) ≡ or_doubt (when x then doubt line u else least_to_fix b (suc line) us) (least_to_fix b (line + suc (length us)) vs)
       go true h = refl
       go false h = h ∙ ap (λ (n : ℕ). or_doubt (least_to_fix b (suc line) us) (least_to_fix b n vs)) next
 
   -- Among known lines there is none to fix.
   pub least_known : (line : ℕ) (ss : List Tree) → knows_each b ss ≡ true → least_to_fix b line ss ≡ no_doubt
-  unfolding least_to_fix knows_each ◌and◌ if◌then◌else◌
+  unfolding least_to_fix knows_each ◌and◌ when◌then◌else◌
   least_known line [] e = refl
   least_known line (s ∷ ss) e = go (knows b s) refl e (λ h. least_known (suc line) ss h)
     where
@@ -85,7 +85,7 @@ module _ (b : Book) where
 
   -- Where some line of a tree is unknown, there is one to fix.
   mutual
-    unfolding subtrees least_to_fix knows_each below ◌and◌ if◌then◌else◌
+    unfolding subtrees least_to_fix knows_each below ◌and◌ when◌then◌else◌
 
     pub some-tree : (t : Tree) (line : ℕ) → knows_each b (subtrees t) ≡ false → Some (least_to_fix b line (subtrees t))
     some-tree (node c f) line e = go (knows b (node c f)) refl (knows_each b (subtrees_f f)) refl (λ l. some-row f (suc line) l)
@@ -118,12 +118,12 @@ module _ (b : Book) where
   -- From an unknown line on, the one to fix is one strictly below it, or else that line itself, whatever follows.
   pub least-below : (line c : ℕ) (f : Forest) (rest : List Tree) → knows b (node c f) ≡ false
       → least_to_fix b line (node c f ∷ (subtrees_f f ++ rest)) ≡ or_doubt (least_to_fix b (suc line) (subtrees_f f)) (doubt line (node c f))
-  unfolding least_to_fix below if◌then◌else◌
+  unfolding least_to_fix below when◌then◌else◌
   least-below line c f rest k = go (knows_each b (subtrees_f f)) refl
     where
       -- By whether all strictly below it are known.
       go : (y : Bool) → knows_each b (subtrees_f f) ≡ y
-          → (if to_fix b (node c f) then doubt line (node c f) else least_to_fix b (suc line) (subtrees_f f ++ rest)) ≡ or_doubt (least_to_fix b (suc line) (subtrees_f f)) (doubt line (node c f))
+          → (when to_fix b (node c f) then doubt line (node c f) else least_to_fix b (suc line) (subtrees_f f ++ rest)) ≡ or_doubt (least_to_fix b (suc line) (subtrees_f f)) (doubt line (node c f))
       go true l = rw (unknown-fix (node c f) k, l, least_known (suc line) (subtrees_f f) l) refl
       go false l =
           let s = some-row f (suc line) l in
@@ -139,7 +139,7 @@ module _ (b : Book) where
 
   -- `least_to_fix` is it.
   pub least-is : (i : ℕ) (ss : List Tree) → LeastIs i ss (least_to_fix b (suc i) ss)
-  unfolding least_to_fix tree_at if◌then◌else◌
+  unfolding least_to_fix tree_at when◌then◌else◌
   least-is i [] = none-least refl (λ j s e. not_found e)
   least-is i (s ∷ ss) = go (to_fix b s) refl (least-is (suc i) ss)
     where
@@ -149,7 +149,7 @@ module _ (b : Book) where
 
       -- By whether the first is to be fixed, and by the others.
       go : (x : Bool) → to_fix b s ≡ x → LeastIs (suc i) ss (least_to_fix b (suc (suc i)) ss)
-          → LeastIs i (s ∷ ss) (if x then doubt (suc i) s else least_to_fix b (suc (suc i)) ss)
+          → LeastIs i (s ∷ ss) (when x then doubt (suc i) s else least_to_fix b (suc (suc i)) ss)
       go true e r = is-least zero s (ap (λ (n : ℕ). doubt n s) (omega arith)) refl e (λ m u l q. absurd (omega arith))
       go false e (none-least a f) = none-least a (each f)
         where

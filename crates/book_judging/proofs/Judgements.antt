@@ -4,7 +4,7 @@ use mathlib.Core.Path.{◌≡◌, ap, ap₂, sym, ◌∙◌}
 use mathlib.Core.Bool.{Bool, true, false}
 use mathlib.Core.List.{List}
 use native.Mathlib.Omega.{arith}
-use Rattle.words.specs.Base.{if◌then◌else◌}
+use Rattle.words.specs.Base.{when◌then◌else◌}
 use Rattle.figures.specs.Numbers.{done, top_unknown}
 use Rattle.figures.specs.Answers.{answered}
 use Rattle.figures.specs.declared.Answer.{Answer}
@@ -71,8 +71,8 @@ module _ (b : Book) (os : List ℕ) (t : Tree) (p : Passed os t) where
 
   -- The judgement where no line is to be fixed, by whether the top is there.
   on-top : line_to_fix b os ≡ 0 → (x : Bool) → (top_near b os).there ≡ x
-      → judged_on b t (least_to_fix b 1 (subtrees t)) ≡ (if x then plainly_of done else record { answer = record { number = top_unknown; line = 1 }; near = top_near b os })
-  unfolding verdict_on expected_on doubt_line near_top if◌then◌else◌
+      → judged_on b t (least_to_fix b 1 (subtrees t)) ≡ (when x then plainly_of done else record { answer = record { number = top_unknown; line = 1 }; near = top_near b os })
+  unfolding verdict_on expected_on doubt_line near_top when◌then◌else◌
   on-top h x there = go (least-is b 0 (subtrees t))
     where
       -- Whether R has it.
@@ -80,13 +80,13 @@ module _ (b : Book) (os : List ℕ) (t : Tree) (p : Passed os t) where
       known = sym (near-there (words (top b.k t)) b.R) ∙ ap (λ (r : Neighbours). r.there) (sym top-is) ∙ there
 
       -- By that.
-      by_top : (y : Bool) → has (words (top b.k t)) b.R ≡ y → judged_on b t no_doubt ≡ (if y then plainly_of done else record { answer = record { number = top_unknown; line = 1 }; near = near_top b t })
+      by_top : (y : Bool) → has (words (top b.k t)) b.R ≡ y → judged_on b t no_doubt ≡ (when y then plainly_of done else record { answer = record { number = top_unknown; line = 1 }; near = near_top b t })
       by_top true e = rw e
       by_top false e = rw e
 
       -- By the least line to fix.
       go : LeastIs b 0 (subtrees t) (least_to_fix b 1 (subtrees t))
-          → judged_on b t (least_to_fix b 1 (subtrees t)) ≡ (if x then plainly_of done else record { answer = record { number = top_unknown; line = 1 }; near = top_near b os })
+          → judged_on b t (least_to_fix b 1 (subtrees t)) ≡ (when x then plainly_of done else record { answer = record { number = top_unknown; line = 1 }; near = top_near b os })
       go (none-least e f) = rw top-is (ap (judged_on b t) e ∙ by_top x known)
       go (is-least j s e at n f) = absurd (omega (arith, h, line_is ∙ ap doubt_line e))
 
@@ -145,12 +145,12 @@ module _ (ws os : List ℕ) (p : Places) (H : Holds ws p) where
     -- 20 with line 1 and the top's neighbours where no line is unknown and the top is.
     pub judge_top : line_to_fix (book_in ws) os ≡ 0 → (top_near (book_in ws) os).there ≡ false
         → judgement_of ws os ≡ record { answer = record { number = top_unknown; line = 1 }; near = top_near (book_in ws) os }
-    unfolding if◌then◌else◌
+    unfolding when◌then◌else◌
     judge_top h f = let x = has-tree os e in judge_tree ∙ on-top (book_in ws) os x.tree x.passes h false f
 
     -- 0 alone where the top is known too.
     pub judge_passes : line_to_fix (book_in ws) os ≡ 0 → (top_near (book_in ws) os).there ≡ true → judgement_of ws os ≡ plainly_of done
-    unfolding if◌then◌else◌
+    unfolding when◌then◌else◌
     judge_passes h f = let x = has-tree os e in judge_tree ∙ on-top (book_in ws) os x.tree x.passes h true f
 
 -- ---- any words

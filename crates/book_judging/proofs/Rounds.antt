@@ -6,7 +6,7 @@ use mathlib.Core.List.{List, ◌∷◌}
 use native.Mathlib.Numerals.{add-one}
 use native.Mathlib.Omega.{arith}
 use lib.ListN.{length, take, drop}
-use Rattle.words.specs.Base.{if◌then◌else◌}
+use Rattle.words.specs.Base.{when◌then◌else◌}
 use Rattle.figures.specs.Numbers.{done, low_unknown, middle_unknown}
 use Rattle.section.specs.Entries.{Entry, entries, has, look}
 use Rattle.section.specs.Near.{near_of, near_in, place_at}
@@ -41,12 +41,12 @@ within-last b os line to e h =
 
 -- Whatever is asked of a subtree's part is asked of the section of its kind.
 asked_part : {A : Type 0} (ask : List ℕ → List Entry → A) (b : Book) (s : Tree)
-    → (if is_low b.k s then ask (words s) b.L else ask (words (middle b.k s)) b.P) ≡ ask (words (part_of b.k s).tree) (looked_up_in (is_low b.k s) b)
-unfolding part_of if◌then◌else◌
+    → (when is_low b.k s then ask (words s) b.L else ask (words (middle b.k s)) b.P) ≡ ask (words (part_of b.k s).tree) (looked_up_in (is_low b.k s) b)
+unfolding part_of when◌then◌else◌
 asked_part ask b s = go (is_low b.k s) refl
   where
     -- By whether it is low.
-    go : (low : Bool) → is_low b.k s ≡ low → (if is_low b.k s then ask (words s) b.L else ask (words (middle b.k s)) b.P) ≡ ask (words (part_of b.k s).tree) (looked_up_in (is_low b.k s) b)
+    go : (low : Bool) → is_low b.k s ≡ low → (when is_low b.k s then ask (words s) b.L else ask (words (middle b.k s)) b.P) ≡ ask (words (part_of b.k s).tree) (looked_up_in (is_low b.k s) b)
     go true e = rw e
     go false e = rw e
 
@@ -80,12 +80,12 @@ unfolding judged_line by_found verdict_on expected_on
 unknown-judged b ws os line last at left cut r w S told e =
     let near : near_in (Absent at (r.many - left) (place_at (key_of r os cut) ws last (r.many - left)) (place_at (key_of r os cut) ws at left)) ≡ near_part b S.tree =
     ap near_in (sym told) ∙ sought_near b ws os (line * 2) cut r S in
-    record { at = ap (λ (j : Judgement). j.answer.line) e; is = e ∙ rw (add-one, S.here, ← S.kind) (ap (λ (n : Neighbours). record { answer = record { number = if r.low then low_unknown else middle_unknown; line = suc line }; near = n }) near) }
+    record { at = ap (λ (j : Judgement). j.answer.line) e; is = e ∙ rw (add-one, S.here, ← S.kind) (ap (λ (n : Neighbours). record { answer = record { number = when r.low then low_unknown else middle_unknown; line = suc line }; near = n }) near) }
 
 -- What was sought for a line, and whether its section has it.
 module _ (b : Book) (ws os : List ℕ) (line : ℕ) (cut : List ℕ) (r : Sought) (e : cause_of os ≡ done) (h : line < length os / 2) (S : Seeks b ws os (line * 2) cut r) where
   -- The lines from there on: this one first.
-  within-line : (to : ℕ) → line < to → unknown_within b os line to ≡ (if has (key_of r os cut) (entries r.many (drop r.at ws)) then unknown_within b os (line + 1) to else line + 1)
+  within-line : (to : ℕ) → line < to → unknown_within b os line to ≡ (when has (key_of r os cut) (entries r.many (drop r.at ws)) then unknown_within b os (line + 1) to else line + 1)
   unfolding unknown_line
   within-line to f =
       let l = line_at os line e h in
@@ -100,10 +100,10 @@ module _ (b : Book) (ws os : List ℕ) (line : ℕ) (cut : List ℕ) (r : Sought
 
   -- Past a known part the next lines decide.
   pub within-known : (to : ℕ) → line < to → has (key_of r os cut) (entries r.many (drop r.at ws)) ≡ true → unknown_within b os line to ≡ unknown_within b os (line + 1) to
-  unfolding if◌then◌else◌
+  unfolding when◌then◌else◌
   within-known to f g = within-line to f ∙ rw g
 
   -- An unknown part is the first.
   pub within-unknown : (to : ℕ) → line < to → has (key_of r os cut) (entries r.many (drop r.at ws)) ≡ false → unknown_within b os line to ≡ line + 1
-  unfolding if◌then◌else◌
+  unfolding when◌then◌else◌
   within-unknown to f g = within-line to f ∙ rw g

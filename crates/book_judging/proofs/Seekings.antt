@@ -6,7 +6,7 @@ use mathlib.Core.List.{List}
 use native.Mathlib.Omega.{arith}
 use lib.Dec.{leb}
 use lib.ListN.{length, get_or, length-append}
-use Rattle.words.specs.Base.{if◌then◌else◌, over}
+use Rattle.words.specs.Base.{when◌then◌else◌, over}
 use Rattle.order.specs.Trees.{Tree, words}
 use Rattle.order.specs.Reading.{found}
 use Rattle.order.specs.Parts.{is_low, middle, part_of}
@@ -25,12 +25,12 @@ use Rattle.order.proofs.Spots.{LineAt, spot_within, spot_words}
 
 -- The part of a low subtree is the subtree.
 low-tree : (k : ℕ) (s : Tree) → is_low k s ≡ true → (part_of k s).tree ≡ s
-unfolding part_of if◌then◌else◌
+unfolding part_of when◌then◌else◌
 low-tree k s e = rw e
 
 -- The part of any other subtree is its cut.
 middle-tree : (k : ℕ) (s : Tree) → is_low k s ≡ false → (part_of k s).tree ≡ middle k s
-unfolding part_of if◌then◌else◌
+unfolding part_of when◌then◌else◌
 middle-tree k s e = rw e
 
 -- A line of an order that was gone over, and a book in form.

@@ -11,7 +11,7 @@ use native.Mathlib.Decide.{dec_lt}
 use native.Mathlib.Omega.{arith}
 use borrow.Author.Tests.{leb-true, leb-false}
 use lib.Dec.{leb}
-use Rattle.words.specs.Base.{if◌then◌else◌, ◌and◌, ◌∈◌}
+use Rattle.words.specs.Base.{when◌then◌else◌, ◌and◌, ◌∈◌}
 use Rattle.words.proofs.Tests.{no_test}
 use Rattle.figures.specs.Limits.{least_k}
 use Rattle.figures.specs.Numbers.{done, top_unknown, low_unknown, middle_unknown}
@@ -74,7 +74,7 @@ module _ (b : Book) (two : least_k ≤ b.k) where
 
   -- `knows` goes by the depth of the uncut subtree.
   told : (s : Tree) → Told s (knows b s)
-  unfolding knows is_low if◌then◌else◌
+  unfolding knows is_low when◌then◌else◌
   told s = go (leb (depth s) (b.k - 2)) refl
     where
       go : (low : Bool) → leb (depth s) (b.k - 2) ≡ low → Told s (knows b s)
@@ -189,16 +189,16 @@ module _ (b : Book) (two : least_k ≤ b.k) where
 
     -- The verdict is given by a row.
     pub verdict-is : Verdict b t (verdict b t)
-    unfolding verdict verdict_on if◌then◌else◌
+    unfolding verdict verdict_on when◌then◌else◌
     verdict-is = go (least-is b 0 (subtrees t))
       where
         -- Where every line is known, by the top.
-        tops : AllKnown b t → (x : Bool) → has (words (top b.k t)) b.R ≡ x → Verdict b t (if x then answered done else record { number = top_unknown; line = 1 })
+        tops : AllKnown b t → (x : Bool) → has (words (top b.k t)) b.R ≡ x → Verdict b t (when x then answered done else record { number = top_unknown; line = 1 })
         tops all true e = passing refl (record { top = top_in t e; lows = lows-in all; middles = middles-in all })
         tops all false e = no_top refl all (top-out t e)
 
         -- At the doubted line, by its depth.
-        at : (line : ℕ) (s : Tree) → Doubted b t line s → Told s false → Verdict b t (record { number = if is_low b.k s then low_unknown else middle_unknown; line = line })
+        at : (line : ℕ) (s : Tree) → Doubted b t line s → Told s false → Verdict b t (record { number = when is_low b.k s then low_unknown else middle_unknown; line = line })
         at line s D (told-low d h l) = no_low line s (rw l) D d (has-not_in b.L s h)
         at line s D (told-middle d h l) = no_middle line s (rw l) D d (λ u q i. has-not_in b.P (middle b.k s) h (subst (In b.P) (r_only b.k (omega arith) q (middle-r s)) i))
 

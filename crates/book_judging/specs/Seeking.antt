@@ -2,7 +2,7 @@
 -- What the inner functions of `book_seek` and `book_judge` look up in a book, by the trees that stand in the order's words. Assumes nothing:
 -- these are definitions.
 use Rattle.std.specs.Prelude.{ℕ, zero, suc, ◌+◌, ◌*◌, ◌-◌, ◌≤◌, Bool, true, false, List, [], ◌∷◌, ◌≡◌, length, take, drop}
-use Rattle.words.specs.Base.{if◌then◌else◌}
+use Rattle.words.specs.Base.{when◌then◌else◌}
 use Rattle.figures.specs.Numbers.{done, low_unknown, middle_unknown}
 use Rattle.figures.specs.Answers.{answered}
 use Rattle.section.specs.Entries.{Entry, entries, span, Sorted}
@@ -25,7 +25,7 @@ top_near b os = by_order (order_of os) (λ n. nowhere) (near_top b)
 -- The least line whose subtree's part is unknown, of the subtrees from a line on; 0 where every part is known.
 unfoldable pub unknown_line : Book → ℕ → List Tree → ℕ
 unknown_line b line [] = 0
-unknown_line b line (s ∷ ss) = if knows b s then unknown_line b (suc line) ss else line
+unknown_line b line (s ∷ ss) = when knows b s then unknown_line b (suc line) ss else line
 
 -- The first line of the order whose part is unknown, of the lines from one up to another, both counted from 0; the line is counted from 1, and is
 -- 0 where there is none.
@@ -89,6 +89,6 @@ pub record Seeks (b : Book) (ws os : List ℕ) (at : ℕ) (cut : List ℕ) (r : 
 abbrev pub unknown_of : Sought → List ℕ → List ℕ → ℕ → ℕ → ℕ → ℕ → Judgement
 unknown_of r key ws line last at left =
     record {
-      answer = record { number = if r.low then low_unknown else middle_unknown; line = line };
+      answer = record { number = when r.low then low_unknown else middle_unknown; line = line };
       near = near (r.many - left) false (place_at key ws last (r.many - left)) (place_at key ws at left);
     }

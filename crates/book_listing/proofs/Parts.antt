@@ -7,7 +7,7 @@ use native.Mathlib.Omega.{arith}
 use borrow.Author.Tests.{leb-true, leb-false, le-leb, lt-leb}
 use lib.Dec.{leb}
 use lib.ListN.{length, get_or, drop, drop_of_length-le}
-use Rattle.words.specs.Base.{if◌then◌else◌, keep, same_words}
+use Rattle.words.specs.Base.{when◌then◌else◌, keep, same_words}
 use Rattle.words.proofs.Tests.{no_test, by_test}
 use Rattle.figures.specs.Limits.{least_k, most_words}
 use Rattle.section.specs.Entries.{Entry, counted, has, Sorted, add, add_once}
@@ -40,8 +40,8 @@ enter_each n (t ∷ ts) es = enter_each n ts (add_once (counted (words t) n) es)
 
 module _ {A : Type 0} where
   -- What passes one test and then another is what passes a third that says both.
-  keep-keep : (p q r : A → Bool) → ((x : A) → r x ≡ (if q x then p x else false)) → (l : List A) → keep p (keep q l) ≡ keep r l
-  unfolding keep if◌then◌else◌
+  keep-keep : (p q r : A → Bool) → ((x : A) → r x ≡ (when q x then p x else false)) → (l : List A) → keep p (keep q l) ≡ keep r l
+  unfolding keep when◌then◌else◌
   keep-keep p q r both [] = refl
   keep-keep p q r both (x ∷ l) = go (q x) refl (p x) refl (keep-keep p q r both l)
     where
@@ -52,7 +52,7 @@ module _ {A : Type 0} where
 
   -- A test that all pass keeps all.
   keep_all : (p : A → Bool) → ((x : A) → p x ≡ true) → (l : List A) → keep p l ≡ l
-  unfolding keep if◌then◌else◌
+  unfolding keep when◌then◌else◌
   keep_all p all [] = refl
   keep_all p all (x ∷ l) = rw (all x, keep_all p all l)
 
@@ -67,22 +67,22 @@ abbrev lacks : List Entry → Tree → Bool
 lacks es s = not (has (words s) es)
 
 -- Once a tree has an entry, the other trees that lack one are all that lack one.
-lacks_known : (t u : Tree) (es : List Entry) → has (words t) es ≡ true → lacks es u ≡ (if not (same_tree t u) then lacks es u else false)
-unfolding if◌then◌else◌
+lacks_known : (t u : Tree) (es : List Entry) → has (words t) es ≡ true → lacks es u ≡ (when not (same_tree t u) then lacks es u else false)
+unfolding when◌then◌else◌
 lacks_known t u es h = by_test (same_tree t u) (λ e. rw (e, ← tree-same t u e, h)) (λ e. rw e)
 
 -- With n more of a tree the other trees that lacked an entry lack one.
-lacks_added : (n : ℕ) (t u : Tree) (es : List Entry) → lacks (add n (words t) es) u ≡ (if not (same_tree t u) then lacks es u else false)
-unfolding if◌then◌else◌ same_tree
+lacks_added : (n : ℕ) (t u : Tree) (es : List Entry) → lacks (add n (words t) es) u ≡ (when not (same_tree t u) then lacks es u else false)
+unfolding when◌then◌else◌ same_tree
 lacks_added n t u es = rw (has-add n (words t) (words u) es) (go (same_words (words t) (words u)))
   where
-    go : (b : Bool) → not (if b then true else has (words u) es) ≡ (if not b then lacks es u else false)
+    go : (b : Bool) → not (when b then true else has (words u) es) ≡ (when not b then lacks es u else false)
     go true = refl
     go false = refl
 
 -- Entered one after the other, each tree that had no entry is added once.
 entered-once : (n : ℕ) (ts : List Tree) (es : List Entry) → 1 ≤ n → Sorted es → enter_each n ts es ≡ add_each n (keep (lacks es) (each_once ts)) es
-unfolding enter_each each_once add_each keep if◌then◌else◌
+unfolding enter_each each_once add_each keep when◌then◌else◌
 entered-once n [] es p s = refl
 entered-once n (t ∷ ts) es p s =
     go (has (words t) es) refl (entered-once n ts es p s) (entered-once n ts (add n (words t) es) p (sorted-add n (words t) es p s))
@@ -140,13 +140,13 @@ either_kind k s h =
 module _ (k : ℕ) (s : Tree) (ss : List Tree) (least : least_k ≤ k) where
   -- A subtree of the kind stands for its cut at k-1.
   pub parts_more : (low : Bool) → is_low k s ≡ low → parts_of_kind low k (s ∷ ss) ≡ cut s (k - 1) ∷ parts_of_kind low k ss
-  unfolding parts_of_kind keep if◌then◌else◌ middle is_low
+  unfolding parts_of_kind keep when◌then◌else◌ middle is_low
   parts_more true e = rw (e, cut-shallow s (k - 1) (omega (arith, leb-true (depth s) (k - 2) e)))
   parts_more false e = rw (either_kind k s least, e)
 
   -- One of the other kind adds none.
   pub parts_same : (low : Bool) → (is_low k s ≡ low → ⊥) → parts_of_kind low k (s ∷ ss) ≡ parts_of_kind low k ss
-  unfolding parts_of_kind keep if◌then◌else◌
+  unfolding parts_of_kind keep when◌then◌else◌
   parts_same low other = go low (is_low k s) refl other
     where
       go : (low b : Bool) → is_low k s ≡ b → (is_low k s ≡ low → ⊥) → parts_of_kind low k (s ∷ ss) ≡ parts_of_kind low k ss
@@ -180,11 +180,11 @@ gone_none low k n os t some p = record { some = some; passes = p; sorted = tt; l
 
 -- A key that was entered stays.
 has-entered : (n : ℕ) (z : List ℕ) (ts : List Tree) (es : List Entry) → has z es ≡ true → has z (enter_each n ts es) ≡ true
-unfolding enter_each if◌then◌else◌
+unfolding enter_each when◌then◌else◌
 has-entered n z [] es h = h
 has-entered n z (t ∷ ts) es h = has-entered n z ts (add_once (counted (words t) n) es) (go (same_words (words t) z) (has-once (counted (words t) n) es z))
   where
-    go : (b : Bool) → has z (add_once (counted (words t) n) es) ≡ (if b then true else has z es) → has z (add_once (counted (words t) n) es) ≡ true
+    go : (b : Bool) → has z (add_once (counted (words t) n) es) ≡ (when b then true else has z es) → has z (add_once (counted (words t) n) es) ≡ true
     go true e = e
     go false e = e ∙ h
 

@@ -5,7 +5,7 @@ use mathlib.Core.Bool.{Bool, true, false, beq}
 use mathlib.Core.List.{List, [], ◌∷◌}
 use native.Mathlib.Omega.{arith}
 use lib.ListN.{length, get_or}
-use Rattle.words.specs.Base.{◌and◌, if◌then◌else◌, same_words}
+use Rattle.words.specs.Base.{◌and◌, when◌then◌else◌, same_words}
 use Rattle.words.proofs.Tests.{no_test, same-words, words_same}
 use Rattle.figures.specs.Limits.{least_k}
 use Rattle.figures.specs.Numbers.{done}
@@ -132,7 +132,7 @@ module _ (low : Bool) (k : ℕ) (os : List ℕ) (es : List Entry) (turn n : ℕ)
 
         -- It is one of the parts.
         this-there : has this.key (list_of low k 1 os) ≡ true
-        unfolding if◌then◌else◌
+        unfolding when◌then◌else◌
         this-there = gone_has low k 1 os st.tree (line + 1) with-this gone_on this.key (has-once this st.entered this.key ∙ rw (same-words this.key))
 
         -- If it has no entry not all parts have one.
@@ -161,7 +161,7 @@ module _ (low : Bool) (k : ℕ) (os : List ℕ) (es : List Entry) (turn n : ℕ)
           -- Once it is tallied the lines behind it are left.
           pub turn_tallied : (cs' ms' : List ℕ) → true ≡ has (cut_of os (line * 2) d) es → cs' ≡ tallied_once n turn (sought_in (cut_of os (line * 2) d) es) ms cs
               → ms' ≡ marked_once turn (sought_in (cut_of os (line * 2) d) es) ms → Turning low k os es turn n cs₀ ms₀ cs' ms' (line + 1)
-          unfolding if◌then◌else◌
+          unfolding when◌then◌else◌
           turn_tallied cs' ms' there counts marks = record {
             tree = st.tree;
             entered = with-this;

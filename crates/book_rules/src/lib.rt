@@ -3,7 +3,7 @@
 #![tactic(auto)]
 
 ghost use Rattle.std.specs.Prelude.{◌≡◌, ◌≤◌, ◌<◌, length};
-ghost use Rattle.words.specs.Base.{if◌then◌else◌};
+ghost use Rattle.words.specs.Base.{when◌then◌else◌};
 ghost use Rattle.figures.specs.Limits.{most_nodes, greatest_k};
 ghost use Rattle.order.specs.Levels.{LinesLevelled};
 ghost use Rattle.order.specs.Spans.{GoneOver};
@@ -99,7 +99,7 @@ pub fn with_rule(
     requires gone_over { GoneOver order.now spans.now }
     requires lines_levelled { LinesLevelled order.now levels.now }
     requires tree_nonzero { 0 < length tree.now }
-    ensures { result ≡ (if cut_from order.now d tree.now 0 then also_of named image else named) }
+    ensures { result ≡ (when cut_from order.now d tree.now 0 then also_of named image else named) }
 {
     if !would_change(named, image) {
         return named;

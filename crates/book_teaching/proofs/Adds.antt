@@ -10,7 +10,7 @@ use mathlib.Core.List.{List, [], ◌∷◌}
 use native.Mathlib.Omega.{arith}
 use lib.Dec.{leb}
 use borrow.Author.Tests.{le-leb, lt-leb}
-use Rattle.words.specs.Base.{◌and◌, if◌then◌else◌, same_words, ◌∈◌}
+use Rattle.words.specs.Base.{◌and◌, when◌then◌else◌, same_words, ◌∈◌}
 use Rattle.words.proofs.Tests.{and_left, and_right, and_both, fails_left, fails_right, same-words, not_any, fails_some}
 use Rattle.figures.specs.Limits.{greatest_count}
 use Rattle.order.specs.Trees.{Tree, words}
@@ -161,12 +161,12 @@ has-each (t ∷ ts) es h u (there m) = has-each ts es (and_right _ _ h) u m
 
 -- One of each tree has an entry for each.
 each_in : (ts : List Tree) (t : Tree) → t ∈ ts → has (words t) (add_each 1 ts []) ≡ true
-unfolding add_each if◌then◌else◌
+unfolding add_each when◌then◌else◌
 each_in [] u m = absurd (Memᴰ.not-nil m)
 each_in (t ∷ ts) u (here q) = rw (q, has-add 1 (words t) (words t) (add_each 1 ts []), same-words (words t))
 each_in (t ∷ ts) u (there m) = rw (has-add 1 (words t) (words u) (add_each 1 ts []), each_in ts u m) (go (same_words (words t) (words u)))
   where
-    go : (b : Bool) → (if b then true else true) ≡ true
+    go : (b : Bool) → (when b then true else true) ≡ true
     go true = refl
     go false = refl
 

@@ -7,7 +7,7 @@ use native.Mathlib.Omega.{arith}
 use lib.Dec.{leb}
 use lib.ListN.{length}
 use borrow.Author.Tests.{le-leb, leb-true, leb-false}
-use Rattle.words.specs.Base.{if◌then◌else◌}
+use Rattle.words.specs.Base.{when◌then◌else◌}
 use Rattle.figures.specs.Limits.{greatest_depth}
 use Rattle.figures.specs.Numbers.{done, book_size, not_in_form, no_room, too_many, not_taught, not_agreeing}
 use Rattle.section.specs.Entries.{Sorted, has}
@@ -41,7 +41,7 @@ pub data Met (ws os : List ℕ) : Type 0 where
 
 -- A call with a book in form and an order goes by both.
 on_both : (ws os : List ℕ) (b : Book) (t : Tree) (f : Book → Tree → Outcome) → BookAndOrder ws os b t → on_order ws os f ≡ f b t
-unfolding on_order on_book by_book by_order if◌then◌else◌
+unfolding on_order on_book by_book by_order when◌then◌else◌
 on_both ws os b t f g = rw (g.size, g.is_book, g.is_order)
 
 -- Every call meets one of them.
@@ -113,17 +113,17 @@ module _ (ws os : List ℕ) (b : Book) (t : Tree) (g : BookAndOrder ws os b t) w
 
   -- Where the counts fit then and there is room, teaching writes the book.
   pub teach-does : within_counts (taught 1 t b) ≡ true → used (taught 1 t b) ≤ length ws → teach_of ws os ≡ write_book ws (taught 1 t b)
-  unfolding teach_tree if◌then◌else◌
+  unfolding teach_tree when◌then◌else◌
   teach-does w r = teach-both ∙ rw (w, le-leb (used (taught 1 t b)) (length ws) r)
 
   -- Where the order and its parts have entries, withdrawing writes the book.
   pub withdraw-does : has (words t) b.T ≡ true → has_parts t b ≡ true → withdraw_of ws os ≡ write_book ws (withdrawn t b)
-  unfolding withdraw_tree if◌then◌else◌
+  unfolding withdraw_tree when◌then◌else◌
   withdraw-does h p = withdraw-both ∙ rw (h, p)
 
   -- Teaching is one of its cases.
   pub teach-case : TeachCase ws os (taught 1 t b)
-  unfolding teach_tree if◌then◌else◌
+  unfolding teach_tree when◌then◌else◌
   teach-case = go (within_counts c) refl (leb (used c) (length ws)) refl
     where
       c : Book
@@ -136,7 +136,7 @@ module _ (ws os : List ℕ) (b : Book) (t : Tree) (g : BookAndOrder ws os b t) w
 
   -- Withdrawing is one of its cases.
   pub withdraw-case : WithdrawCase ws os b t
-  unfolding withdraw_tree if◌then◌else◌
+  unfolding withdraw_tree when◌then◌else◌
   withdraw-case = go (has (words t) b.T) refl (has_parts t b) refl
     where
       go : (x : Bool) → has (words t) b.T ≡ x → (y : Bool) → has_parts t b ≡ y → WithdrawCase ws os b t

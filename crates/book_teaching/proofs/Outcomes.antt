@@ -8,7 +8,7 @@ use native.Mathlib.Decide.{dec_lt}
 use native.Mathlib.Omega.{arith}
 use borrow.Author.Tests.{le-leb, lt-leb}
 use lib.ListN.{length, get_or}
-use Rattle.words.specs.Base.{if◌then◌else◌}
+use Rattle.words.specs.Base.{when◌then◌else◌}
 use Rattle.figures.specs.Limits.{greatest_count, greatest_depth}
 use Rattle.figures.specs.Numbers.{done, no_room, too_many, not_taught, not_agreeing}
 use Rattle.figures.specs.Answers.{answered}
@@ -131,7 +131,7 @@ module _ (ws os : List ℕ) (p : Places) (H : Holds ws p) (e : cause_of os ≡ d
 
   -- Where one more live teaching has no room teaching answers 7.
   pub teach-full : get_or ws 2 0 ≡ greatest_count → leave ws too_many ≡ teach_of ws os
-  unfolding teach_of teach_tree if◌then◌else◌
+  unfolding teach_of teach_tree when◌then◌else◌
   teach-full h =
       let w : within_counts (taught 1 tree (book_in ws)) ≡ false = lives_pass tree (book_in ws) H.form (omega (arith, lives ws p H)) in
       sym (by_tree (teach_tree ws) ∙ rw w)
@@ -166,7 +166,7 @@ module _ (ws os : List ℕ) (p : Places) (H : Holds ws p) (e : cause_of os ≡ d
 
       -- Where a count would pass teaching answers 7.
       pub teach-overfull : w.overfull ≡ true → leave ws too_many ≡ teach_of ws os
-      unfolding teach_of teach_tree if◌then◌else◌
+      unfolding teach_of teach_tree when◌then◌else◌
       teach-overfull h =
           let c : within_counts (taught 1 tree (book_in ws)) ≡ false = count-passes tree (book_in ws) H.form (sym passing ∙ h) in
           sym (by_tree (teach_tree ws) ∙ rw c)
@@ -178,7 +178,7 @@ module _ (ws os : List ℕ) (p : Places) (H : Holds ws p) (e : cause_of os ≡ d
 
         -- Where more words are lacking than there is room for teaching answers 6.
         pub teach-crowded : length ws - p.used < w.lacking → leave ws no_room ≡ teach_of ws os
-        unfolding teach_of teach_tree if◌then◌else◌
+        unfolding teach_of teach_tree when◌then◌else◌
         teach-crowded h =
             let r = lt-leb (used (taught 1 tree (book_in ws))) (length ws) (omega (arith, used-then, used-room ws p H)) in
             sym (by_tree (teach_tree ws) ∙ rw (within, r))
@@ -194,7 +194,7 @@ module _ (ws os : List ℕ) (p : Places) (H : Holds ws p) (e : cause_of os ≡ d
 
           -- Once it is added teaching answers 0.
           pub teach-done : (now : List ℕ) → now ≡ lay (length ws) (changed_book Teach (book_in own) (book_in ws)) → outcome (answered done) now ≡ teach_of ws os
-          unfolding teach_of teach_tree if◌then◌else◌
+          unfolding teach_of teach_tree when◌then◌else◌
           teach-done now h =
               let r = le-leb (used (taught 1 tree (book_in ws))) (length ws) taught-room in
               let is : changed_book Teach (book_in own) (book_in ws) ≡ taught 1 tree (book_in ws) =
@@ -210,7 +210,7 @@ module _ (ws os : List ℕ) (p : Places) (H : Holds ws p) (e : cause_of os ≡ d
 
       -- Where some are withdrawing answers 8.
       pub withdraw-untaught : 0 < w.lacking → leave ws not_taught ≡ withdraw_of ws os
-      unfolding withdraw_of withdraw_tree if◌then◌else◌
+      unfolding withdraw_of withdraw_tree when◌then◌else◌
       withdraw-untaught h =
           let a : has (words tree) (book_in ws).T ≡ false = has-no_own tree (book_in ws) (omega (arith, lacks_taught)) in
           sym (by_tree (withdraw_tree ws) ∙ rw a)
@@ -231,14 +231,14 @@ module _ (ws os : List ℕ) (p : Places) (H : Holds ws p) (e : cause_of os ≡ d
 
           -- Where some are withdrawing answers 9.
           pub withdraw-disagrees : 0 < parts → leave ws not_agreeing ≡ withdraw_of ws os
-          unfolding withdraw_of withdraw_tree if◌then◌else◌
+          unfolding withdraw_of withdraw_tree when◌then◌else◌
           withdraw-disagrees h =
               let m : has_parts tree (book_in ws) ≡ false = has-no_own_parts tree (book_in ws) (omega (arith, lacks_parts)) in
               sym (by_tree (withdraw_tree ws) ∙ rw (entered, m))
 
           -- Where none are, withdrawing answers 0 once the own book is taken away.
           pub withdraw-done : parts ≤ 0 → (now : List ℕ) → now ≡ lay (length ws) (changed_book Withdraw (book_in own) (book_in ws)) → outcome (answered done) now ≡ withdraw_of ws os
-          unfolding withdraw_of withdraw_tree if◌then◌else◌
+          unfolding withdraw_of withdraw_tree when◌then◌else◌
           withdraw-done z now h =
               let m : has_parts tree (book_in ws) ≡ true = has-own_parts tree (book_in ws) (omega (arith, lacks_parts)) in
               let is : changed_book Withdraw (book_in own) (book_in ws) ≡ withdrawn tree (book_in ws) =

@@ -9,7 +9,7 @@ use mathlib.Core.List.{List, [], ◌∷◌}
 use native.Mathlib.Decide.{dec_lt}
 use native.Mathlib.Omega.{arith}
 use borrow.Author.Tests.{le-leb}
-use Rattle.words.specs.Base.{if◌then◌else◌, ◌∈◌}
+use Rattle.words.specs.Base.{when◌then◌else◌, ◌∈◌}
 use Rattle.words.proofs.Tests.{no_test, and_left, and_right, and_both}
 use Rattle.figures.specs.Limits.{greatest_count}
 use Rattle.section.specs.Entries.{Entry, has, count_of, Sorted}
@@ -66,7 +66,7 @@ room (t ∷ ts) es s f = go (dec_lt (count_of (words t) es) greatest_count) (roo
 
 -- With one more of each tree, each of which counts less, a section's counts are still at most 65,535.
 each_fits : (ts : List Tree) (es : List Entry) → NoRepeats ts → Sorted es → fitting es ≡ true → ((u : Tree) → u ∈ ts → count_of (words u) es < greatest_count) → fitting (add_each 1 ts es) ≡ true
-unfolding add_each NoRepeats if◌then◌else◌
+unfolding add_each NoRepeats when◌then◌else◌
 each_fits [] es r s f h = f
 each_fits (t ∷ ts) es r s f h =
     let same : count_of (words t) (add_each 1 ts es) ≡ count_of (words t) es = count-each 1 t ts es r.1 ∙ rw (lacks_any t ts r.0) (omega arith) in

@@ -1,7 +1,7 @@
 -- What `teach` and `withdraw` answer, and what the book is then, for all inputs (01, "The book" and "Numbers the desk hears"). Assumes
 -- nothing: these are definitions.
 use Rattle.std.specs.Prelude.{ℕ, Bool, true, not, List, [], ◌∷◌, leb, length}
-use Rattle.words.specs.Base.{◌and◌, if◌then◌else◌}
+use Rattle.words.specs.Base.{◌and◌, when◌then◌else◌}
 use Rattle.figures.specs.Numbers.{no_room, too_many, not_taught, not_agreeing}
 use Rattle.section.specs.Entries.{Entry, has, lower}
 use Rattle.book_change.specs.Counts.{within_counts}
@@ -24,8 +24,8 @@ on_order ws os f = on_book (leave ws) ws (λ b. by_order (order_of os) (leave ws
 unfoldable pub teach_tree : List ℕ → Book → Tree → Outcome
 teach_tree ws b t =
     let c : Book = taught 1 t b in
-    if not (within_counts c) then leave ws too_many else
-    if not (leb (used c) (length ws)) then leave ws no_room else
+    when not (within_counts c) then leave ws too_many else
+    when not (leb (used c) (length ws)) then leave ws no_room else
     write_book ws c
 
 -- "Teach: 4, 5, 1, 2, 7, 6."
@@ -62,8 +62,8 @@ has_parts t b =
 -- What withdrawing does, once the book and the order are in form: 8 where the "order has no entry in T", 9 where a part is missing.
 unfoldable pub withdraw_tree : List ℕ → Book → Tree → Outcome
 withdraw_tree ws b t =
-    if not (has (words t) b.T) then leave ws not_taught else
-    if not (has_parts t b) then leave ws not_agreeing else
+    when not (has (words t) b.T) then leave ws not_taught else
+    when not (has_parts t b) then leave ws not_agreeing else
     write_book ws (withdrawn t b)
 
 -- "Withdraw: 4, 5, 1, 2, 8, 9."

@@ -6,7 +6,7 @@ use native.Mathlib.Omega.{arith}
 use borrow.Author.Tests.{le-leb}
 use lib.ListN.{length, take, drop, length-append}
 use lib.Seq.{take-append_seam}
-use Rattle.words.specs.Base.{if◌then◌else◌, over}
+use Rattle.words.specs.Base.{when◌then◌else◌, over}
 use Rattle.figures.specs.Limits.{most_words}
 use Rattle.figures.specs.Numbers.{done}
 use Rattle.figures.specs.Answers.{wrote, refused_at}
@@ -35,7 +35,7 @@ form-short text xs e =
 
 -- Words that have room are written to the front.
 room-write : (new out : List ℕ) → length new ≤ length out → write new out ≡ writing (wrote done (length new)) (over new out)
-unfolding write if◌then◌else◌
+unfolding write when◌then◌else◌
 room-write new out h = rw (le-leb (length new) (length out) h)
 
 -- What reading a text into room for any order answers: it is refused as the text is, or its words stand at the front.

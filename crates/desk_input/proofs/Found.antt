@@ -10,7 +10,7 @@ use native.Mathlib.Decide.{dec_le}
 use lib.ListN.{length, get_or, drop, length-drop, drop_of_length-le}
 use lib.Seq.{drop-cons}
 use borrow.Author.Tests.{eq-eqb, ne_eqb, lt-ltb, le-ltb, le-leb, lt-leb}
-use Rattle.words.specs.Base.{◌and◌, if◌then◌else◌, within}
+use Rattle.words.specs.Base.{◌and◌, when◌then◌else◌, within}
 use Rattle.words.proofs.Tests.{fails_left, fails_right, never}
 use Rattle.figures.specs.Limits.{least_k, greatest_k, most_input}
 use Rattle.figures.specs.Numbers.{too_large, k_outside, no_form}
@@ -31,14 +31,14 @@ use Rattle.desk_input.proofs.Splitting.{letter-sheet, other_before, empty-sheet,
 
 -- The byte of a letter asks for what the letter does.
 pub letter-asks : (x : Letter) (b : ℕ) → b ≡ letter_byte x → letter_of b ≡ Asks x
-unfolding letter_of if◌then◌else◌
+unfolding letter_of when◌then◌else◌
 letter-asks Teach b e = rw e
 letter-asks Withdraw b e = rw e
 letter-asks Judge b e = rw e
 
 -- Any other byte asks for nothing.
 pub other_asks : (b : ℕ) → (b ≡ letter_byte Teach → ⊥) → (b ≡ letter_byte Withdraw → ⊥) → (b ≡ letter_byte Judge → ⊥) → letter_of b ≡ Other
-unfolding letter_of if◌then◌else◌
+unfolding letter_of when◌then◌else◌
 other_asks b t w j = rw (ne_eqb b 84 t, ne_eqb b 87 w, ne_eqb b 74 j)
 
 -- Fewer than two bytes are no letter line.
@@ -61,12 +61,12 @@ module _ (text : List ℕ) (p : ℕ) where
 
   -- Two bytes decide, and LF has to be the second.
   pub second-other : p + 1 < length text → (get_or text (p + 1) 0 ≡ line_feed → ⊥) → letter_at (drop p text) ≡ Other
-  unfolding letter_at if◌then◌else◌
+  unfolding letter_at when◌then◌else◌
   second-other h n = rw (two_bytes h, ne_eqb (get_or text (p + 1) 0) line_feed n)
 
   -- Before LF the first decides.
   pub second-feed : p + 1 < length text → get_or text (p + 1) 0 ≡ line_feed → letter_at (drop p text) ≡ letter_of (get_or text p 0)
-  unfolding letter_at if◌then◌else◌
+  unfolding letter_at when◌then◌else◌
   second-feed h e = rw (two_bytes h, eq-eqb (get_or text (p + 1) 0) line_feed e)
 
   -- ---- forms
@@ -110,7 +110,7 @@ short-first (a ∷ b ∷ c ∷ d ∷ rest) h = absurd (omega arith)
 -- The first line of four bytes or more is told by them.
 first-tests : (input : List ℕ) → 4 ≤ length input
     → first_line input
-    ≡ (if is_first (get_or input 0 0) (get_or input 1 0) (get_or input 2 0) (get_or input 3 0) then asks (figure (get_or input 2 0)) (drop 4 input) else otherwise)
+    ≡ (when is_first (get_or input 0 0) (get_or input 1 0) (get_or input 2 0) (get_or input 3 0) then asks (figure (get_or input 2 0)) (drop 4 input) else otherwise)
 unfolding first_line
 first-tests [] h = absurd (omega arith)
 first-tests (a ∷ []) h = absurd (omega arith)
@@ -119,15 +119,15 @@ first-tests (a ∷ b ∷ c ∷ []) h = absurd (omega arith)
 first-tests (a ∷ b ∷ c ∷ d ∷ rest) h = refl
 
 -- The k of a line whose last test is left is picked by it.
-k-picked : (t : Bool) (k : ℕ) (rest : List ℕ) → depth_by (if t then asks k rest else otherwise) ≡ (if t then Allowed (record { k = k }) else Outside)
-unfolding if◌then◌else◌
+k-picked : (t : Bool) (k : ℕ) (rest : List ℕ) → depth_by (when t then asks k rest else otherwise) ≡ (when t then Allowed (record { k = k }) else Outside)
+unfolding when◌then◌else◌
 k-picked true k rest = refl
 k-picked false k rest = refl
 
 module _ (input : List ℕ) (h : 4 ≤ length input) where
   -- A test that fails leaves no k.
   no_first : is_first (get_or input 0 0) (get_or input 1 0) (get_or input 2 0) (get_or input 3 0) ≡ false → depth_on input ≡ Outside
-  unfolding depth_on if◌then◌else◌
+  unfolding depth_on when◌then◌else◌
   no_first e = rw (first-tests input h, e)
 
   -- Another first byte than K leaves no k.
@@ -157,7 +157,7 @@ module _ (input : List ℕ) (h : 4 ≤ length input) where
   -- A first line that is spelt so has the k of its digit, if that is 2 to 6.
   pub a-digit : get_or input 0 0 ≡ letter_K → get_or input 1 0 ≡ space → digit_0 ≤ get_or input 2 0 → get_or input 2 0 ≤ digit_9 → get_or input 3 0 ≡ line_feed
       → depth_on input ≡ depth_of (figure (get_or input 2 0))
-  unfolding depth_on depth_of is_digit ◌and◌ if◌then◌else◌
+  unfolding depth_on depth_of is_digit ◌and◌ when◌then◌else◌
   a-digit k s l m f =
       rw (first-tests input h, eq-eqb _ _ k, eq-eqb _ _ s, le-leb digit_0 (get_or input 2 0) l, le-leb (get_or input 2 0) digit_9 m, eq-eqb _ _ f)
       (k-picked (within least_k greatest_k (figure (get_or input 2 0))) (figure (get_or input 2 0)) (drop 4 input))
@@ -175,12 +175,12 @@ allowed-k k d e = let z : record { k = k } ≡ d = cc in ap (λ (x : Depth). x.k
 
 -- An input whose line 1 has a k begins so.
 pub begins : (input : List ℕ) (d : Depth) → depth_on input ≡ Allowed d → Begins input d.k
-unfolding depth_on if◌then◌else◌
+unfolding depth_on when◌then◌else◌
 begins input d e = go (dec_le 4 (length input))
   where
     -- By the tests of four bytes.
     tested : 4 ≤ length input → (t : Bool)
-        → first_line input ≡ (if t then asks (figure (get_or input 2 0)) (drop 4 input) else otherwise) → Begins input d.k
+        → first_line input ≡ (when t then asks (figure (get_or input 2 0)) (drop 4 input) else otherwise) → Begins input d.k
     tested h true q = record { enough = h; first = q ∙ ap (λ (k : ℕ). asks k (drop 4 input)) (allowed-k _ d (ap depth_by (sym q) ∙ e)) }
     tested h false q = absurd (let o : depth_by otherwise ≡ Allowed d = ap depth_by (sym q) ∙ e in never cc)
 
@@ -203,13 +203,13 @@ some-before k (b ∷ bs) calls h = refl
 module _ (input : List ℕ) where
   -- More bytes than are allowed are the first fault.
   pub front-large : most_input < length input → opening_of input ≡ Fault (answered too_large)
-  unfolding opening_of handed_in if◌then◌else◌
+  unfolding opening_of handed_in when◌then◌else◌
   front-large h = rw (lt-ltb most_input (length input) h)
 
   module _ (h : length input ≤ most_input) where
     -- Otherwise line 1 decides.
     by_first_lem : opening_of input ≡ opening_by (by_first (first_line input))
-    unfolding opening_of handed_in if◌then◌else◌
+    unfolding opening_of handed_in when◌then◌else◌
     by_first_lem = rw (le-ltb most_input (length input) h)
 
     -- A first line with no k is the second fault.

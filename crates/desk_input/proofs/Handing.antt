@@ -7,7 +7,7 @@ use native.Mathlib.Omega.{arith}
 use borrow.Author.Tests.{ltb-false}
 use lib.Dec.{ltb, eqb}
 use lib.ListN.{length, drop}
-use Rattle.words.specs.Base.{◌and◌, if◌then◌else◌, within}
+use Rattle.words.specs.Base.{◌and◌, when◌then◌else◌, within}
 use Rattle.words.proofs.Tests.{and_right}
 use Rattle.figures.specs.Limits.{least_k, greatest_k, most_input}
 use Rattle.figures.specs.Numbers.{too_large}
@@ -64,7 +64,7 @@ pub data HandsIn (input : List ℕ) : Handed → Type 0 where
 
 -- So it is, by the first line.
 first-hands : (input : List ℕ) → length input ≤ most_input → HandsIn input (by_first (first_line input))
-unfolding first_line by_first handed_by if◌then◌else◌
+unfolding first_line by_first handed_by when◌then◌else◌
 first-hands [] h = at_fault _
 first-hands (a ∷ []) h = at_fault _
 first-hands (a ∷ b ∷ []) h = at_fault _
@@ -84,7 +84,7 @@ first-hands (a ∷ b ∷ c ∷ d ∷ rest) h =
 
     -- By whether line 1 is as it should be.
     go : (t : Bool) → (eqb a letter_K and eqb b space and is_digit c and eqb d line_feed and within least_k greatest_k (figure c)) ≡ t
-        → HandsIn (a ∷ b ∷ c ∷ d ∷ rest) (by_first (if t then asks (figure c) rest else otherwise))
+        → HandsIn (a ∷ b ∷ c ∷ d ∷ rest) (by_first (when t then asks (figure c) rest else otherwise))
     go true e =
         let w = in_range (eqb a letter_K) (eqb b space) (is_digit c) (eqb d line_feed) (within least_k greatest_k (figure c)) e in
         behind (sheet_of rest).before refl (within_both least_k greatest_k (figure c) w)
@@ -92,10 +92,10 @@ first-hands (a ∷ b ∷ c ∷ d ∷ rest) h =
 
 -- So it is, by the length of the input and the first line.
 pub hands_in : (input : List ℕ) → HandsIn input (handed_in input)
-unfolding handed_in if◌then◌else◌
+unfolding handed_in when◌then◌else◌
 hands_in input = go (ltb most_input (length input)) refl
   where
     -- By whether the input is too long.
-    go : (t : Bool) → ltb most_input (length input) ≡ t → HandsIn input (if t then faulty (answered too_large) else by_first (first_line input))
+    go : (t : Bool) → ltb most_input (length input) ≡ t → HandsIn input (when t then faulty (answered too_large) else by_first (first_line input))
     go true e = at_fault _
     go false e = first-hands input (omega (arith, ltb-false most_input (length input) e))

@@ -6,7 +6,7 @@ use mathlib.Core.Bool.{Bool, true, false}
 use mathlib.Core.List.{List, [], ◌∷◌, ◌++◌}
 use lib.Dec.{eqb}
 use borrow.Author.Tests.{eqb-true}
-use Rattle.words.specs.Base.{if◌then◌else◌}
+use Rattle.words.specs.Base.{when◌then◌else◌}
 use Rattle.words.proofs.Tests.{no_test, never}
 use Rattle.form.specs.Text.{line_feed}
 use Rattle.desk_input.specs.Sheets.{letter_byte, letter_of}
@@ -22,12 +22,12 @@ use Rattle.desk_input.specs.declared.LineKind.TheVariants.{Asks, Other}
 
 -- A byte that asks for something is that letter's.
 asks-letter : (b : ℕ) (x : Letter) → letter_of b ≡ Asks x → b ≡ letter_byte x
-unfolding letter_of if◌then◌else◌
+unfolding letter_of when◌then◌else◌
 asks-letter b x e = go (eqb b (letter_byte Teach)) refl (eqb b (letter_byte Withdraw)) refl (eqb b (letter_byte Judge)) refl e
   where
     -- By which of the three it is.
     go : (t : Bool) → eqb b (letter_byte Teach) ≡ t → (w : Bool) → eqb b (letter_byte Withdraw) ≡ w → (j : Bool) → eqb b (letter_byte Judge) ≡ j
-        → (if t then Asks Teach else if w then Asks Withdraw else if j then Asks Judge else Other) ≡ Asks x → b ≡ letter_byte x
+        → (when t then Asks Teach else when w then Asks Withdraw else when j then Asks Judge else Other) ≡ Asks x → b ≡ letter_byte x
     go true p w q j r f = let z : Teach ≡ x = cc in eqb-true b _ p ∙ ap letter_byte z
     go false p true q j r f = let z : Withdraw ≡ x = cc in eqb-true b _ q ∙ ap letter_byte z
     go false p false q true r f = let z : Judge ≡ x = cc in eqb-true b _ r ∙ ap letter_byte z
@@ -35,17 +35,17 @@ asks-letter b x e = go (eqb b (letter_byte Teach)) refl (eqb b (letter_byte With
 
 -- Bytes that begin with a letter line begin with that letter and LF.
 pub letter-front : (b e : ℕ) (rest : List ℕ) (x : Letter) → letter_at (b ∷ e ∷ rest) ≡ Asks x → b ∷ e ∷ rest ≡ letter_byte x ∷ line_feed ∷ rest
-unfolding letter_at if◌then◌else◌
+unfolding letter_at when◌then◌else◌
 letter-front b e rest x a = go (eqb e line_feed) refl a
   where
     -- By whether the second byte is LF.
-    go : (t : Bool) → eqb e line_feed ≡ t → (if t then letter_of b else Other) ≡ Asks x → b ∷ e ∷ rest ≡ letter_byte x ∷ line_feed ∷ rest
+    go : (t : Bool) → eqb e line_feed ≡ t → (when t then letter_of b else Other) ≡ Asks x → b ∷ e ∷ rest ≡ letter_byte x ∷ line_feed ∷ rest
     go true p f = rw (asks-letter b x f, eqb-true e line_feed p)
     go false p f = never cc
 
 -- A letter and LF are a letter line, whatever follows.
 pub letter-there : (x : Letter) (rest : List ℕ) → letter_at (letter_byte x ∷ line_feed ∷ rest) ≡ Asks x
-unfolding letter_at letter_of if◌then◌else◌
+unfolding letter_at letter_of when◌then◌else◌
 letter-there Teach rest = refl
 letter-there Withdraw rest = refl
 letter-there Judge rest = refl

@@ -9,7 +9,7 @@ use mathlib.Core.List.Memᴰ.{tail as there}
 use mathlib.Core.List.{List, [], ◌∷◌, ◌++◌, append-nil, append_assoc}
 use lib.Dec.{eqb}
 use lib.ListN.{take}
-use Rattle.words.specs.Base.{◌∈◌, if◌then◌else◌}
+use Rattle.words.specs.Base.{◌∈◌, when◌then◌else◌}
 use Rattle.words.proofs.Tests.{no_test}
 use Rattle.form.specs.Text.{line_feed}
 use Rattle.desk_input.specs.Sheets.{letter_byte, letter_of, input_lines, FormCall, Sheet, sheet_of}
@@ -158,12 +158,12 @@ no_letter-inside bs = parts-plain (sheet_of bs).before (sheet_of bs).calls (shee
 
 -- A byte that asks for nothing begins no letter line, whatever follows.
 asks_nothing : (b : ℕ) (bs : List ℕ) → letter_of b ≡ Other → letter_at (b ∷ bs) ≡ Other
-unfolding letter_at if◌then◌else◌
+unfolding letter_at when◌then◌else◌
 asks_nothing b [] e = refl
 asks_nothing b (f ∷ bs) e = go (eqb f line_feed)
   where
     -- By whether LF follows.
-    go : (t : Bool) → (if t then letter_of b else Other) ≡ Other
+    go : (t : Bool) → (when t then letter_of b else Other) ≡ Other
     go true = e
     go false = refl
 

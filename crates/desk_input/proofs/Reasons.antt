@@ -8,7 +8,7 @@ use native.Mathlib.Omega.{arith}
 use lib.Dec.{eqb}
 use lib.ListN.{length, drop}
 use borrow.Author.Tests.{eqb-true, leb-true, le-leb}
-use Rattle.words.specs.Base.{◌and◌, if◌then◌else◌, within}
+use Rattle.words.specs.Base.{◌and◌, when◌then◌else◌, within}
 use Rattle.words.proofs.Tests.{and_left, and_right, and_both, never}
 use Rattle.figures.specs.Limits.{least_k, greatest_k, most_input}
 use Rattle.figures.specs.Numbers.{k_outside, no_form}
@@ -45,7 +45,7 @@ first-spelt a b c d rest e =
 
 -- A first line with a k is spelt as line 1 is.
 pub first-is : (input : List ℕ) (k : ℕ) (rest : List ℕ) → first_line input ≡ asks k rest → OpensWith input k rest
-unfolding first_line if◌then◌else◌
+unfolding first_line when◌then◌else◌
 first-is [] k rest e = never cc
 first-is (a ∷ []) k rest e = never cc
 first-is (a ∷ b ∷ []) k rest e = never cc
@@ -53,7 +53,7 @@ first-is (a ∷ b ∷ c ∷ []) k rest e = never cc
 first-is (a ∷ b ∷ c ∷ d ∷ r) k rest e = go (is_first a b c d) refl e
   where
     -- By the tests of line 1.
-    go : (t : Bool) → is_first a b c d ≡ t → (if t then asks (figure c) r else otherwise) ≡ asks k rest → OpensWith (a ∷ b ∷ c ∷ d ∷ r) k rest
+    go : (t : Bool) → is_first a b c d ≡ t → (when t then asks (figure c) r else otherwise) ≡ asks k rest → OpensWith (a ∷ b ∷ c ∷ d ∷ r) k rest
     go true p q =
         let y : figure c ≡ k = cc in
         let z : r ≡ rest = cc in
@@ -70,7 +70,7 @@ first-tested k l g =
 
 -- Bytes that are spelt as line 1 is have its k.
 pub first-only : (input : List ℕ) (k : ℕ) (rest : List ℕ) → OpensWith input k rest → first_line input ≡ asks k rest
-unfolding first_line if◌then◌else◌
+unfolding first_line when◌then◌else◌
 first-only input k rest o =
     let z : figure (digit_0 + k) ≡ k = omega arith in
     ap first_line o.spelt ∙ rw (first-tested k o.least o.greatest) (ap (λ (n : ℕ). asks n rest) z)

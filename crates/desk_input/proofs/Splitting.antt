@@ -9,7 +9,7 @@ use lib.ListN.{length, take, drop}
 use lib.Seq.{length-take-le}
 use borrow.Author.Tests.{eqb-true}
 use Rattle.words.proofs.Tests.{never}
-use Rattle.words.specs.Base.{◌and◌, if◌then◌else◌}
+use Rattle.words.specs.Base.{◌and◌, when◌then◌else◌}
 use Rattle.form.specs.Text.{line_feed}
 use Rattle.desk_input.specs.Sheets.{letter_of, with_byte, input_lines, kind_of, Sheet, with_line, calls_of, sheet_of}
 use Rattle.desk_input.specs.Places.{letter_at, is_asking, size_to}
@@ -26,12 +26,12 @@ first_kind_lem (l ∷ ls) = kind_of l
 
 -- LF is no letter.
 pub feed_asks-nothing : (b : ℕ) → eqb b line_feed ≡ true → letter_of b ≡ Other
-unfolding letter_of if◌then◌else◌
+unfolding letter_of when◌then◌else◌
 feed_asks-nothing b p = rw (eqb-true b line_feed p)
 
 -- The first line of bytes asks for what the bytes at their front do.
 first_kind : (bs : List ℕ) → first_kind_lem (input_lines bs) ≡ letter_at bs
-unfolding input_lines with_byte kind_of letter_at if◌then◌else◌
+unfolding input_lines with_byte kind_of letter_at when◌then◌else◌
 first_kind [] = refl
 first_kind (b ∷ []) = one (eqb b line_feed)
   where
@@ -43,7 +43,7 @@ first_kind (b ∷ e ∷ rest) = go (eqb b line_feed) refl (eqb e line_feed) refl
   where
     -- By whether the first byte is LF, whether the second is, and the lines behind them.
     go : (t : Bool) → eqb b line_feed ≡ t → (u : Bool) → eqb e line_feed ≡ u → (ls : List (List ℕ))
-        → first_kind_lem (with_byte t b (with_byte u e ls)) ≡ (if u then letter_of b else Other)
+        → first_kind_lem (with_byte t b (with_byte u e ls)) ≡ (when u then letter_of b else Other)
     go true p true q ls = sym (feed_asks-nothing b p)
     go true p false q ls = refl
     go false p true q ls = rw q
@@ -101,13 +101,13 @@ byte_other b bs e = calls-on (input_lines (b ∷ bs)) (first_kind (b ∷ bs) ∙
 -- Bytes that begin with a letter line ask for a call, whose text is what stands before the next.
 pub letter-sheet : (bs : List ℕ) (x : Letter) → letter_at bs ≡ Asks x
     → sheet_of bs ≡ record { before = []; calls = record { letter = x; text = (sheet_of (drop 2 bs)).before } ∷ (sheet_of (drop 2 bs)).calls }
-unfolding letter_at sheet_of input_lines calls_of with_byte with_line kind_of if◌then◌else◌
+unfolding letter_at sheet_of input_lines calls_of with_byte with_line kind_of when◌then◌else◌
 letter-sheet [] x e = never cc
 letter-sheet (b ∷ []) x e = never cc
 letter-sheet (b ∷ f ∷ rest) x e = go (eqb b line_feed) refl (eqb f line_feed) refl e
   where
     -- By whether the first byte is LF, and whether the second is.
-    go : (t : Bool) → eqb b line_feed ≡ t → (u : Bool) → eqb f line_feed ≡ u → (if u then letter_of b else Other) ≡ Asks x
+    go : (t : Bool) → eqb b line_feed ≡ t → (u : Bool) → eqb f line_feed ≡ u → (when u then letter_of b else Other) ≡ Asks x
         → calls_of (with_byte t b (with_byte u f (input_lines rest)))
         ≡ record { before = []; calls = record { letter = x; text = (calls_of (input_lines rest)).before } ∷ (calls_of (input_lines rest)).calls }
     go true p true q g = absurd (let n = feed_asks-nothing b p in never cc)
@@ -124,28 +124,28 @@ other_before (b ∷ bs) h e = rw (byte_other b bs e) (omega arith)
 
 -- No more bytes stand before the next letter line than there are.
 pub size-within : (starts : Bool) (bs : List ℕ) → size_to starts bs ≤ length bs
-unfolding size_to if◌then◌else◌
+unfolding size_to when◌then◌else◌
 size-within starts [] = omega arith
 size-within starts (b ∷ bs) = go (starts and is_asking (letter_at (b ∷ bs))) (size-within (eqb b line_feed) bs)
   where
     -- By whether a letter line starts there.
-    go : (t : Bool) → size_to (eqb b line_feed) bs ≤ length bs → (if t then 0 else suc (size_to (eqb b line_feed) bs)) ≤ suc (length bs)
+    go : (t : Bool) → size_to (eqb b line_feed) bs ≤ length bs → (when t then 0 else suc (size_to (eqb b line_feed) bs)) ≤ suc (length bs)
     go true h = omega arith
     go false h = omega arith
 
 -- No letter line starts inside a line.
 pub size-on : (b : ℕ) (bs : List ℕ) → size_to false (b ∷ bs) ≡ suc (size_to (eqb b line_feed) bs)
-unfolding size_to ◌and◌ if◌then◌else◌
+unfolding size_to ◌and◌ when◌then◌else◌
 size-on b bs = refl
 
 -- A byte where no letter line starts is one byte more.
 pub size-other : (b : ℕ) (bs : List ℕ) → letter_at (b ∷ bs) ≡ Other → size_to true (b ∷ bs) ≡ suc (size_to (eqb b line_feed) bs)
-unfolding size_to ◌and◌ if◌then◌else◌
+unfolding size_to ◌and◌ when◌then◌else◌
 size-other b bs e = rw e
 
 -- A letter line ends what stands before it.
 pub size-letter : (bs : List ℕ) (x : Letter) → letter_at bs ≡ Asks x → size_to true bs ≡ 0
-unfolding size_to ◌and◌ if◌then◌else◌
+unfolding size_to ◌and◌ when◌then◌else◌
 size-letter [] x e = refl
 size-letter (b ∷ bs) x e = rw e
 

@@ -1,7 +1,7 @@
 -- Inner: no promise rests on these definitions but on `letter_at`, with which a letter line in front is said.
 -- What the inner functions find in the input, in the terms that the code has at hand. Assumes nothing: these are definitions.
 use Rattle.std.specs.Prelude.{ℕ, suc, Bool, true, false, List, [], ◌∷◌, eqb}
-use Rattle.words.specs.Base.{◌and◌, if◌then◌else◌}
+use Rattle.words.specs.Base.{◌and◌, when◌then◌else◌}
 use Rattle.figures.specs.declared.depths.Asked.{Asked}
 use Rattle.figures.specs.declared.depths.Asked.TheVariants.{Allowed, Outside}
 use Rattle.form.specs.Text.{line_feed}
@@ -11,7 +11,7 @@ use Rattle.desk_input.specs.declared.LineKind.TheVariants.{Asks, Other}
 
 -- What the line at the front of the bytes asks for, if it is a letter line.
 unfoldable pub letter_at : List ℕ → LineKind
-letter_at (b ∷ e ∷ rest) = if eqb e line_feed then letter_of b else Other
+letter_at (b ∷ e ∷ rest) = when eqb e line_feed then letter_of b else Other
 letter_at [] = Other
 letter_at (b ∷ []) = Other
 
@@ -23,7 +23,7 @@ is_asking Other = false
 -- How many bytes stand before the next letter line, or to the end; whether a line starts at the first of them is told.
 unfoldable pub size_to : Bool → List ℕ → ℕ
 size_to starts [] = 0
-size_to starts (b ∷ bs) = if starts and is_asking (letter_at (b ∷ bs)) then 0 else suc (size_to (eqb b line_feed) bs)
+size_to starts (b ∷ bs) = when starts and is_asking (letter_at (b ∷ bs)) then 0 else suc (size_to (eqb b line_feed) bs)
 
 -- The k of a first line.
 abbrev pub depth_by : FirstLine → Asked

@@ -1,7 +1,7 @@
 -- What is handed in at the desk (01, "Forms on the desk"): the lines of the input, the calls that they ask for, and the three faults. Assumes
 -- nothing: these are definitions.
 use Rattle.std.specs.Prelude.{ℕ, Bool, true, false, List, [], ◌∷◌, ◌++◌, ltb, eqb, length}
-use Rattle.words.specs.Base.{◌and◌, if◌then◌else◌, within}
+use Rattle.words.specs.Base.{◌and◌, when◌then◌else◌, within}
 use Rattle.figures.specs.Limits.{least_k, greatest_k, most_input}
 use Rattle.figures.specs.Numbers.{done, too_large, k_outside, no_form}
 use Rattle.figures.specs.Answers.{answered}
@@ -40,9 +40,9 @@ letter_byte Judge = 74
 -- What a byte asks for, if it is one of the three.
 unfoldable pub letter_of : ℕ → LineKind
 letter_of b =
-    if eqb b (letter_byte Teach) then Asks Teach else
-    if eqb b (letter_byte Withdraw) then Asks Withdraw else
-    if eqb b (letter_byte Judge) then Asks Judge else Other
+    when eqb b (letter_byte Teach) then Asks Teach else
+    when eqb b (letter_byte Withdraw) then Asks Withdraw else
+    when eqb b (letter_byte Judge) then Asks Judge else Other
 
 -- ---- lines
 
@@ -59,7 +59,7 @@ input_lines (b ∷ bs) = with_byte (eqb b line_feed) b (input_lines bs)
 
 -- "a line of the one letter T, W or J and LF"
 unfoldable pub kind_of : List ℕ → LineKind
-kind_of (b ∷ e ∷ []) = if eqb e line_feed then letter_of b else Other
+kind_of (b ∷ e ∷ []) = when eqb e line_feed then letter_of b else Other
 kind_of [] = Other
 kind_of (b ∷ []) = Other
 kind_of (b ∷ e ∷ c ∷ l) = Other
@@ -100,7 +100,7 @@ pub data FirstLine : Type 0 where
 -- "Line 1 is K, space, one digit, LF", and k is 2 to 6.
 unfoldable pub first_line : List ℕ → FirstLine
 first_line (a ∷ b ∷ c ∷ d ∷ rest) =
-    if eqb a letter_K and eqb b space and is_digit c and eqb d line_feed and within least_k greatest_k (figure c) then asks (figure c) rest
+    when eqb a letter_K and eqb b space and is_digit c and eqb d line_feed and within least_k greatest_k (figure c) then asks (figure c) rest
     else otherwise
 first_line [] = otherwise
 first_line (a ∷ []) = otherwise
@@ -124,7 +124,7 @@ by_first (asks k rest) = handed_by k (sheet_of rest).before (sheet_of rest).call
 
 -- "Three faults are looked for before anything is printed, in this order: longer input", the first line, and bytes before the first letter.
 unfoldable pub handed_in : List ℕ → Handed
-handed_in input = if ltb most_input (length input) then faulty (answered too_large) else by_first (first_line input)
+handed_in input = when ltb most_input (length input) then faulty (answered too_large) else by_first (first_line input)
 
 -- What the front of the input is: the first fault, or the k of a book to open.
 abbrev pub opening_by : Handed → Front

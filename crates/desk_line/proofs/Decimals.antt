@@ -9,7 +9,7 @@ use native.Mathlib.Omega.{arith}
 use lib.Dec.{eqb}
 use lib.ListN.{length, length-append}
 use borrow.Author.Tests.{ne_eqb}
-use Rattle.words.specs.Base.{if◌then◌else◌}
+use Rattle.words.specs.Base.{when◌then◌else◌}
 use Rattle.form.specs.Text.{digit_0, digit}
 use Rattle.desk_line.specs.Replies.{last_digits, without_zeros, most_digits, decimal}
 
@@ -73,13 +73,13 @@ first-counts (suc p) n a b =
 
 -- A zero in front of others goes.
 zero_goes : (l : List ℕ) → 1 ≤ length l → without_zeros (digit_0 ∷ l) ≡ without_zeros l
-unfolding without_zeros if◌then◌else◌
+unfolding without_zeros when◌then◌else◌
 zero_goes [] h = absurd (omega arith)
 zero_goes (d ∷ l) h = refl
 
 -- What does not begin with a zero stays.
 rest-stays : (d : ℕ) (l : List ℕ) → (d ≡ digit_0 → ⊥) → without_zeros (d ∷ l) ≡ d ∷ l
-unfolding without_zeros if◌then◌else◌
+unfolding without_zeros when◌then◌else◌
 rest-stays d [] h = refl
 rest-stays d (e ∷ l) h = rw (ne_eqb d digit_0 h)
 
@@ -123,13 +123,13 @@ last-stay (suc p) n h =
 
 -- Some byte stays, and none comes to those that were there.
 size-stays : (d : ℕ) (l : List ℕ) → (1 ≤ length (without_zeros (d ∷ l))) × (length (without_zeros (d ∷ l)) ≤ suc (length l))
-unfolding without_zeros if◌then◌else◌
+unfolding without_zeros when◌then◌else◌
 size-stays d [] = (omega arith, omega arith)
 size-stays d (e ∷ l) = go (eqb d digit_0) (size-stays e l)
   where
     -- So it is in both branches of the test.
     go : (t : Bool) → (1 ≤ length (without_zeros (e ∷ l))) × (length (without_zeros (e ∷ l)) ≤ suc (length l))
-        → (1 ≤ length (if t then without_zeros (e ∷ l) else d ∷ e ∷ l)) × (length (if t then without_zeros (e ∷ l) else d ∷ e ∷ l) ≤ suc (suc (length l)))
+        → (1 ≤ length (when t then without_zeros (e ∷ l) else d ∷ e ∷ l)) × (length (when t then without_zeros (e ∷ l) else d ∷ e ∷ l) ≤ suc (suc (length l)))
     go true h = (h.0, omega (arith, h.1))
     go false h = (omega arith, omega arith)
 

@@ -10,7 +10,7 @@ use lib.Dec.{eqb}
 use lib.ListN.{length, take, get_or}
 use lib.Seq.{take-suc, take_all, length-take-le}
 use borrow.Author.Tests.{eqb-true}
-use Rattle.words.specs.Base.{if◌then◌else◌}
+use Rattle.words.specs.Base.{when◌then◌else◌}
 use Rattle.words.proofs.Tests.{no_test, and_left, and_right, and_both}
 use Rattle.form.specs.Text.{digit_0, digit_9, digit}
 use Rattle.form.specs.Reading.{is_digit, figure}
@@ -36,14 +36,14 @@ number_last (suc p) n h = behind-last 0 (digit n) (last_digits p (n / 10)) ∙ o
 
 -- Leading zeros do not count.
 number_stays : (l : List ℕ) → value_of (without_zeros l) ≡ value_of l
-unfolding without_zeros number_behind if◌then◌else◌
+unfolding without_zeros number_behind when◌then◌else◌
 number_stays [] = refl
 number_stays (d ∷ []) = refl
 number_stays (d ∷ e ∷ l) = go (eqb d digit_0) refl (number_stays (e ∷ l))
   where
     -- So it is in both branches of the test.
     go : (t : Bool) → eqb d digit_0 ≡ t → value_of (without_zeros (e ∷ l)) ≡ value_of (e ∷ l)
-        → value_of (if t then without_zeros (e ∷ l) else d ∷ e ∷ l) ≡ value_of (d ∷ e ∷ l)
+        → value_of (when t then without_zeros (e ∷ l) else d ∷ e ∷ l) ≡ value_of (d ∷ e ∷ l)
     go true q h = let z : 0 ≡ 10 * 0 + figure d = omega (arith, eqb-true d digit_0 q) in h ∙ ap (λ (b : ℕ). number_behind b (e ∷ l)) z
     go false q h = refl
 
@@ -68,13 +68,13 @@ all-last (suc p) n = all_append (last_digits p (n / 10)) (digit n ∷ []) (all-l
 
 -- What stays of digits are digits.
 all-stays : (l : List ℕ) → all_digits l ≡ true → all_digits (without_zeros l) ≡ true
-unfolding without_zeros all_digits if◌then◌else◌
+unfolding without_zeros all_digits when◌then◌else◌
 all-stays [] h = h
 all-stays (d ∷ []) h = h
 all-stays (d ∷ e ∷ l) h = go (eqb d digit_0) (all-stays (e ∷ l) (and_right (is_digit d) (all_digits (e ∷ l)) h))
   where
     -- So it is in both branches of the test.
-    go : (t : Bool) → all_digits (without_zeros (e ∷ l)) ≡ true → all_digits (if t then without_zeros (e ∷ l) else d ∷ e ∷ l) ≡ true
+    go : (t : Bool) → all_digits (without_zeros (e ∷ l)) ≡ true → all_digits (when t then without_zeros (e ∷ l) else d ∷ e ∷ l) ≡ true
     go true k = k
     go false k = h
 
@@ -87,13 +87,13 @@ decimal-digits n = all-stays (last_digits most_digits n) (all-last most_digits n
 
 -- What stays of some bytes has no leading zero.
 bare-stays : (d : ℕ) (l : List ℕ) → no_leading_zero (without_zeros (d ∷ l)) ≡ true
-unfolding without_zeros no_leading_zero if◌then◌else◌
+unfolding without_zeros no_leading_zero when◌then◌else◌
 bare-stays d [] = refl
 bare-stays d (e ∷ l) = go (eqb d digit_0) refl (bare-stays e l)
   where
     -- So it is in both branches of the test.
     go : (t : Bool) → eqb d digit_0 ≡ t → no_leading_zero (without_zeros (e ∷ l)) ≡ true
-        → no_leading_zero (if t then without_zeros (e ∷ l) else d ∷ e ∷ l) ≡ true
+        → no_leading_zero (when t then without_zeros (e ∷ l) else d ∷ e ∷ l) ≡ true
     go true q h = h
     go false q h = ap not q
 
@@ -111,13 +111,13 @@ decimal-bare n = go (last_digits most_digits n) (length_digits most_digits n)
 
 -- What has no leading zero stays as it is.
 bare-all : (l : List ℕ) → no_leading_zero l ≡ true → without_zeros l ≡ l
-unfolding without_zeros no_leading_zero if◌then◌else◌
+unfolding without_zeros no_leading_zero when◌then◌else◌
 bare-all [] h = refl
 bare-all (d ∷ []) h = refl
 bare-all (d ∷ e ∷ l) h = go (eqb d digit_0) h
   where
     -- The test fails, since the first byte is not that of 0.
-    go : (t : Bool) → not t ≡ true → (if t then without_zeros (e ∷ l) else d ∷ e ∷ l) ≡ d ∷ e ∷ l
+    go : (t : Bool) → not t ≡ true → (when t then without_zeros (e ∷ l) else d ∷ e ∷ l) ≡ d ∷ e ∷ l
     go true q = no_test q
     go false q = refl
 

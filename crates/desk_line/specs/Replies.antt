@@ -1,6 +1,6 @@
 -- What the desk prints for a call (01, "Forms on the desk"): numbers in decimal, and the line of an answer. Assumes nothing: these are definitions.
 use Rattle.std.specs.Prelude.{ℕ, zero, suc, ◌+◌, ◌*◌, ◌/◌, List, [], ◌∷◌, ◌++◌, eqb}
-use Rattle.words.specs.Base.{if◌then◌else◌}
+use Rattle.words.specs.Base.{when◌then◌else◌}
 use Rattle.figures.specs.declared.Answer.{Answer}
 use Rattle.form.specs.Text.{digit_0, digit, space, line_feed}
 
@@ -15,7 +15,7 @@ last_digits (suc many) n = last_digits many (n / 10) ++ (digit n ∷ [])
 unfoldable pub without_zeros : List ℕ → List ℕ
 without_zeros [] = []
 without_zeros (d ∷ []) = d ∷ []
-without_zeros (d ∷ e ∷ ds) = if eqb d digit_0 then without_zeros (e ∷ ds) else d ∷ e ∷ ds
+without_zeros (d ∷ e ∷ ds) = when eqb d digit_0 then without_zeros (e ∷ ds) else d ∷ e ∷ ds
 
 -- No number of 64 bits has more decimal digits.
 abbrev pub most_digits : ℕ

@@ -7,7 +7,7 @@ use native.Mathlib.Omega.{arith}
 use borrow.Author.Tests.{ne_eqb}
 use lib.Dec.{eqb}
 use lib.ListN.{length, replicate}
-use Rattle.words.specs.Base.{if◌then◌else◌}
+use Rattle.words.specs.Base.{when◌then◌else◌}
 use Rattle.figures.specs.Limits.{desk_book_words}
 use Rattle.figures.specs.declared.Answer.{Answer}
 use Rattle.form.specs.Text.{digit_0, digit, space, line_feed}
@@ -24,34 +24,34 @@ use Rattle.desk_step.specs.Lines.{feeds, EndsLine, lines_due}
 
 -- A byte that is no LF adds none.
 pub no_feed : (b : ℕ) (bs : List ℕ) → (b ≡ line_feed → ⊥) → feeds (b ∷ bs) ≡ feeds bs
-unfolding feeds if◌then◌else◌
+unfolding feeds when◌then◌else◌
 no_feed b bs n = rw (ne_eqb b line_feed n)
 
 -- Any byte adds one or none.
 feeds-on : (b : ℕ) (bs : List ℕ) → feeds bs ≤ feeds (b ∷ bs)
-unfolding feeds if◌then◌else◌
+unfolding feeds when◌then◌else◌
 feeds-on b bs = go (eqb b line_feed)
   where
     -- By whether it is LF.
-    go : (t : Bool) → feeds bs ≤ (if t then suc (feeds bs) else feeds bs)
+    go : (t : Bool) → feeds bs ≤ (when t then suc (feeds bs) else feeds bs)
     go true = omega arith
     go false = omega arith
 
 -- Two texts have as many as both.
 pub feeds-append : (xs ys : List ℕ) → feeds (xs ++ ys) ≡ feeds xs + feeds ys
-unfolding feeds if◌then◌else◌
+unfolding feeds when◌then◌else◌
 feeds-append [] ys = omega arith
 feeds-append (x ∷ xs) ys = go (eqb x line_feed) (feeds-append xs ys)
   where
     -- By whether the first byte is LF.
     go : (t : Bool) → feeds (xs ++ ys) ≡ feeds xs + feeds ys
-        → (if t then suc (feeds (xs ++ ys)) else feeds (xs ++ ys)) ≡ (if t then suc (feeds xs) else feeds xs) + feeds ys
+        → (when t then suc (feeds (xs ++ ys)) else feeds (xs ++ ys)) ≡ (when t then suc (feeds xs) else feeds xs) + feeds ys
     go true h = omega arith
     go false h = h
 
 -- LF alone is one.
 pub one-feed : feeds (line_feed ∷ []) ≡ 1
-unfolding feeds if◌then◌else◌
+unfolding feeds when◌then◌else◌
 one-feed = refl
 
 -- No byte is none.
@@ -70,13 +70,13 @@ digits-feeds (suc many) n =
 
 -- Without leading zeros there are no more than with them.
 without-feeds : (ds : List ℕ) → feeds (without_zeros ds) ≤ feeds ds
-unfolding without_zeros if◌then◌else◌
+unfolding without_zeros when◌then◌else◌
 without-feeds [] = omega arith
 without-feeds (d ∷ []) = omega arith
 without-feeds (d ∷ e ∷ ds) = go (eqb d digit_0) (without-feeds (e ∷ ds))
   where
     -- By whether the first is a zero.
-    go : (t : Bool) → feeds (without_zeros (e ∷ ds)) ≤ feeds (e ∷ ds) → feeds (if t then without_zeros (e ∷ ds) else d ∷ e ∷ ds) ≤ feeds (d ∷ e ∷ ds)
+    go : (t : Bool) → feeds (without_zeros (e ∷ ds)) ≤ feeds (e ∷ ds) → feeds (when t then without_zeros (e ∷ ds) else d ∷ e ∷ ds) ≤ feeds (d ∷ e ∷ ds)
     go true h = omega (arith, feeds-on d (e ∷ ds))
     go false h = omega arith
 

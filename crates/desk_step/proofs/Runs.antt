@@ -10,7 +10,7 @@ use lib.Dec.{ltb}
 use lib.ListN.{length, take, drop, replicate, length-append, length-drop, length-replicate, drop_of_length-le}
 use lib.Seq.{take-append_seam, drop-append_seam, drop-drop}
 use Rattle.words.proofs.Tests.{never}
-use Rattle.words.specs.Base.{if◌then◌else◌, over}
+use Rattle.words.specs.Base.{when◌then◌else◌, over}
 use Rattle.figures.specs.Limits.{head_words, least_k, greatest_k, most_book_words, desk_book_words}
 use Rattle.figures.specs.Numbers.{done}
 use Rattle.figures.specs.Answers.{answered}
@@ -46,22 +46,22 @@ line-within taken line book out = omega (arith, length-append line (drop (length
 
 -- The line of the first step lies within the output.
 pub begin_within : (input book out : List ℕ) → (begin_of input book out).step.count ≤ length (begin_of input book out).out
-unfolding begin_of begun_by if◌then◌else◌
+unfolding begin_of begun_by when◌then◌else◌
 begin_within input book out = go (ltb (length out) reply_room) (handed_in input)
   where
     -- By the room for it and what is handed in.
-    go : (t : Bool) (h : Handed) → let s = if t then idle book out else begun_by (length input) h book out in s.step.count ≤ length s.out
+    go : (t : Bool) (h : Handed) → let s = when t then idle book out else begun_by (length input) h book out in s.step.count ≤ length s.out
     go true h = omega arith
     go false (faulty a) = line-within (length input) (reply letter_K a 0) book out
     go false (handed k cs) = line-within first_line_size (line_for letter_K (open_of book k)) (open_of book k).words out
 
 -- So does that of a later step.
 pub step-within : (left book out : List ℕ) → (step_of left book out).step.count ≤ length (step_of left book out).out
-unfolding step_of stepped_by if◌then◌else◌
+unfolding step_of stepped_by when◌then◌else◌
 step-within left book out = go (ltb (length out) reply_room) (sheet_of left).before (sheet_of left).calls
   where
     -- By the room for it and the calls that are left.
-    go : (t : Bool) (bs : List ℕ) (cs : List FormCall) → let s = if t then idle book out else stepped_by bs cs book out in s.step.count ≤ length s.out
+    go : (t : Bool) (bs : List ℕ) (cs : List FormCall) → let s = when t then idle book out else stepped_by bs cs book out in s.step.count ≤ length s.out
     go true bs cs = omega arith
     go false (b ∷ bs) cs = omega arith
     go false [] [] = omega arith
@@ -73,22 +73,22 @@ line-behind taken line book out = drop-append_seam line (drop (length line) out)
 
 -- Behind the line of the first step the bytes of the output stay.
 pub begin_behind : (input book out : List ℕ) → let s = begin_of input book out in drop s.step.count s.out ≡ drop s.step.count out
-unfolding begin_of begun_by if◌then◌else◌
+unfolding begin_of begun_by when◌then◌else◌
 begin_behind input book out = go (ltb (length out) reply_room) (handed_in input)
   where
     -- By the room for it and what is handed in.
-    go : (t : Bool) (h : Handed) → let s = if t then idle book out else begun_by (length input) h book out in drop s.step.count s.out ≡ drop s.step.count out
+    go : (t : Bool) (h : Handed) → let s = when t then idle book out else begun_by (length input) h book out in drop s.step.count s.out ≡ drop s.step.count out
     go true h = refl
     go false (faulty a) = line-behind (length input) (reply letter_K a 0) book out
     go false (handed k cs) = line-behind first_line_size (line_for letter_K (open_of book k)) (open_of book k).words out
 
 -- So they do behind that of a later step.
 pub step-behind : (left book out : List ℕ) → let s = step_of left book out in drop s.step.count s.out ≡ drop s.step.count out
-unfolding step_of stepped_by if◌then◌else◌
+unfolding step_of stepped_by when◌then◌else◌
 step-behind left book out = go (ltb (length out) reply_room) (sheet_of left).before (sheet_of left).calls
   where
     -- By the room for it and the calls that are left.
-    go : (t : Bool) (bs : List ℕ) (cs : List FormCall) → let s = if t then idle book out else stepped_by bs cs book out in drop s.step.count s.out ≡ drop s.step.count out
+    go : (t : Bool) (bs : List ℕ) (cs : List FormCall) → let s = when t then idle book out else stepped_by bs cs book out in drop s.step.count s.out ≡ drop s.step.count out
     go true bs cs = refl
     go false (b ∷ bs) cs = refl
     go false [] [] = refl
@@ -123,7 +123,7 @@ open_same ws vs k e l s a z =
 
 -- With room for a line the first step goes by what is handed in.
 pub begin_is : (input book out : List ℕ) → reply_room ≤ length out → begin_of input book out ≡ begun_by (length input) (handed_in input) book out
-unfolding begin_of if◌then◌else◌
+unfolding begin_of when◌then◌else◌
 begin_is input book out h = rw (le-ltb (length out) reply_room h)
 
 module _ (input book out slice : List ℕ) (same : length book ≡ length slice) (long : head_words ≤ length book) (short : length book ≤ most_book_words)
@@ -204,7 +204,7 @@ module _ (left book : List ℕ) (x : Letter) (asked : letter_at left ≡ Asks x)
 
   -- With room for a line the step makes that call.
   pub step_is : (out : List ℕ) → reply_room ≤ length out → step_of left book out ≡ gives size line (call_of next book).words out
-  unfolding step_of stepped_by if◌then◌else◌
+  unfolding step_of stepped_by when◌then◌else◌
   step_is out h = rw (le-ltb (length out) reply_room h, letter-sheet left x asked)
 
   -- The lines that are left are its line and those of the calls behind it.

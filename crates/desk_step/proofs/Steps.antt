@@ -7,7 +7,7 @@ use native.Mathlib.Omega.{arith}
 use borrow.Author.Tests.{lt-ltb, le-ltb}
 use lib.ListN.{length, get_or, take, drop, length-drop}
 use Rattle.words.proofs.Tests.{never}
-use Rattle.words.specs.Base.{if◌then◌else◌, over}
+use Rattle.words.specs.Base.{when◌then◌else◌, over}
 use Rattle.figures.specs.Limits.{used_word}
 use Rattle.figures.specs.declared.Answer.{Answer}
 use Rattle.book.specs.Opening.{Outcome, outcome, open_of}
@@ -27,12 +27,12 @@ use Rattle.desk_step.proofs.Runs.{begin_is, letter-long, step_is}
 
 -- The opening does nothing.
 pub begin_short : (input book out : List ℕ) → length out < reply_room → idle book out ≡ begin_of input book out
-unfolding begin_of if◌then◌else◌
+unfolding begin_of when◌then◌else◌
 begin_short input book out h = rw (lt-ltb (length out) reply_room h)
 
 -- A later step does nothing.
 pub step-short : (left book out : List ℕ) → length out < reply_room → idle book out ≡ step_of left book out
-unfolding step_of if◌then◌else◌
+unfolding step_of when◌then◌else◌
 step-short left book out h = rw (lt-ltb (length out) reply_room h)
 
 -- ---- a line that is written
@@ -82,7 +82,7 @@ idle-before (b ∷ bs) cs book out h = refl
 
 -- Where no letter line stands in front, nothing is done.
 pub step_other : (left book out : List ℕ) → reply_room ≤ length out → letter_at left ≡ Other → idle book out ≡ step_of left book out
-unfolding step_of if◌then◌else◌ stepped_by
+unfolding step_of when◌then◌else◌ stepped_by
 step_other [] book out room e = rw (le-ltb (length out) reply_room room, empty-sheet)
 step_other (b ∷ bs) book out room e =
     rw (le-ltb (length out) reply_room room) (idle-before (sheet_of (b ∷ bs)).before (sheet_of (b ∷ bs)).calls book out (other_before (b ∷ bs) (omega arith) e))

@@ -1,14 +1,14 @@
 -- How many lines a text has, and how many the desk prints for what is handed in (01, "Forms on the desk": "one line for the opening … and one for
 -- each form"). Assumes nothing: these are definitions.
 use Rattle.std.specs.Prelude.{ℕ, suc, ◌≡◌, List, [], ◌∷◌, ◌++◌, eqb, length}
-use Rattle.words.specs.Base.{if◌then◌else◌}
+use Rattle.words.specs.Base.{when◌then◌else◌}
 use Rattle.form.specs.Text.{line_feed}
 use Rattle.desk_input.specs.Sheets.{Handed, faulty, handed}
 
 -- How many of the bytes are LF.
 unfoldable pub feeds : List ℕ → ℕ
 feeds [] = 0
-feeds (b ∷ bs) = if eqb b line_feed then suc (feeds bs) else feeds bs
+feeds (b ∷ bs) = when eqb b line_feed then suc (feeds bs) else feeds bs
 
 -- "LF at the end": the last byte is LF.
 pub record EndsLine (text : List ℕ) : Type 0 where

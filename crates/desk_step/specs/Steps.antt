@@ -1,7 +1,7 @@
 -- What one step of the desk does, for all inputs, and the steps of a run, one after the other. That their lines are what the desk prints is shown in
 -- proofs/Runs.antt. Assumes nothing: these are definitions.
 use Rattle.std.specs.Prelude.{ℕ, ◌+◌, ◌≤◌, ◌<◌, ◌≡◌, List, [], ◌∷◌, ◌++◌, ltb, length, take, drop}
-use Rattle.words.specs.Base.{if◌then◌else◌, over}
+use Rattle.words.specs.Base.{when◌then◌else◌, over}
 use Rattle.figures.specs.Limits.{desk_book_words}
 use Rattle.book.specs.Opening.{open_of}
 use Rattle.desk_line.specs.Replies.{reply, reply_room}
@@ -37,7 +37,7 @@ begun_by size (handed k calls) book out = gives first_line_size (line_for letter
 
 -- The first step, on any slice for a book; a slice for the line that is shorter than any line may be is left alone.
 unfoldable pub begin_of : List ℕ → List ℕ → List ℕ → Stepping
-begin_of input book out = if ltb (length out) reply_room then idle book out else begun_by (length input) (handed_in input) book out
+begin_of input book out = when ltb (length out) reply_room then idle book out else begun_by (length input) (handed_in input) book out
 
 -- The first of the calls is made, where no bytes stand before it.
 unfoldable pub stepped_by : List ℕ → List FormCall → List ℕ → List ℕ → Stepping
@@ -49,7 +49,7 @@ stepped_by (b ∷ bs) cs book out = idle book out
 -- A later step, on what is left of the input.
 unfoldable pub step_of : List ℕ → List ℕ → List ℕ → Stepping
 step_of left book out =
-    if ltb (length out) reply_room then idle book out else stepped_by (sheet_of left).before (sheet_of left).calls book out
+    when ltb (length out) reply_room then idle book out else stepped_by (sheet_of left).before (sheet_of left).calls book out
 
 -- ---- the steps of a run
 

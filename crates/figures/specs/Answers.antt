@@ -1,7 +1,7 @@
 -- What asking for a k gives, and answers as calls make them. Assumes nothing: these are definitions.
 use Rattle.std.specs.Prelude.{ℕ}
 use Rattle.std.proofs.Math.Option.{Option, none, some}
-use Rattle.words.specs.Base.{if◌then◌else◌, within}
+use Rattle.words.specs.Base.{when◌then◌else◌, within}
 use Rattle.figures.specs.Limits.{least_k, greatest_k}
 use Rattle.figures.specs.Numbers.{done, k_outside}
 use Rattle.figures.specs.declared.Answer.{Answer}
@@ -11,7 +11,7 @@ use Rattle.figures.specs.declared.depths.Asked.TheVariants.{Allowed, Outside}
 
 -- "k is 2 to 6."
 unfoldable pub depth_of : ℕ → Asked
-depth_of k = if within least_k greatest_k k then Allowed (record { k = k }) else Outside
+depth_of k = when within least_k greatest_k k then Allowed (record { k = k }) else Outside
 
 -- 01's number for each case: "3: k outside 2 to 6".
 abbrev pub number_of : Asked → ℕ

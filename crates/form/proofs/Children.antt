@@ -8,7 +8,7 @@ use native.Mathlib.Omega.{arith}
 use borrow.Author.Tests.{leb-true, leb-false, lt-leb, eqb-true, eqb-false, eq-eqb, ne_eqb}
 use lib.Dec.{leb, eqb}
 use lib.ListN.{length, get_or}
-use Rattle.words.specs.Base.{if◌then◌else◌}
+use Rattle.words.specs.Base.{when◌then◌else◌}
 use Rattle.form.specs.Text.{Line}
 use Rattle.form.specs.Reading.{children, words_of_lines}
 use Rattle.form.specs.Faults.{ChildrenOf, no_lines, child, deeper, NoDeeper, no_more, back_up, ChildrenBehind}
@@ -17,13 +17,13 @@ use Rattle.form.proofs.TreeLines.{no_child}
 module _ (l : ℕ) where
   -- Lines behind a line of level l have some below it, so many of them its children as `children` counts.
   some_below : (ys : List Line) → ChildrenBehind l ys (children l ys)
-  unfolding children if◌then◌else◌
+  unfolding children when◌then◌else◌
   some_below [] = record { below = []; rest = []; split = refl; children = no_lines; ends = no_more }
   some_below (y ∷ ys) = go (leb y.level l) (eqb y.level (suc l)) refl refl (some_below ys)
     where
       -- By how deep the first of them is.
       go : (a b : Bool) → leb y.level l ≡ a → eqb y.level (suc l) ≡ b → ChildrenBehind l ys (children l ys)
-          → ChildrenBehind l (y ∷ ys) (if a then 0 else if b then suc (children l ys) else children l ys)
+          → ChildrenBehind l (y ∷ ys) (when a then 0 else when b then suc (children l ys) else children l ys)
       go true b p q r = let h : y.level ≤ l = leb-true _ _ p in record { below = []; rest = y ∷ ys; split = refl; children = no_lines; ends = back_up h }
       go false true p q r =
           let e : y.level ≡ l + 1 = omega (arith, eqb-true y.level (suc l) q) in
@@ -36,7 +36,7 @@ module _ (l : ℕ) where
 
   -- The children among those below it are counted.
   children-counted : (below rest : List Line) (n : ℕ) → ChildrenOf l below n → NoDeeper l rest → children l (below ++ rest) ≡ n
-  unfolding children if◌then◌else◌
+  unfolding children when◌then◌else◌
   children-counted _ rest _ no_lines e = no_child l rest e
   children-counted _ rest _ (child {x} {xs} {n} q c) e = rw (lt-leb x.level l (omega arith), eq-eqb x.level (suc l) (omega arith), children-counted xs rest n c e)
   children-counted _ rest _ (deeper {x} {xs} {n} q c) e =

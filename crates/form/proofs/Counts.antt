@@ -9,7 +9,7 @@ use lib.ListN.{length, get_or, set, length-append, length-reverse}
 use lib.Seq.{get_or-set_same, get_or-set_other}
 use borrow.Author.Tests.{lt-leb, le-leb, lt-ltb, le-ltb, eq-eqb, ne_eqb, eqb-true, eqb-false, leb-true, leb-false}
 use Rattle.words.proofs.Tests.{by_test}
-use Rattle.words.specs.Base.{if◌then◌else◌}
+use Rattle.words.specs.Base.{when◌then◌else◌}
 use Rattle.form.specs.Text.{Line}
 use Rattle.form.specs.Reading.{siblings, children, words_of_lines}
 
@@ -29,14 +29,14 @@ above-reverse l [] a = tt
 above-reverse l (x ∷ xs) a = subst (Above l) (sym (reverse-cons x xs)) (above-snoc l (reverse xs) x (above-reverse l xs a.1) a.0)
 
 -- One more in both branches is one more.
-if_suc : (b : Bool) (n : ℕ) → (if b then suc (suc n) else suc n) ≡ suc (if b then suc n else n)
-unfolding if◌then◌else◌
+if_suc : (b : Bool) (n : ℕ) → (when b then suc (suc n) else suc n) ≡ suc (when b then suc n else n)
+unfolding when◌then◌else◌
 if_suc true n = refl
 if_suc false n = refl
 
 -- A child behind the others of a line is one more.
 child : (l : ℕ) (ys : List Line) (x : Line) → Above l ys → x.level ≡ suc l → children l (ys ++ (x ∷ [])) ≡ suc (children l ys)
-unfolding children if◌then◌else◌
+unfolding children when◌then◌else◌
 child l [] x a e = rw (lt-leb x.level l (omega arith), eq-eqb x.level (suc l) e)
 child l (y ∷ ys) x a e =
     let h : l < y.level = a.0 in
@@ -44,17 +44,17 @@ child l (y ∷ ys) x a e =
 
 -- A line behind them that is no child leaves their number as it is.
 other : (l : ℕ) (ys : List Line) (x : Line) → (x.level ≡ suc l → ⊥) → children l (ys ++ (x ∷ [])) ≡ children l ys
-unfolding children if◌then◌else◌
+unfolding children when◌then◌else◌
 other l [] x n = rw (ne_eqb x.level (suc l) n) (if_same (leb x.level l) 0)
   where
-    if_same : (b : Bool) (m : ℕ) → (if b then m else m) ≡ m
+    if_same : (b : Bool) (m : ℕ) → (when b then m else m) ≡ m
     if_same true m = refl
     if_same false m = refl
 other l (y ∷ ys) x n = rw (other l ys x n)
 
 -- Behind a line of level l or less there is no further child of a line of level l before it.
 shut : (l : ℕ) (f : List Line) (p : Line) (back : List Line) (x : Line) → p.level ≤ l → children l (f ++ (p ∷ back) ++ (x ∷ [])) ≡ children l (f ++ (p ∷ back))
-unfolding children if◌then◌else◌
+unfolding children when◌then◌else◌
 shut l [] p back x h = rw (le-leb p.level l h)
 shut l (y ∷ f) p back x h = rw (shut l f p back x h)
 
@@ -98,7 +98,7 @@ kids p back (y ∷ front) = rw (two_on (length front)) (kids p back front)
 
 -- The siblings of a child of p are the children that p has so far.
 sibs : (p : Line) (front after : List Line) → Above p.level after → siblings (suc p.level) (after ++ (p ∷ front)) ≡ children p.level (reverse after)
-unfolding siblings children if◌then◌else◌
+unfolding siblings children when◌then◌else◌
 sibs p front [] a = rw (lt-ltb p.level (suc p.level) (omega arith))
 sibs p front (x ∷ after) a = go (eqb x.level (suc p.level)) refl (sibs p front after a.1) ∙ ap (children p.level) (sym (reverse-cons x after))
   where

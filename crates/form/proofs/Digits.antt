@@ -9,7 +9,7 @@ use lib.Dec.{ltb}
 use lib.ListN.{length}
 use lib.Seq.{drop-append_seam}
 use borrow.Author.Tests.{le-leb, ne_eqb, ltb-true, ltb-false}
-use Rattle.words.specs.Base.{◌and◌, if◌then◌else◌}
+use Rattle.words.specs.Base.{◌and◌, when◌then◌else◌}
 use Rattle.figures.specs.Limits.{greatest_code}
 use Rattle.form.specs.Text.{digit_0, digit_9, space, line_feed, digit, code_size, Line, level_text, code_text, line_text, spell}
 use Rattle.form.specs.Reading.{is_digit, figure, value, is_code, code_behind, spelt_of, read_lines}
@@ -67,7 +67,7 @@ is-code a b c d p q r s = rw (p, q, r, s)
 
 -- Behind a level the text of a code is read as the code.
 code_read : (l w c : ℕ) (r : List ℕ) → c ≤ greatest_code → code_behind l w (code_text c ++ r) ≡ Node l c (w + code_size)
-unfolding code_behind code_text if◌then◌else◌
+unfolding code_behind code_text when◌then◌else◌
 code_read l w c r h =
     rw (is-code (digit (c / 1000)) (digit (c / 100)) (digit (c / 10)) (digit c) (is_digit_lem (c / 1000)) (is_digit_lem (c / 100)) (is_digit_lem (c / 10)) (is_digit_lem c), value-digits c h)
 
@@ -75,14 +75,14 @@ code_read l w c r h =
 
 -- A level of one digit is read as itself.
 short-level : (l b : ℕ) (r : List ℕ) → l < 10 → is_digit b ≡ false → spelt_of (level_text l ++ (b ∷ r)) ≡ code_behind l (length (level_text l)) (b ∷ r)
-unfolding spelt_of if◌then◌else◌
+unfolding spelt_of when◌then◌else◌
 short-level l b r h e =
     let z : figure (digit l) ≡ l = omega arith in
     rw (one-digit l h, is_digit_lem l, e) (ap (λ (m : ℕ). code_behind m 1 (b ∷ r)) z)
 
 -- A level of two digits is read as itself.
 long-level : (l b : ℕ) (r : List ℕ) → 10 ≤ l → l ≤ greatest_level → spelt_of (level_text l ++ (b ∷ r)) ≡ code_behind l (length (level_text l)) (b ∷ r)
-unfolding spelt_of if◌then◌else◌
+unfolding spelt_of when◌then◌else◌
 long-level l b r g h =
     let z : figure (digit (l / 10)) * 10 + figure (digit l) ≡ l = omega arith in
     let n : digit (l / 10) ≡ digit_0 → ⊥ = λ e. omega arith in

@@ -7,7 +7,7 @@ use native.Mathlib.Omega.{arith}
 use lib.Dec.{leb, ltb, eqb}
 use lib.ListN.{length, drop}
 use borrow.Author.Tests.{lt-leb, le-leb, lt-ltb, le-ltb, eq-eqb, ne_eqb, eqb-true, eqb-false, leb-true, leb-false, ltb-true, ltb-false}
-use Rattle.words.specs.Base.{if◌then◌else◌, within}
+use Rattle.words.specs.Base.{when◌then◌else◌, within}
 use Rattle.words.proofs.Tests.{and_left, and_right, never}
 use Rattle.figures.specs.Limits.{least_code, most_nodes, most_children, greatest_depth}
 use Rattle.figures.specs.Numbers.{done}
@@ -42,7 +42,7 @@ within_both least greatest n e = (leb-true _ _ (and_left (leb least n) (leb n gr
 
 -- A spelt line that passes is read.
 pub fine_line : (before : List Line) (s : List ℕ) {l c w : ℕ} → spelt_of s ≡ Node l c w → Passes before l c → line_of before s ≡ Node l c w
-unfolding line_of by_line if◌then◌else◌
+unfolding line_of by_line when◌then◌else◌
 fine_line before s {l} {c} {w} e f =
     rw (e, ne_eqb c 0 (let h = f.option in λ z. omega arith), f.follows, le-ltb greatest_depth l f.shallow, lt-leb most_children (siblings l before) f.child) refl
 
@@ -55,22 +55,22 @@ misspelt-line before s e = rw e
 
 -- A spelt line of code 0000 is refused for its code.
 pub zero_line : (before : List Line) (s : List ℕ) {l c w : ℕ} → spelt_of s ≡ Node l c w → c ≡ 0 → line_of before s ≡ Refused NoOption
-unfolding line_of by_line if◌then◌else◌
+unfolding line_of by_line when◌then◌else◌
 zero_line before s {l} {c} e o = rw (e, eq-eqb c 0 o) refl
 
 -- A spelt line with an option, of a level that is not allowed, is refused for its level.
 pub level-line : (before : List Line) (s : List ℕ) {l c w : ℕ} → spelt_of s ≡ Node l c w → least_code ≤ c → allowed l before ≡ false → line_of before s ≡ Refused LevelNotAllowed
-unfolding line_of by_line if◌then◌else◌
+unfolding line_of by_line when◌then◌else◌
 level-line before s {l} {c} e o a = rw (e, ne_eqb c 0 (λ z. omega arith), a) refl
 
 -- A spelt line with an option, of a level that is allowed but over 12, is too deep.
 pub deep-line : (before : List Line) (s : List ℕ) {l c w : ℕ} → spelt_of s ≡ Node l c w → least_code ≤ c → allowed l before ≡ true → greatest_depth < l → line_of before s ≡ Refused TooDeep
-unfolding line_of by_line if◌then◌else◌
+unfolding line_of by_line when◌then◌else◌
 deep-line before s {l} {c} e o a d = rw (e, ne_eqb c 0 (λ z. omega arith), a, lt-ltb greatest_depth l d) refl
 
 -- A spelt line that lacks nothing but room under its parent is a ninth child.
 pub ninth_line : (before : List Line) (s : List ℕ) {l c w : ℕ} → spelt_of s ≡ Node l c w → least_code ≤ c → allowed l before ≡ true → l ≤ greatest_depth → most_children ≤ siblings l before → line_of before s ≡ Refused NinthChild
-unfolding line_of by_line if◌then◌else◌
+unfolding line_of by_line when◌then◌else◌
 ninth_line before s {l} {c} e o a d n =
     rw (e, ne_eqb c 0 (λ z. omega arith), a, le-ltb greatest_depth l d, le-leb most_children (siblings l before) n) refl
 
@@ -88,12 +88,12 @@ pub data Seen (before : List Line) (s : List ℕ) : LineRead → Type 0 where
 -- `Seen` holds of whatever the tests give.
 seen_of : (before : List Line) (s : List ℕ) (r : LineRead) → spelt_of s ≡ r
     → Seen before s (by_line r (λ level code size.
-    if eqb code 0 then Refused NoOption else
-    if not (allowed level before) then Refused LevelNotAllowed else
-    if ltb greatest_depth level then Refused TooDeep else
-    if leb most_children (siblings level before) then Refused NinthChild else
+    when eqb code 0 then Refused NoOption else
+    when not (allowed level before) then Refused LevelNotAllowed else
+    when ltb greatest_depth level then Refused TooDeep else
+    when leb most_children (siblings level before) then Refused NinthChild else
     Node level code size) Refused)
-unfolding by_line if◌then◌else◌
+unfolding by_line when◌then◌else◌
 seen_of before s (Refused f) q = unspelt q
 seen_of before s (Node l c w) q = go (eqb c 0) (allowed l before) (ltb greatest_depth l) (leb most_children (siblings l before)) refl refl refl refl
   where
@@ -101,7 +101,7 @@ seen_of before s (Node l c w) q = go (eqb c 0) (allowed l before) (ltb greatest_
     some e = let o : c ≡ 0 → ⊥ = eqb-false _ _ e in omega arith
 
     go : (z a d n : Bool) → eqb c 0 ≡ z → allowed l before ≡ a → ltb greatest_depth l ≡ d → leb most_children (siblings l before) ≡ n
-        → Seen before s (if z then Refused NoOption else if not a then Refused LevelNotAllowed else if d then Refused TooDeep else if n then Refused NinthChild else Node l c w)
+        → Seen before s (when z then Refused NoOption else when not a then Refused LevelNotAllowed else when d then Refused TooDeep else when n then Refused NinthChild else Node l c w)
     go true a d n p₀ p₁ p₂ p₃ = zero_code q (eqb-true _ _ p₀)
     go false false d n p₀ p₁ p₂ p₃ = bad_level q (some p₀) p₁
     go false true true n p₀ p₁ p₂ p₃ = deep q (some p₀) p₁ (ltb-true _ _ p₂)

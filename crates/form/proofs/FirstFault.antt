@@ -7,7 +7,7 @@ use Prim.Native.Nat.{ℕ, zero, suc, ◌+◌, ◌*◌, ◌-◌, ◌≤◌, ◌<�
 use native.Mathlib.Omega.{arith}
 use lib.Dec.{eqb}
 use lib.ListN.{length, drop, length-append, length-reverse}
-use Rattle.words.specs.Base.{if◌then◌else◌}
+use Rattle.words.specs.Base.{when◌then◌else◌}
 use Rattle.figures.specs.Limits.{most_nodes}
 use Rattle.figures.specs.Numbers.{done, no_form}
 use Rattle.figures.specs.Answers.{refused_at}
@@ -29,7 +29,7 @@ use Rattle.form.proofs.Rows.{follow_test, test_follow, no_follow, follow_none, p
 
 -- Bytes behind a level that are refused are misspelt.
 code-only : (l w : ℕ) (s : List ℕ) {f : Fault} → code_behind l w s ≡ Refused f → f ≡ Misspelt
-unfolding code_behind if◌then◌else◌
+unfolding code_behind when◌then◌else◌
 code-only l w [] e = cc
 code-only l w (s ∷ []) e = cc
 code-only l w (s ∷ a ∷ []) e = cc
@@ -38,18 +38,18 @@ code-only l w (s ∷ a ∷ b ∷ c ∷ []) e = cc
 code-only l w (s ∷ a ∷ b ∷ c ∷ d ∷ []) e = cc
 code-only l w (s ∷ a ∷ b ∷ c ∷ d ∷ n ∷ r) {f} e = go (is_code s a b c d n) e
   where
-    go : (t : Bool) → (if t then Node l (value a b c d) (w + code_size) else Refused Misspelt) ≡ Refused f → f ≡ Misspelt
+    go : (t : Bool) → (when t then Node l (value a b c d) (w + code_size) else Refused Misspelt) ≡ Refused f → f ≡ Misspelt
     go true e = no_node (sym e)
     go false e = cc
 
 -- Bytes that are refused before a line's other tests are misspelt.
 spelt-only : (s : List ℕ) {f : Fault} → spelt_of s ≡ Refused f → f ≡ Misspelt
-unfolding spelt_of if◌then◌else◌
+unfolding spelt_of when◌then◌else◌
 spelt-only [] e = cc
 spelt-only (x ∷ []) e = cc
 spelt-only (x ∷ y ∷ r) {f} e = go (is_digit x) (is_digit y) (eqb x digit_0) e
   where
-    go : (a b t : Bool) → (if not a then Refused Misspelt else if not b then code_behind (figure x) 1 (y ∷ r) else if t then Refused Misspelt else code_behind (figure x * 10 + figure y) 2 r) ≡ Refused f → f ≡ Misspelt
+    go : (a b t : Bool) → (when not a then Refused Misspelt else when not b then code_behind (figure x) 1 (y ∷ r) else when t then Refused Misspelt else code_behind (figure x * 10 + figure y) 2 r) ≡ Refused f → f ≡ Misspelt
     go false b t e = cc
     go true false t e = code-only (figure x) 1 (y ∷ r) e
     go true true true e = cc

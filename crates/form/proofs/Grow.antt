@@ -6,7 +6,7 @@ use native.Mathlib.Omega.{arith}
 use lib.ListN.{length}
 use borrow.Author.Tests.{eqb-true, lt-ltb}
 use Rattle.words.proofs.Tests.{never}
-use Rattle.words.specs.Base.{if◌then◌else◌, within}
+use Rattle.words.specs.Base.{when◌then◌else◌, within}
 use Rattle.figures.specs.Limits.{greatest_depth, most_nodes, most_children}
 use Rattle.order.specs.Trees.{Tree, Forest, node, bare, cons, count, words, depth, depth_f, Good, GoodF, subtrees}
 use Rattle.form.specs.Text.{Line, lines_of, lines_f, spell, text_of}
@@ -149,7 +149,7 @@ legal-split (x ∷ xs) ys before g =
 
 -- A tree whose lines pass is good and not too deep, and so is a row.
 mutual
-  unfolding lines_of Good depth count siblings if◌then◌else◌
+  unfolding lines_of Good depth count siblings when◌then◌else◌
 
   good : (t : Tree) (l : ℕ) (b : List Line) → AllPass b (lines_of t l) → Good t × (l + depth t ≤ greatest_depth) × (siblings l b < most_children)
   good (node c f) l b g =

@@ -6,7 +6,7 @@ use Prim.Native.Nat.{ℕ, suc, ◌+◌, ◌*◌, ◌-◌, ◌/◌, ◌≤◌, �
 use native.Mathlib.Omega.{arith}
 use lib.Dec.{ltb}
 use lib.ListN.{length, length-append, length-reverse}
-use Rattle.words.specs.Base.{◌and◌, if◌then◌else◌}
+use Rattle.words.specs.Base.{◌and◌, when◌then◌else◌}
 use Rattle.words.proofs.Tests.{no_test, fails_right}
 use Rattle.figures.specs.Limits.{least_code, most_nodes}
 use Rattle.figures.specs.Numbers.{done, no_form}
@@ -35,7 +35,7 @@ decimal a b c d = omega arith
 -- A line of four digits is read as the node whose code they are, whatever follows.
 pub code-decimal : (l : ℕ) (a b c d : ℕ) (rest : List ℕ) → l ≤ greatest_level → a < 10 → b < 10 → c < 10 → d < 10
     → spelt_of (level_text l ++ (space ∷ (digit_0 + a) ∷ (digit_0 + b) ∷ (digit_0 + c) ∷ (digit_0 + d) ∷ line_feed ∷ rest)) ≡ Node l (a * 1000 + b * 100 + c * 10 + d) (length (level_text l) + code_size)
-unfolding code_behind if◌then◌else◌
+unfolding code_behind when◌then◌else◌
 code-decimal l a b c d rest h p q r s =
     level-read l space _ h space-no_digit
     ∙ rw (is-code (digit_0 + a) (digit_0 + b) (digit_0 + c) (digit_0 + d) (figure-digit a p) (figure-digit b q) (figure-digit c r) (figure-digit d s), decimal a b c d)
@@ -48,7 +48,7 @@ first-line n h = record { option = h; follows = refl; shallow = omega arith; chi
 -- A form of one line of four digits, not all 0, is read as the node whose code is their decimal value.
 pub decimal-read : (a b c d : ℕ) → a < 10 → b < 10 → c < 10 → d < 10 → least_code ≤ a * 1000 + b * 100 + c * 10 + d → (out : List ℕ)
     → read_of (digit_0 ∷ space ∷ (digit_0 + a) ∷ (digit_0 + b) ∷ (digit_0 + c) ∷ (digit_0 + d) ∷ line_feed ∷ []) out ≡ write ((a * 1000 + b * 100 + c * 10 + d) ∷ 0 ∷ []) out
-unfolding level_text if◌then◌else◌ words_of_lines children
+unfolding level_text when◌then◌else◌ words_of_lines children
 decimal-read a b c d p q r s h out =
     let n : ℕ = a * 1000 + b * 100 + c * 10 + d in
     let x : Line = record { level = 0; code = n } in
@@ -75,7 +75,7 @@ no_code a b c d e (fourth h) = fails_right (is_digit a) _ (fails_right (is_digit
 
 -- Nothing is read behind the level, even where the text ends.
 none-behind : (l w a b c d : ℕ) (rest : List ℕ) → NotFour a b c d → code_behind l w (space ∷ a ∷ b ∷ c ∷ d ∷ rest) ≡ Refused Misspelt
-unfolding code_behind if◌then◌else◌
+unfolding code_behind when◌then◌else◌
 none-behind l w a b c d [] n = refl
 none-behind l w a b c d (e ∷ rest) n = rw (no_code a b c d e n)
 
@@ -126,10 +126,10 @@ byte_in (a ∷ front) b rest g = byte_in front b rest g.1
 
 -- A level's text has digits only.
 level-bytes : (l : ℕ) → Bytes (level_text l)
-unfolding level_text if◌then◌else◌
+unfolding level_text when◌then◌else◌
 level-bytes l = go (ltb l 10)
   where
-    go : (t : Bool) → Bytes (if t then digit l ∷ [] else digit (l / 10) ∷ digit l ∷ [])
+    go : (t : Bool) → Bytes (when t then digit l ∷ [] else digit (l / 10) ∷ digit l ∷ [])
     go true = (figure-byte (is_digit_lem l), tt)
     go false = (figure-byte (is_digit_lem (l / 10)), (figure-byte (is_digit_lem l), tt))
 

@@ -8,7 +8,7 @@ use native.Mathlib.Omega.{arith}
 use borrow.Author.Tests.{lt-ltb, le-ltb}
 use lib.ListN.{length, take, drop, set, length-append, length-drop}
 use lib.Seq.{length-take-le, take_at, drop_at, drop-drop, sets-eq}
-use Rattle.words.specs.Base.{if◌then◌else◌, over}
+use Rattle.words.specs.Base.{when◌then◌else◌, over}
 use Rattle.order.specs.Trees.{Tree, Forest, node, bare, cons}
 use Rattle.order.specs.Levels.{tree_levels, row_levels}
 use Rattle.order.proofs.Writing.{part-back}
@@ -19,12 +19,12 @@ use Rattle.form.specs.Turns.{levels_of, ShortLines}
 
 -- A level below 10 is one digit.
 pub one-digit : (l : ℕ) → l < 10 → level_text l ≡ digit l ∷ []
-unfolding level_text if◌then◌else◌
+unfolding level_text when◌then◌else◌
 one-digit l h = rw (lt-ltb l 10 h) refl
 
 -- A level from 10 on is two digits.
 pub two_digits : (l : ℕ) → 10 ≤ l → level_text l ≡ digit (l / 10) ∷ digit l ∷ []
-unfolding level_text if◌then◌else◌
+unfolding level_text when◌then◌else◌
 two_digits l h = rw (le-ltb l 10 h) refl
 
 -- A level below 10 takes one byte.

@@ -7,7 +7,7 @@ use Prim.Native.Nat.{ℕ, suc, ◌+◌, ◌-◌, ◌≤◌, ◌<◌}
 use native.Mathlib.Omega.{arith}
 use lib.ListN.{length, length-append}
 use borrow.Author.Tests.{le-leb, eq-eqb, ne_eqb, lt-ltb, le-ltb}
-use Rattle.words.specs.Base.{◌and◌, if◌then◌else◌}
+use Rattle.words.specs.Base.{◌and◌, when◌then◌else◌}
 use Rattle.figures.specs.Limits.{greatest_depth, most_nodes, most_children}
 use Rattle.order.specs.Trees.{Tree, Forest, node, bare, cons, count, depth, depth_f, Good, GoodF, subtrees}
 use Rattle.form.specs.Text.{Line, lines_of, lines_f, line_text, spell, text_of}
@@ -29,7 +29,7 @@ legal-append (x ∷ xs) ys before g h = (g.0, g.1, legal-append xs ys (x ∷ bef
 
 -- Deeper lines are no siblings.
 mutual
-  unfolding lines_of siblings if◌then◌else◌
+  unfolding lines_of siblings when◌then◌else◌
 
   past : (t : Tree) (l m : ℕ) (b : List Line) → l < m → siblings l (reverse_aux (lines_of t m) b) ≡ siblings l b
   past (node c f) l m b h = past_f f l (suc m) (record { level = m; code = c } ∷ b) (omega arith) ∙ rw (le-ltb m l (omega arith), ne_eqb m l (λ z. omega arith))
@@ -40,7 +40,7 @@ mutual
 
 -- A tree is one sibling more to what follows at its level.
 pub one_more : (t : Tree) (l : ℕ) (b : List Line) → siblings l (reverse_aux (lines_of t l) b) ≡ suc (siblings l b)
-unfolding lines_of siblings if◌then◌else◌
+unfolding lines_of siblings when◌then◌else◌
 one_more (node c f) l b = past_f f l (suc l) (record { level = l; code = c } ∷ b) (omega arith) ∙ rw (le-ltb l l (omega arith), eq-eqb l l refl)
 
 -- ---- levels
@@ -74,7 +74,7 @@ allows m (x ∷ b) (top h) = rw (le-leb 1 (suc m) (omega arith), le-leb (suc m) 
 
 -- The lines of a good tree that is not too deep pass where its top does, and so do those of a row.
 mutual
-  unfolding lines_of depth Good count siblings if◌then◌else◌
+  unfolding lines_of depth Good count siblings when◌then◌else◌
 
   legal : (t : Tree) (l : ℕ) (b : List Line) → Good t → l + depth t ≤ greatest_depth → allowed l b ≡ true → siblings l b < most_children → AllPass b (lines_of t l)
   legal (node c f) l b g d a s =

@@ -10,7 +10,7 @@ use native.Mathlib.Omega.{arith}
 use lib.Dec.{ltb, eqb}
 use lib.ListN.{length}
 use borrow.Author.Tests.{le-leb, lt-ltb, le-ltb, eq-eqb, ne_eqb, eqb-true, eqb-false}
-use Rattle.words.specs.Base.{◌and◌, if◌then◌else◌, ◌∈◌}
+use Rattle.words.specs.Base.{◌and◌, when◌then◌else◌, ◌∈◌}
 use Rattle.words.proofs.Tests.{no_test, by_test, never}
 use Rattle.figures.specs.Limits.{most_nodes, most_children, greatest_depth}
 use Rattle.form.specs.Text.{Line, spell}
@@ -50,7 +50,7 @@ follow_none l before e m = no_test (sym e ∙ follow_test l before m)
 
 -- Of lines below a parent, the test counts the children.
 children-test : (p : Line) (front between : List Line) {n : ℕ} → ChildrenOf p.level between n → siblings (p.level + 1) (between ++ (p ∷ front)) ≡ n
-unfolding siblings if◌then◌else◌
+unfolding siblings when◌then◌else◌
 children-test p front [] no_lines = rw (lt-ltb p.level (p.level + 1) (omega arith))
 children-test p front (x ∷ xs) (child e c) = rw (le-ltb x.level (p.level + 1) (omega arith), eq-eqb x.level (p.level + 1) e, children-test p front xs c)
 children-test p front (x ∷ xs) (deeper h c) = rw (le-ltb x.level (p.level + 1) (omega arith), ne_eqb x.level (p.level + 1) (λ z. omega arith), children-test p front xs c)
@@ -121,12 +121,12 @@ test_siblings before w l m =
 
 -- Behind lines that pass there are eight siblings at most.
 siblings-most : (before : List Line) → Passed before → (l : ℕ) → siblings l before ≤ most_children
-unfolding siblings if◌then◌else◌
+unfolding siblings when◌then◌else◌
 siblings-most [] w l = omega arith
 siblings-most (x ∷ xs) w l = go (ltb x.level l) (eqb x.level l) refl (siblings-most xs w.1 l)
   where
     -- By whether the last line ends the count, or is counted.
-    go : (a b : Bool) → eqb x.level l ≡ b → siblings l xs ≤ most_children → (if a then 0 else if b then suc (siblings l xs) else siblings l xs) ≤ most_children
+    go : (a b : Bool) → eqb x.level l ≡ b → siblings l xs ≤ most_children → (when a then 0 else when b then suc (siblings l xs) else siblings l xs) ≤ most_children
     go true b q h = omega arith
     go false false q h = h
     go false true q h =

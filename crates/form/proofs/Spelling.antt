@@ -8,7 +8,7 @@ use lib.Dec.{eqb}
 use lib.ListN.{length, drop, get_or, length-drop}
 use lib.Seq.{drop-cons}
 use borrow.Author.Tests.{ne_eqb, eq-eqb, eqb-true}
-use Rattle.words.specs.Base.{if◌then◌else◌}
+use Rattle.words.specs.Base.{when◌then◌else◌}
 use Rattle.words.proofs.Tests.{and_left, and_right}
 use Rattle.order.proofs.Writing.{two}
 use Rattle.form.specs.Text.{digit_0, digit_9, space, line_feed, code_size}
@@ -96,13 +96,13 @@ module _ (l w p : ℕ) (s : List ℕ) where
   -- They are no code.
   pub code-bad : p + code_size ≤ length s → is_code (get_or s p 0) (get_or s (p + 1) 0) (get_or s (p + 2) 0) (get_or s (p + 3) 0) (get_or s (p + 4) 0) (get_or s (p + 5) 0) ≡ false
       → Refused Misspelt ≡ code_behind l w (drop p s)
-  unfolding code_behind if◌then◌else◌
+  unfolding code_behind when◌then◌else◌
   code-bad h e = rw (six_at s p h) (rw e refl)
 
   -- They are a code.
   pub code-good : p + code_size ≤ length s → is_code (get_or s p 0) (get_or s (p + 1) 0) (get_or s (p + 2) 0) (get_or s (p + 3) 0) (get_or s (p + 4) 0) (get_or s (p + 5) 0) ≡ true
       → Node l (value (get_or s (p + 1) 0) (get_or s (p + 2) 0) (get_or s (p + 3) 0) (get_or s (p + 4) 0)) (w + code_size) ≡ code_behind l w (drop p s)
-  unfolding code_behind if◌then◌else◌
+  unfolding code_behind when◌then◌else◌
   code-good h e = rw (six_at s p h) (rw e refl)
 
 -- ---- the bytes of a line at `at`
@@ -114,21 +114,21 @@ module _ (at : ℕ) (s : List ℕ) where
 
   -- The first is no digit.
   pub line-bad : at + 2 ≤ length s → is_digit (get_or s at 0) ≡ false → Refused Misspelt ≡ spelt_of (drop at s)
-  unfolding spelt_of if◌then◌else◌
+  unfolding spelt_of when◌then◌else◌
   line-bad h e = rw (two s at h) (rw e refl)
 
   -- The level has one digit.
   pub line-one : at + 2 ≤ length s → is_digit (get_or s at 0) ≡ true → is_digit (get_or s (at + 1) 0) ≡ false → code_behind (figure (get_or s at 0)) 1 (drop (at + 1) s) ≡ spelt_of (drop at s)
-  unfolding spelt_of if◌then◌else◌
+  unfolding spelt_of when◌then◌else◌
   line-one h e f = rw (two s at h, more_at s at 1 (omega arith)) (rw (e, f) refl)
 
   -- The level has two digits, the first of them 0.
   pub line-zero : at + 2 ≤ length s → is_digit (get_or s at 0) ≡ true → is_digit (get_or s (at + 1) 0) ≡ true → get_or s at 0 ≡ digit_0 → Refused Misspelt ≡ spelt_of (drop at s)
-  unfolding spelt_of if◌then◌else◌
+  unfolding spelt_of when◌then◌else◌
   line-zero h e f g = rw (two s at h) (rw (e, f, eq-eqb _ _ g) refl)
 
   -- The level has two digits.
   pub line-two : at + 2 ≤ length s → is_digit (get_or s at 0) ≡ true → is_digit (get_or s (at + 1) 0) ≡ true → (get_or s at 0 ≡ digit_0 → ⊥)
       → code_behind (figure (get_or s at 0) * 10 + figure (get_or s (at + 1) 0)) 2 (drop (at + 2) s) ≡ spelt_of (drop at s)
-  unfolding spelt_of if◌then◌else◌
+  unfolding spelt_of when◌then◌else◌
   line-two h e f g = rw (two s at h) (rw (e, f, ne_eqb _ _ g) refl)

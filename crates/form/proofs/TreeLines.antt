@@ -5,7 +5,7 @@ use Prim.Native.Nat.{ℕ, suc, ◌≤◌, ◌<◌}
 use native.Mathlib.Omega.{arith}
 use lib.ListN.{length, length-append}
 use borrow.Author.Tests.{lt-leb, le-leb, eq-eqb, ne_eqb}
-use Rattle.words.specs.Base.{if◌then◌else◌}
+use Rattle.words.specs.Base.{when◌then◌else◌}
 use Rattle.order.specs.Trees.{Tree, Forest, node, bare, cons, count, words, words_f, subtrees, subtrees_f}
 use Rattle.form.specs.Text.{Line, lines_of, lines_f}
 use Rattle.form.specs.Reading.{children, words_of_lines}
@@ -15,7 +15,7 @@ use Rattle.form.specs.Faults.{NoDeeper, no_more, back_up}
 
 -- Lines that lie deeper than the children are passed over.
 mutual
-  unfolding lines_of children if◌then◌else◌
+  unfolding lines_of children when◌then◌else◌
 
   skip : (t : Tree) (l m : ℕ) (r : List Line) → suc l < m → children l (lines_of t m ++ r) ≡ children l r
   skip (node c f) l m r h = rw (lt-leb m l (omega arith), ne_eqb m (suc l) (λ z. omega arith)) (skip_f f l (suc m) r (omega arith))
@@ -26,13 +26,13 @@ mutual
 
 -- Behind the subtree of a line no more of its children come.
 pub no_child : (l : ℕ) (r : List Line) → NoDeeper l r → children l r ≡ 0
-unfolding children if◌then◌else◌
+unfolding children when◌then◌else◌
 no_child l [] o = refl
 no_child l (x ∷ r) (back_up h) = rw (le-leb x.level l h)
 
 -- A line has as many children as its node has trees under it.
 kids : (f : Forest) (l : ℕ) (r : List Line) → NoDeeper l r → children l (lines_f f (suc l) ++ r) ≡ count f
-unfolding lines_of children count if◌then◌else◌
+unfolding lines_of children count when◌then◌else◌
 kids bare l r o = no_child l r o
 kids (cons (node c g) f) l r o =
     rw (append_assoc (lines_f g (suc (suc l))) (lines_f f (suc l)) r, lt-leb (suc l) l (omega arith), eq-eqb (suc l) (suc l) refl)

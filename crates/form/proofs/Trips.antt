@@ -8,7 +8,7 @@ use native.Mathlib.Omega.{arith}
 use lib.Dec.{leb}
 use lib.ListN.{length, take, drop}
 use lib.Seq.{take-append_seam}
-use Rattle.words.specs.Base.{if◌then◌else◌, over}
+use Rattle.words.specs.Base.{when◌then◌else◌, over}
 use Rattle.figures.specs.Numbers.{done, short_output}
 use Rattle.figures.specs.Answers.{wrote, refused_at}
 use Rattle.order.specs.Trees.{Tree}
@@ -59,10 +59,10 @@ one-order ws vs t u e f x =
 
 -- What a call wrote without fault stands at the front of the output.
 written : (w : Writing) (new out : List ℕ) → w ≡ write new out → w.answer.number ≡ done → take w.answer.count w.out ≡ new
-unfolding write if◌then◌else◌
+unfolding write when◌then◌else◌
 written w new out = go (leb (length new) (length out))
   where
-    go : (b : Bool) → w ≡ (if b then writing (wrote done (length new)) (over new out) else refuse short_output out) → w.answer.number ≡ done → take w.answer.count w.out ≡ new
+    go : (b : Bool) → w ≡ (when b then writing (wrote done (length new)) (over new out) else refuse short_output out) → w.answer.number ≡ done → take w.answer.count w.out ≡ new
     go true q e = ap (λ (w : Writing). take w.answer.count w.out) q ∙ take-append_seam new (drop (length new) out)
     go false q e = let z : short_output ≡ done = sym (ap (λ (w : Writing). w.answer.number) q) ∙ e in absurd (omega arith)
 

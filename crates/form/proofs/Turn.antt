@@ -10,7 +10,7 @@ use lib.Dec.{leb, ltb, eqb}
 use lib.ListN.{length, take, drop, get_or, set, replicate, length-append, length-reverse, length-set, length-drop, drop_of_length-le}
 use lib.Seq.{take-suc-set, take-set-lt, get_or-take, drop-drop}
 use borrow.Author.Tests.{ne_eqb, eqb-false, leb-true, leb-false, ltb-false}
-use Rattle.words.specs.Base.{◌and◌, if◌then◌else◌}
+use Rattle.words.specs.Base.{◌and◌, when◌then◌else◌}
 use Rattle.words.proofs.Tests.{no_test}
 use Rattle.figures.specs.Limits.{least_code, most_nodes, most_words, most_children, greatest_depth}
 use Rattle.figures.specs.Numbers.{done, no_form}
@@ -51,16 +51,16 @@ Next n greatest s (Refused f) = NextNot n greatest s f
 
 -- `Next` holds of a spelt line within the limit, by cases.
 next-of : (n greatest : ℕ) (s : List ℕ) (r : LineRead) → n < most_nodes → spelt_of s ≡ r → Next n greatest s (by_line r (λ level code size.
-    if eqb code 0 then Refused NoOption else
-    if not (follows greatest level) then Refused LevelNotAllowed else
-    if ltb greatest_depth level then Refused TooDeep else
+    when eqb code 0 then Refused NoOption else
+    when not (follows greatest level) then Refused LevelNotAllowed else
+    when ltb greatest_depth level then Refused TooDeep else
     Node level code size) Refused)
-unfolding by_line line_of if◌then◌else◌
+unfolding by_line line_of when◌then◌else◌
 next-of n greatest s (Refused f) h q = faulty h (λ before m. rw q refl)
 next-of n greatest s (Node level code size) h q = go (eqb code 0) (follows greatest level) (ltb greatest_depth level) refl refl refl
   where
     go : (z a d : Bool) → eqb code 0 ≡ z → follows greatest level ≡ a → ltb greatest_depth level ≡ d
-        → Next n greatest s (if z then Refused NoOption else if not a then Refused LevelNotAllowed else if d then Refused TooDeep else Node level code size)
+        → Next n greatest s (when z then Refused NoOption else when not a then Refused LevelNotAllowed else when d then Refused TooDeep else Node level code size)
     go true a d p₀ p₁ p₂ = faulty h (λ before m. rw (q, p₀) refl)
     go false false d p₀ p₁ p₂ = faulty h (λ before m. rw (q, p₀, m level, p₁) refl)
     go false true true p₀ p₁ p₂ = faulty h (λ before m. rw (q, p₀, m level, p₁, p₂) refl)
@@ -70,13 +70,13 @@ next-of n greatest s (Node level code size) h q = go (eqb code 0) (follows great
 
 -- `Next` holds of any bytes.
 next-is : (n greatest : ℕ) (s : List ℕ) → Next n greatest s (next_of n greatest s)
-unfolding next_of if◌then◌else◌
+unfolding next_of when◌then◌else◌
 next-is n greatest s = go (leb most_nodes n) refl
   where
-    go : (b : Bool) → leb most_nodes n ≡ b → Next n greatest s (if b then Refused PastLast else by_line (spelt_of s) (λ level code size.
-        if eqb code 0 then Refused NoOption else
-        if not (follows greatest level) then Refused LevelNotAllowed else
-        if ltb greatest_depth level then Refused TooDeep else
+    go : (b : Bool) → leb most_nodes n ≡ b → Next n greatest s (when b then Refused PastLast else by_line (spelt_of s) (λ level code size.
+        when eqb code 0 then Refused NoOption else
+        when not (follows greatest level) then Refused LevelNotAllowed else
+        when ltb greatest_depth level then Refused TooDeep else
         Node level code size) Refused)
     go true e = past (leb-true _ _ e) refl
     go false e = next-of n greatest s (spelt_of s) (leb-false _ _ e) refl
@@ -102,7 +102,7 @@ no_siblings l before e = rw e refl
 
 -- Behind a line the levels up to its own plus 1 are open.
 after_line : (l : ℕ) (x : Line) (before : List Line) → allowed l (x ∷ before) ≡ follows (x.level + 1) l
-unfolding allowed follows if◌then◌else◌
+unfolding allowed follows when◌then◌else◌
 after_line l x before = rw (ne_eqb (x.level + 1) 0 (λ z. omega arith), add-one) refl
 
 -- Level 0 is allowed on line 1 alone.
@@ -127,7 +127,7 @@ pub record State (text words latest : List ℕ) (at n greatest : ℕ) : Type 0 w
 
 -- Before line 1 nothing is read.
 pub start : (text words : List ℕ) → (length text ≡ 0 → ⊥) → length words ≡ most_words → State text words (replicate (suc greatest_depth) 0) 0 0 0
-unfolding allowed follows words_of_lines if◌then◌else◌
+unfolding allowed follows words_of_lines when◌then◌else◌
 start text words h k = record {
   room = most_nodes;
   before = [];

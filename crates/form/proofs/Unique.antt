@@ -10,7 +10,7 @@ use lib.ListN.{length, drop}
 use lib.Seq.{drop_at}
 use borrow.Author.Tests.{eqb-false}
 use Rattle.words.proofs.Tests.{never}
-use Rattle.words.specs.Base.{if◌then◌else◌}
+use Rattle.words.specs.Base.{when◌then◌else◌}
 use Rattle.figures.specs.Limits.{greatest_code, most_nodes}
 use Rattle.form.specs.Text.{digit_0, digit, code_size, Line, level_text, code_text, line_text, spell}
 use Rattle.form.specs.Reading.{fault_number, is_digit, figure, value, is_code, code_behind, spelt_of, by_line, line_of, fault, form, read_lines, form_of}
@@ -92,7 +92,7 @@ record Coded (s : List ℕ) (l w level code size : ℕ) : Type 0 where
 
 -- `Coded` holds of whatever is read as a node behind a level.
 code-back : (l w : ℕ) (s : List ℕ) {level code size : ℕ} → code_behind l w s ≡ Node level code size → Coded s l w level code size
-unfolding code_behind if◌then◌else◌
+unfolding code_behind when◌then◌else◌
 code-back l w [] e = no_node e
 code-back l w (s ∷ []) e = no_node e
 code-back l w (s ∷ a ∷ []) e = no_node e
@@ -101,7 +101,7 @@ code-back l w (s ∷ a ∷ b ∷ c ∷ []) e = no_node e
 code-back l w (s ∷ a ∷ b ∷ c ∷ d ∷ []) e = no_node e
 code-back l w (s ∷ a ∷ b ∷ c ∷ d ∷ n ∷ r) {level} {code} {size} e = go (is_code s a b c d n) refl e
   where
-    go : (t : Bool) → is_code s a b c d n ≡ t → (if t then Node l (value a b c d) (w + code_size) else Refused Misspelt) ≡ Node level code size → Coded (s ∷ a ∷ b ∷ c ∷ d ∷ n ∷ r) l w level code size
+    go : (t : Bool) → is_code s a b c d n ≡ t → (when t then Node l (value a b c d) (w + code_size) else Refused Misspelt) ≡ Node level code size → Coded (s ∷ a ∷ b ∷ c ∷ d ∷ n ∷ r) l w level code size
     go false q e = no_node e
     go true q e =
         let k = is-text s a b c d n r q in
@@ -155,13 +155,13 @@ lined front s l {level} {code} {size} e h k =
 
 -- `Lined` holds of whatever is read as a node.
 pub line-back : (s : List ℕ) {level code size : ℕ} → spelt_of s ≡ Node level code size → Lined s level code size
-unfolding spelt_of if◌then◌else◌
+unfolding spelt_of when◌then◌else◌
 line-back [] e = no_node e
 line-back (x ∷ []) e = no_node e
 line-back (x ∷ y ∷ r) {level} {code} {size} e = go (is_digit x) (is_digit y) (eqb x digit_0) refl refl refl e
   where
     go : (a b t : Bool) → is_digit x ≡ a → is_digit y ≡ b → eqb x digit_0 ≡ t
-        → (if not a then Refused Misspelt else if not b then code_behind (figure x) 1 (y ∷ r) else if t then Refused Misspelt else code_behind (figure x * 10 + figure y) 2 r) ≡ Node level code size → Lined (x ∷ y ∷ r) level code size
+        → (when not a then Refused Misspelt else when not b then code_behind (figure x) 1 (y ∷ r) else when t then Refused Misspelt else code_behind (figure x * 10 + figure y) 2 r) ≡ Node level code size → Lined (x ∷ y ∷ r) level code size
     go false b t q₀ q₁ q₂ e = no_node e
     go true false t q₀ q₁ q₂ e = let h = of-digit x q₀ in lined (x ∷ []) (y ∷ r) (figure x) (digit-level x q₀) (omega (arith, h.1)) (code-back (figure x) 1 (y ∷ r) e)
     go true true true q₀ q₁ q₂ e = no_node e

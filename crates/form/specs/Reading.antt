@@ -1,6 +1,6 @@
 -- Order form text, read (01, "Order form text", and "Text" under "Order of checks"). Assumes nothing: these are definitions.
 use Rattle.std.specs.Prelude.{ℕ, zero, suc, ◌+◌, ◌*◌, ◌-◌, Bool, not, List, [], ◌∷◌, reverse, leb, ltb, eqb, length, drop}
-use Rattle.words.specs.Base.{◌and◌, if◌then◌else◌, within}
+use Rattle.words.specs.Base.{◌and◌, when◌then◌else◌, within}
 use Rattle.figures.specs.Limits.{most_nodes, most_children, greatest_depth}
 use Rattle.figures.specs.Numbers.{done, too_large, no_form}
 use Rattle.figures.specs.Answers.{refused_at}
@@ -49,7 +49,7 @@ is_code s a b c d e = eqb s space and is_digit a and is_digit b and is_digit c a
 -- The line of a level of w bytes, by the bytes behind it: the node, and how many bytes the whole line takes.
 unfoldable pub code_behind : ℕ → ℕ → List ℕ → LineRead
 code_behind level w (s ∷ a ∷ b ∷ c ∷ d ∷ e ∷ rest) =
-    if is_code s a b c d e then Node level (value a b c d) (w + code_size) else Refused Misspelt
+    when is_code s a b c d e then Node level (value a b c d) (w + code_size) else Refused Misspelt
 code_behind level w [] = Refused Misspelt
 code_behind level w (s ∷ []) = Refused Misspelt
 code_behind level w (s ∷ a ∷ []) = Refused Misspelt
@@ -62,9 +62,9 @@ unfoldable pub spelt_of : List ℕ → LineRead
 spelt_of [] = Refused Misspelt
 spelt_of (x ∷ []) = Refused Misspelt
 spelt_of (x ∷ y ∷ rest) =
-    if not (is_digit x) then Refused Misspelt else
-    if not (is_digit y) then code_behind (figure x) 1 (y ∷ rest) else
-    if eqb x digit_0 then Refused Misspelt else
+    when not (is_digit x) then Refused Misspelt else
+    when not (is_digit y) then code_behind (figure x) 1 (y ∷ rest) else
+    when eqb x digit_0 then Refused Misspelt else
     code_behind (figure x * 10 + figure y) 2 rest
 
 -- What follows a node, and what follows a refusal.
@@ -83,18 +83,18 @@ allowed l (x ∷ xs) = within 1 (suc x.level) l
 unfoldable pub siblings : ℕ → List Line → ℕ
 siblings l [] = 0
 siblings l (x ∷ xs) =
-    if ltb x.level l then 0 else
-    if eqb x.level l then suc (siblings l xs) else
+    when ltb x.level l then 0 else
+    when eqb x.level l then suc (siblings l xs) else
     siblings l xs
 
 -- "spelling, 0000, level not allowed, level over 12, ninth child": the line at the front of the bytes, or its first fault.
 unfoldable pub line_of : List Line → List ℕ → LineRead
 line_of before bytes =
     by_line (spelt_of bytes) (λ level code size.
-    if eqb code 0 then Refused NoOption else
-    if not (allowed level before) then Refused LevelNotAllowed else
-    if ltb greatest_depth level then Refused TooDeep else
-    if leb most_children (siblings level before) then Refused NinthChild else
+    when eqb code 0 then Refused NoOption else
+    when not (allowed level before) then Refused LevelNotAllowed else
+    when ltb greatest_depth level then Refused TooDeep else
+    when leb most_children (siblings level before) then Refused NinthChild else
     Node level code size) Refused
 
 -- ---- all lines
@@ -131,8 +131,8 @@ form_of (b ∷ bs) = read_lines most_nodes [] (b ∷ bs)
 unfoldable pub children : ℕ → List Line → ℕ
 children l [] = 0
 children l (x ∷ xs) =
-    if leb x.level l then 0 else
-    if eqb x.level (suc l) then suc (children l xs) else
+    when leb x.level l then 0 else
+    when eqb x.level (suc l) then suc (children l xs) else
     children l xs
 
 -- Two words for each line: its code, and its number of children.

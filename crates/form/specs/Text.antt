@@ -1,6 +1,6 @@
 -- The text of a form (01, "Order form text"): its bytes, its lines, and the lines of a tree. Assumes nothing: these are definitions.
 use Rattle.std.specs.Prelude.{ℕ, suc, ◌+◌, ◌/◌, ◌%◌, List, [], ◌∷◌, ◌++◌, ltb}
-use Rattle.words.specs.Base.{if◌then◌else◌}
+use Rattle.words.specs.Base.{when◌then◌else◌}
 use Rattle.order.specs.Trees.{Tree, node, Forest, bare, cons}
 
 -- ---- bytes
@@ -45,7 +45,7 @@ unfoldable mutual
 
 -- "Level is one digit, or two of which the first is not 0."
 unfoldable pub level_text : ℕ → List ℕ
-level_text l = if ltb l 10 then digit l ∷ [] else digit (l / 10) ∷ digit l ∷ []
+level_text l = when ltb l 10 then digit l ∷ [] else digit (l / 10) ∷ digit l ∷ []
 
 -- "one space, exactly four decimal digits, LF"
 unfoldable pub code_text : ℕ → List ℕ

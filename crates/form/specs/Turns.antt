@@ -1,7 +1,7 @@
 -- Inner: no promise rests on these definitions.
 -- What the inner functions of reading and writing give, in the terms that the code has at hand. Assumes nothing: these are definitions.
 use Rattle.std.specs.Prelude.{ℕ, suc, ◌+◌, ◌*◌, ◌-◌, ◌≤◌, ◌<◌, ◌≡◌, Bool, true, not, List, [], ◌∷◌, leb, ltb, eqb, length, take, get_or, set}
-use Rattle.words.specs.Base.{if◌then◌else◌, within}
+use Rattle.words.specs.Base.{when◌then◌else◌, within}
 use Rattle.figures.specs.Limits.{most_nodes, most_words, most_children, greatest_depth}
 use Rattle.figures.specs.Numbers.{done}
 use Rattle.figures.specs.Answers.{refused_at, wrote}
@@ -17,16 +17,16 @@ use Rattle.form.specs.declared.reading.LineRead.TheVariants.{Node, Refused}
 
 -- A line of that level may follow, where `greatest` is the greatest level allowed: 0 for line 1, otherwise the previous plus 1.
 unfoldable pub follows : ℕ → ℕ → Bool
-follows greatest level = if eqb greatest 0 then eqb level 0 else within 1 greatest level
+follows greatest level = when eqb greatest 0 then eqb level 0 else within 1 greatest level
 
 -- A line's faults that can be told without its siblings, behind n lines.
 unfoldable pub next_of : ℕ → ℕ → List ℕ → LineRead
 next_of n greatest bytes =
-    if leb most_nodes n then Refused PastLast else
+    when leb most_nodes n then Refused PastLast else
     by_line (spelt_of bytes) (λ level code size.
-    if eqb code 0 then Refused NoOption else
-    if not (follows greatest level) then Refused LevelNotAllowed else
-    if ltb greatest_depth level then Refused TooDeep else
+    when eqb code 0 then Refused NoOption else
+    when not (follows greatest level) then Refused LevelNotAllowed else
+    when ltb greatest_depth level then Refused TooDeep else
     Node level code size) Refused
 
 -- Where the parent of a line of that level has its number of children.
@@ -42,14 +42,14 @@ Parent words latest level = (length words ≡ most_words) × (length latest ≡ 
 -- The parent, if there is one, may have a child more.
 unfoldable pub may_adopt : List ℕ → List ℕ → ℕ → Bool
 may_adopt words latest level =
-    if eqb level 0 then true else
+    when eqb level 0 then true else
     ltb (get_or words (count_place latest level) 0) most_children
 
 -- The words, with a child more under the parent if it may have one.
 unfoldable pub adopted : List ℕ → List ℕ → ℕ → List ℕ
 adopted words latest level =
-    if eqb level 0 then words else
-    if ltb (get_or words (count_place latest level) 0) most_children
+    when eqb level 0 then words else
+    when ltb (get_or words (count_place latest level) 0) most_children
     then set words (count_place latest level) (get_or words (count_place latest level) 0 + 1)
     else words
 
@@ -60,7 +60,7 @@ Parents (Refused f) words latest = Unit {0}
 
 -- A node whose parent may have no child more is a ninth child.
 unfoldable pub under_parent : List ℕ → List ℕ → LineRead → LineRead
-under_parent words latest (Node level code size) = if may_adopt words latest level then Node level code size else Refused NinthChild
+under_parent words latest (Node level code size) = when may_adopt words latest level then Node level code size else Refused NinthChild
 under_parent words latest (Refused f) = Refused f
 
 -- The words, with a node counted under its parent.

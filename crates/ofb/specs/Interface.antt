@@ -1,7 +1,7 @@
 -- What a program in C gets of each call: the answer in C's numbers, and what was lent, as they are below the interface. Assumes nothing: these are
 -- definitions.
 use Rattle.std.specs.Prelude.{ℕ, List, length}
-use Rattle.words.specs.Base.{if◌then◌else◌}
+use Rattle.words.specs.Base.{when◌then◌else◌}
 use Rattle.figures.specs.declared.Answer.{Answer}
 use Rattle.figures.specs.declared.Written.{Written}
 use Rattle.order.specs.Answers.{Writing, Piece}
@@ -28,7 +28,7 @@ told_judged_of j =
       number = j.answer.number;
       line = j.answer.line;
       below = j.near.below;
-      there = if j.near.there then 1 else 0;
+      there = when j.near.there then 1 else 0;
       place_below = j.near.low;
       place_above = j.near.high;
     }

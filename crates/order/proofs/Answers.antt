@@ -6,7 +6,7 @@ use native.Mathlib.Omega.{arith}
 use borrow.Author.Tests.{leb-true}
 use lib.ListN.{length, take, drop}
 use Rattle.words.proofs.Tests.{by_test}
-use Rattle.words.specs.Base.{if◌then◌else◌}
+use Rattle.words.specs.Base.{when◌then◌else◌}
 use Rattle.figures.specs.Numbers.{done}
 use Rattle.figures.specs.Answers.{wrote}
 use Rattle.order.specs.Trees.{Tree, words, depth, cut}
@@ -60,12 +60,12 @@ module _ (s : List ℕ) (line : ℕ) (lack : LacksLine s line) where
 
 -- The part's words are the cut at k-1 for either kind.
 part-words : (k : ℕ) (t : Tree) → (part_of k t).tree ≡ cut t (k - 1)
-unfolding part_of is_low middle if◌then◌else◌
+unfolding part_of is_low middle when◌then◌else◌
 part-words k t = by_test (is_low k t) (λ e. rw e (sym (cut-shallow t (k - 1) (omega (arith, leb-true (depth t) (k - 2) e))))) (λ e. rw e refl)
 
 -- The kind of the part is told by whether the subtree is low.
-part-kind : (k : ℕ) (t : Tree) → (part_of k t).kind ≡ (if is_low k t then Low else Middle)
-unfolding part_of if◌then◌else◌
+part-kind : (k : ℕ) (t : Tree) → (part_of k t).kind ≡ (when is_low k t then Low else Middle)
+unfolding part_of when◌then◌else◌
 part-kind k t = by_test (is_low k t) (λ h. rw h refl) (λ h. rw h refl)
 
 module _ (s : List ℕ) (line at : ℕ) (has : HasLine s line at) where
@@ -88,7 +88,7 @@ module _ (s : List ℕ) (line at : ℕ) (has : HasLine s line at) where
   cut_has d out = rw (has.is, has.spot.is, cut-spot s at _ has.spot d) refl
 
   -- The kind and the words are those of the tree there.
-  pub part-has : (k : ℕ) (out : List ℕ) → part_into_of s line k out ≡ of_kind (if is_low k has.spot.tree then Low else Middle) (write (cut_of s at (k - 1)) out)
+  pub part-has : (k : ℕ) (out : List ℕ) → part_into_of s line k out ≡ of_kind (when is_low k has.spot.tree then Low else Middle) (write (cut_of s at (k - 1)) out)
   unfolding part_into_of by_order by_found
   part-has k out =
       let t : Tree = has.spot.tree in

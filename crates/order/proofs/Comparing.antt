@@ -9,7 +9,7 @@ use borrow.Author.Tests.{eqb-true, eq-eqb}
 use lib.Dec.{leb, eqb}
 use lib.ListN.{length, take, drop, get_or, length-drop}
 use lib.Seq.{take-add, take_all, length-take-le, drop_at, get_or-drop}
-use Rattle.words.specs.Base.{if◌then◌else◌, same_words}
+use Rattle.words.specs.Base.{when◌then◌else◌, same_words}
 use Rattle.words.proofs.Tests.{same-words, words_same, either, fails}
 use Rattle.order.specs.Standing.{cut_of}
 use Rattle.order.specs.Levels.{LinesLevelled}
@@ -39,7 +39,7 @@ module _ (os : List ℕ) (line own d end at : ℕ) (tree : List ℕ) (n : ℕ) (
 
     -- What is written of its number of children.
     abbrev children : ℕ
-    children = if leb d (get_or ls at 0 - own) then 0 else get_or os (at * 2 + 1) 0
+    children = when leb d (get_or ls at 0 - own) then 0 else get_or os (at * 2 + 1) 0
 
     -- A tree with the words of the cut goes on with the line's two words.
     ahead : same_words (cut_of os (line * 2) d) tree ≡ true → (rest : List ℕ) × (drop n tree ≡ get_or os (at * 2) 0 ∷ children ∷ rest)
@@ -64,7 +64,7 @@ module _ (os : List ℕ) (line own d end at : ℕ) (tree : List ℕ) (n : ℕ) (
 
     -- Where both words are the tree's, two more of its words are gone over.
     pub both_alike : (v at' : ℕ) → n + 2 ≤ length tree → get_or os (at * 2) 0 ≡ get_or tree n 0 → v ≡ children → v ≡ get_or tree (n + 1) 0
-        → at' ≡ (if leb d (get_or ls at 0 - own) then get_or ss (at * 2) 0 else at + 1) → Walking os line own d end at' (take (n + 2) tree)
+        → at' ≡ (when leb d (get_or ls at 0 - own) then get_or ss (at * 2) 0 else at + 1) → Walking os line own d end at' (take (n + 2) tree)
     both_alike v at' long c f e g =
         let t : take (n + 2) tree ≡ take n tree ++ (get_or os (at * 2) 0 ∷ v ∷ []) =
         take-add n 2 tree ∙ ap (λ (ws : List ℕ). take n tree ++ take 2 ws) (two tree n long) ∙ ap₂ (λ (x y : ℕ). take n tree ++ (x ∷ y ∷ [])) (sym c) (sym e) in

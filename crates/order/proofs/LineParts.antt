@@ -9,7 +9,7 @@ use native.Mathlib.Omega.{arith}
 use borrow.Author.Tests.{leb-true, leb-false, le-leb, lt-leb}
 use lib.Dec.{leb}
 use Rattle.words.proofs.Tests.{by_test, never}
-use Rattle.words.specs.Base.{if◌then◌else◌, ◌∈◌}
+use Rattle.words.specs.Base.{when◌then◌else◌, ◌∈◌}
 use Rattle.order.specs.Trees.{Tree, depth, cut, subtrees}
 use Rattle.order.specs.Reading.{found}
 use Rattle.order.specs.Answers.{tree_at, tree_of_line}
@@ -53,22 +53,22 @@ in_line m = let r = in_at m in (suc r.0, record { is = r.1 })
 
 -- A subtree of depth at most k-2 stands for itself.
 low_part : (k : ℕ) (s : Tree) → depth s ≤ k - 2 → part_of k s ≡ record { kind = Low; tree = s }
-unfolding part_of is_low if◌then◌else◌
+unfolding part_of is_low when◌then◌else◌
 low_part k s h = rw (le-leb (depth s) (k - 2) h)
 
 -- A subtree of depth at least k-1 stands for its cut at k-1.
 middle-part : (k : ℕ) (s : Tree) → 2 ≤ k → k - 1 ≤ depth s → part_of k s ≡ record { kind = Middle; tree = cut s (k - 1) }
-unfolding part_of is_low middle if◌then◌else◌
+unfolding part_of is_low middle when◌then◌else◌
 middle-part k s l h = rw (lt-leb (depth s) (k - 2) (omega arith))
 
 -- A low line is at most k-2 deep.
 is-low : (k : ℕ) (s : Tree) → (part_of k s).kind ≡ Low → depth s ≤ k - 2
-unfolding part_of is_low if◌then◌else◌
+unfolding part_of is_low when◌then◌else◌
 is-low k s e = by_test (leb (depth s) (k - 2)) (λ h. leb-true (depth s) (k - 2) h) (λ h. absurd (let f : Middle ≡ Low = rw h at e in never cc))
 
 -- A middle line is at least k-1 deep.
 is-middle : (k : ℕ) (s : Tree) → (part_of k s).kind ≡ Middle → k - 1 ≤ depth s
-unfolding part_of is_low if◌then◌else◌
+unfolding part_of is_low when◌then◌else◌
 is-middle k s e =
     by_test (leb (depth s) (k - 2))
     (λ h. absurd (let f : Low ≡ Middle = rw h at e in never cc))

@@ -8,7 +8,7 @@ use native.Mathlib.Omega.{arith}
 use borrow.Author.Tests.{lt-ltb, le-ltb}
 use lib.ListN.{length, drop, drop_of_length-le}
 use Rattle.words.proofs.Tests.{never}
-use Rattle.words.specs.Base.{if◌then◌else◌}
+use Rattle.words.specs.Base.{when◌then◌else◌}
 use Rattle.figures.specs.Limits.{most_words}
 use Rattle.figures.specs.Numbers.{done}
 use Rattle.order.specs.Trees.{Tree, node, words, cut, Good, subtrees}
@@ -149,7 +149,7 @@ Placed s line (At at) = HasLine s line at
 
 -- `Placed` holds of the lines of an order that passes.
 placed_line : (s : List ℕ) (line : ℕ) (t : Tree) → Passed s t → Placed s line (line_place (length (subtrees t)) line)
-unfolding line_place tree_of_line if◌then◌else◌
+unfolding line_place tree_of_line when◌then◌else◌
 placed_line s zero t p = record { tree = t; is = p.is; lacks = refl }
 placed_line s (suc i) t p = pick i (length (subtrees t))
     (λ l. rw (lt-ltb i (length (subtrees t)) l) (record {
@@ -201,13 +201,13 @@ module _ (s : List ℕ) (line : ℕ) where
 
 -- A line past the last is lacking.
 line-past : (n line : ℕ) → n < line → line_place n line ≡ Lacking
-unfolding line_place if◌then◌else◌
+unfolding line_place when◌then◌else◌
 line-past n zero h = refl
 line-past n (suc i) h = rw (le-ltb i n (omega arith))
 
 -- A line that is there stands at its word.
 line_at : (n line : ℕ) → (line ≡ 0 → ⊥) → line ≤ n → line_place n line ≡ At ((line - 1) * 2)
-unfolding line_place if◌then◌else◌
+unfolding line_place when◌then◌else◌
 line_at n zero z h = absurd (z refl)
 line_at n (suc i) z h = let y : suc i - 1 ≡ i = omega arith in rw (lt-ltb i n (omega arith), y)
 

@@ -6,7 +6,7 @@ use mathlib.Core.List.Memᴰ.{head as here}
 use mathlib.Core.List.Memᴰ.{tail as there}
 use mathlib.Core.List.{List, [], ◌∷◌}
 use Prim.Native.Nat.{ℕ}
-use Rattle.words.specs.Base.{if◌then◌else◌, keep, ◌∈◌}
+use Rattle.words.specs.Base.{when◌then◌else◌, keep, ◌∈◌}
 use Rattle.words.proofs.Tests.{no_test}
 use Rattle.order.specs.Trees.{Tree}
 use Rattle.order.specs.Parts.{same_tree, each_once, low_parts, middle_parts}
@@ -15,11 +15,11 @@ use Rattle.order.proofs.Unique.{same-tree, tree-same}
 module _ {A : Type 0} where
   -- The kept members are the members that pass the test.
   pub kept_in : (p : A → Bool) {s : A} (ts : List A) → s ∈ keep p ts → (s ∈ ts) × (p s ≡ true)
-  unfolding keep if◌then◌else◌
+  unfolding keep when◌then◌else◌
   kept_in p [] m = absurd (Memᴰ.not-nil m)
   kept_in p {s} (t ∷ ts) m = go (p t) refl m (λ n. let r = kept_in p ts n in (there r.0, r.1))
     where
-      go : (b : Bool) → p t ≡ b → s ∈ (if b then t ∷ keep p ts else keep p ts) → (s ∈ keep p ts → (s ∈ t ∷ ts) × (p s ≡ true))
+      go : (b : Bool) → p t ≡ b → s ∈ (when b then t ∷ keep p ts else keep p ts) → (s ∈ keep p ts → (s ∈ t ∷ ts) × (p s ≡ true))
           → (s ∈ t ∷ ts) × (p s ≡ true)
       go true e (here q) later = (here q, ap p q ∙ e)
       go true e (there n) later = later n
@@ -27,11 +27,11 @@ module _ {A : Type 0} where
 
   -- What passes the test is kept.
   pub in_kept : (p : A → Bool) {s : A} {ts : List A} → s ∈ ts → p s ≡ true → s ∈ keep p ts
-  unfolding keep if◌then◌else◌
+  unfolding keep when◌then◌else◌
   in_kept p (here {x} e) h = let y : p x ≡ true = cc in rw y (here e)
   in_kept p {s} (there {x} {xs} m) h = go (p x) (in_kept p m h)
     where
-      go : (b : Bool) → s ∈ keep p xs → s ∈ (if b then x ∷ keep p xs else keep p xs)
+      go : (b : Bool) → s ∈ keep p xs → s ∈ (when b then x ∷ keep p xs else keep p xs)
       go true n = there n
       go false n = n
 
@@ -59,11 +59,11 @@ NoRepeats (t ∷ ts) = (t ∈ ts → ⊥) × NoRepeats ts
 
 -- Keeping some of a list without repeats brings none.
 kept_no_repeats : (p : Tree → Bool) (ts : List Tree) → NoRepeats ts → NoRepeats (keep p ts)
-unfolding keep if◌then◌else◌ NoRepeats
+unfolding keep when◌then◌else◌ NoRepeats
 kept_no_repeats p [] h = tt
 kept_no_repeats p (t ∷ ts) h = go (p t) (kept_no_repeats p ts h.1)
   where
-    go : (b : Bool) → NoRepeats (keep p ts) → NoRepeats (if b then t ∷ keep p ts else keep p ts)
+    go : (b : Bool) → NoRepeats (keep p ts) → NoRepeats (when b then t ∷ keep p ts else keep p ts)
     go true n = (λ m. h.0 (kept_in p ts m).0, n)
     go false n = n
 

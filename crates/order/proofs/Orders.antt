@@ -6,7 +6,7 @@ use Prim.Native.Nat.{ℕ, ◌*◌, ◌%◌, ◌≤◌, ◌<◌}
 use native.Mathlib.Omega.{arith}
 use borrow.Author.Tests.{ne_eqb, eq-eqb, le-ltb, lt-ltb, le-leb, lt-leb}
 use lib.ListN.{length, length-append}
-use Rattle.words.specs.Base.{if◌then◌else◌}
+use Rattle.words.specs.Base.{when◌then◌else◌}
 use Rattle.figures.specs.Limits.{least_code, greatest_code, most_nodes, most_words, greatest_depth}
 use Rattle.figures.specs.Numbers.{done, no_order, too_large}
 use Rattle.order.specs.Trees.{Tree, node, Forest, bare, cons, count, words, words_f, depth, Good, GoodF, subtrees, subtrees_f}
@@ -66,22 +66,22 @@ pub record Sized (s : List ℕ) : Type 0 where
 module _ (s : List ℕ) where
   -- No words: 1.
   pub cause_empty : length s ≡ 0 → cause_of s ≡ no_order
-  unfolding cause_of by_order order_of if◌then◌else◌
+  unfolding cause_of by_order order_of when◌then◌else◌
   cause_empty e = rw (eq-eqb _ _ e)
 
   -- An odd number of words: 1.
   pub cause_odd : (length s ≡ 0 → ⊥) → length s % 2 ≡ 1 → cause_of s ≡ no_order
-  unfolding cause_of by_order order_of if◌then◌else◌
+  unfolding cause_of by_order order_of when◌then◌else◌
   cause_odd a e = rw (ne_eqb _ _ a, eq-eqb _ _ e)
 
   -- More words than an order has: 2, whatever they are.
   pub cause_long : (length s ≡ 0 → ⊥) → (length s % 2 ≡ 1 → ⊥) → most_words < length s → cause_of s ≡ too_large
-  unfolding cause_of by_order order_of if◌then◌else◌
+  unfolding cause_of by_order order_of when◌then◌else◌
   cause_long a b l = rw (ne_eqb _ _ a, ne_eqb _ _ b, lt-ltb _ _ l)
 
   -- Past the length the tree decides.
   sized-order : Sized s → order_of s ≡ within_depth (tree_of s)
-  unfolding order_of if◌then◌else◌
+  unfolding order_of when◌then◌else◌
   sized-order z = rw (ne_eqb _ _ z.some, ne_eqb _ _ z.even, le-ltb _ _ z.short)
 
 -- A tree that is found, and how deep it is.
@@ -98,12 +98,12 @@ module _ (s : List ℕ) (z : Sized s) where
 
   -- A tree that is too deep: 2.
   pub cause_deep : (h : ℕ) → FoundDeep (tree_of s) h → greatest_depth < h → cause_of s ≡ too_large
-  unfolding cause_of by_order within_depth if◌then◌else◌
+  unfolding cause_of by_order within_depth when◌then◌else◌
   cause_deep h f l = rw (sized-order s z, f.is, f.deep, lt-leb _ _ l)
 
   -- No cause is left.
   pub cause_none : (h : ℕ) → FoundDeep (tree_of s) h → h ≤ greatest_depth → cause_of s ≡ done
-  unfolding cause_of by_order within_depth if◌then◌else◌
+  unfolding cause_of by_order within_depth when◌then◌else◌
   cause_none h f l = rw (sized-order s z, f.is, f.deep, le-leb _ _ l)
 
 -- ---- the words of a tree
@@ -127,7 +127,7 @@ tree-sized s t e l =
 
 -- A good tree of at most 64 nodes and a depth of at most 12 is an order.
 pub tree-passes : (t : Tree) → Good t → length (subtrees t) ≤ most_nodes → depth t ≤ greatest_depth → order_of (words t) ≡ order t
-unfolding within_depth if◌then◌else◌
+unfolding within_depth when◌then◌else◌
 tree-passes t g n d =
     sized-order (words t) (tree-sized (words t) t refl (omega (arith, size t)))
     ∙ rw (words-read t g, le-leb _ _ d)

@@ -6,7 +6,7 @@ use native.Mathlib.Omega.{arith}
 use lib.Dec.{leb}
 use lib.ListN.{length, drop, get_or, set, length-append, length-drop}
 use lib.Seq.{set_at}
-use Rattle.words.specs.Base.{if◌then◌else◌, over}
+use Rattle.words.specs.Base.{when◌then◌else◌, over}
 use Rattle.order.specs.Trees.{node, subtrees}
 use Rattle.order.specs.Standing.{cut_of}
 use Rattle.order.specs.Levels.{LinesLevelled}
@@ -66,7 +66,7 @@ pub record Turning (os ss ls : List ℕ) (line own d end : ℕ) (out₀ out : Li
   pub step : Stepping os ss ls line own d end at got
   pub room : many + 2 ≤ length out₀
   pub same : length out ≡ length out₀
-  pub next : (v at' : ℕ) → v ≡ (if leb d (get_or ls at 0 - own) then 0 else get_or os (at * 2 + 1) 0) → at' ≡ (if leb d (get_or ls at 0 - own) then get_or ss (at * 2) 0 else at + 1)
+  pub next : (v at' : ℕ) → v ≡ (when leb d (get_or ls at 0 - own) then 0 else get_or os (at * 2 + 1) 0) → at' ≡ (when leb d (get_or ls at 0 - own) then get_or ss (at * 2) 0 else at + 1)
       → Putting os line own d end out₀ (set (set out many (get_or os (at * 2) 0)) (many + 1) v) at' (many + 2)
 
 -- While a line is left.
@@ -95,4 +95,4 @@ turning os ss ls line own d end out₀ out at many over levelled p h =
     fits : Stepping os ss ls line own d end at p.got → many + 2 ≤ length out₀
     fits s =
         let w = s.next _ _ refl refl in
-        omega (arith, p.room, p.size, walk_fits _ _ _ _ _ _ _ w, length-append p.got (get_or os (at * 2) 0 ∷ (if leb d (get_or ls at 0 - own) then 0 else get_or os (at * 2 + 1) 0) ∷ []))
+        omega (arith, p.room, p.size, walk_fits _ _ _ _ _ _ _ w, length-append p.got (get_or os (at * 2) 0 ∷ (when leb d (get_or ls at 0 - own) then 0 else get_or os (at * 2 + 1) 0) ∷ []))

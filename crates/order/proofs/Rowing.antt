@@ -7,7 +7,7 @@ use native.Mathlib.Omega.{arith}
 use borrow.Author.Tests.{le-leb, lt-leb, leb-true, leb-false}
 use lib.Dec.{leb}
 use lib.ListN.{length, drop, get_or}
-use Rattle.words.specs.Base.{◌and◌, if◌then◌else◌}
+use Rattle.words.specs.Base.{◌and◌, when◌then◌else◌}
 use Rattle.words.proofs.Tests.{and_left, and_right, never}
 use Rattle.figures.specs.Nodes.{sound_node}
 use Rattle.figures.specs.Limits.{least_code, greatest_code}
@@ -48,12 +48,12 @@ IsRow ws (rowed f) = (ws ≡ words_f f) × GoodF f
 
 -- A node before a row that is read right is read right.
 right_node : (b : Bool) (c n : ℕ) (ws : List ℕ) (r : Rowed) → sound_node c n ≡ b → IsRow ws r → IsRow (c ∷ n ∷ ws) (node_before b c n r)
-unfolding node_before if◌then◌else◌ words_f words GoodF Good sound_node
+unfolding node_before when◌then◌else◌ words_f words GoodF Good sound_node
 right_node false c n ws r e h = tt
 right_node true c n ws faulty e h = tt
 right_node true c n ws (rowed f) e h = go (leb n (count f)) refl
   where
-    go : (b : Bool) → leb n (count f) ≡ b → IsRow (c ∷ n ∷ ws) (if b then rowed (cons (node c (first_trees n f)) (later_trees n f)) else faulty)
+    go : (b : Bool) → leb n (count f) ≡ b → IsRow (c ∷ n ∷ ws) (when b then rowed (cons (node c (first_trees n f)) (later_trees n f)) else faulty)
     go false l = tt
     go true l =
         let m : count (first_trees n f) ≡ n = count-take n (count f - n) f (omega (arith, leb-true n (count f) l)) in
@@ -88,7 +88,7 @@ joined-more bare g = omega arith
 joined-more (cons t f) g = omega (arith, joined-more f g)
 
 mutual
-  unfolding words Good row_of node_before count if◌then◌else◌
+  unfolding words Good row_of node_before count when◌then◌else◌
 
   written : (t : Tree) → Good t → (s : List ℕ) (g : Forest) → row_of s ≡ rowed g → row_of (words t ++ s) ≡ rowed (cons t g)
   written (node c f) h s g e =
@@ -126,7 +126,7 @@ row-missing ws n = go (tree_of ws) refl
 
 -- A node before a row that has fewer trees than the node has children is a fault.
 pub lacks_child : (x : Bool) (c n : ℕ) (f : Forest) → leb n (count f) ≡ false → node_before x c n (rowed f) ≡ faulty
-unfolding node_before if◌then◌else◌
+unfolding node_before when◌then◌else◌
 lacks_child true c n f l = rw l refl
 lacks_child false c n f l = refl
 

@@ -10,7 +10,7 @@ use lib.Dec.{leb}
 use lib.ListN.{length, take, drop, get_or, set, length-set, length-append, length-drop, length-take, drop_of_length-le}
 use lib.Seq.{drop-drop, drop-append_seam, get_or-drop, get_or-take, get_or-set_same, get_or-set_other, take-set-lt, drop-set-add}
 use Rattle.words.proofs.Tests.{never}
-use Rattle.words.specs.Base.{if◌then◌else◌}
+use Rattle.words.specs.Base.{when◌then◌else◌}
 use Rattle.figures.specs.Limits.{most_words}
 use Rattle.figures.specs.Nodes.{sound_node}
 use Rattle.figures.specs.Numbers.{done}
@@ -153,16 +153,16 @@ module _ (os ss : List ℕ) (from children : ℕ) (even : 2 * (length os / 2) �
 
     -- With no line left a child is lacking.
     pub over-lacking : length os / 2 ≤ at → 0 < left → spanned_by from children (row_of (drop (2 * from) os)) ≡ Lacking
-    unfolding spanned_by if◌then◌else◌ count lines_f
+    unfolding spanned_by when◌then◌else◌ count lines_f
     over-lacking past more = rw o.is (go o.rest refl)
       where
-        go : (g : Forest) → o.rest ≡ g → (if leb children (count o.row) then To (from + lines_f (first_trees children o.row)) (depth_f (first_trees children o.row)) else Lacking) ≡ Lacking
+        go : (g : Forest) → o.rest ≡ g → (when leb children (count o.row) then To (from + lines_f (first_trees children o.row)) (depth_f (first_trees children o.row)) else Lacking) ≡ Lacking
         go bare e = rw (o.enough ∙ lt-leb left (count o.rest) (omega (arith, ap count e))) refl
         go (cons t f) e = absurd (omega (arith, o.ends, ap lines_f e, some-line t))
 
     -- Past the last child all are taken.
     pub over-all : left ≡ 0 → spanned_by from children (row_of (drop (2 * from) os)) ≡ To at depth₀
-    unfolding spanned_by if◌then◌else◌ first_trees lines_f depth_f
+    unfolding spanned_by when◌then◌else◌ first_trees lines_f depth_f
     over-all none =
         let deep : depth₀ ≡ depth_f (first_trees children o.row) = omega (arith, rw none at (o.deep (omega arith))) in
         let far : at ≡ from + lines_f (first_trees children o.row) = omega (arith, rw none at (o.far (omega arith))) in
@@ -253,7 +253,7 @@ front-written os ss at x y run h l = record {
 
 -- A node over leaves alone ends past the last of them and is one deep.
 pub front-leaves : (os ss : List ℕ) (i first top run n : ℕ) → FirstSpan os ss i first top run → 0 < n → n ≤ run → spanned_by i n (row_of (drop (2 * i) os)) ≡ To (i + n) 1
-unfolding spanned_by if◌then◌else◌
+unfolding spanned_by when◌then◌else◌
 front-leaves os ss i first top run n k more few = go (row_of (drop (2 * i) os)) k.leaves
   where
     go : (r : Rowed) → LeavesAre run r → spanned_by i n r ≡ To (i + n) 1
@@ -288,7 +288,7 @@ module _ (os ss₀ ss : List ℕ) (line : ℕ) (b : Back os ss₀ ss line) (at c
 
   -- A node that lacks a child.
   pub back_lacking : Lacking ≡ spanned_by line n (row_of (drop (2 * line) os)) → tree_of os ≡ missing
-  unfolding spanned_by node_before if◌then◌else◌
+  unfolding spanned_by node_before when◌then◌else◌
   back_lacking e = go (row_of (drop (2 * line) os)) refl
     where
       by_count : (f : Forest) → row_of (drop (2 * line) os) ≡ rowed f → (x : Bool) → leb n (count f) ≡ x → tree_of os ≡ missing
@@ -301,7 +301,7 @@ module _ (os ss₀ ss : List ℕ) (line : ℕ) (b : Back os ss₀ ss line) (at c
 
   -- A node that has its children.
   pub back_next : (end₁ deep₁ : ℕ) → sound_node c n ≡ true → To end₁ deep₁ ≡ spanned_by line n (row_of (drop (2 * line) os)) → Back os ss₀ (set (set ss (2 * at) end₁) (2 * at + 1) deep₁) at
-  unfolding spanned_by node_before if◌then◌else◌
+  unfolding spanned_by node_before when◌then◌else◌
   back_next end₁ deep₁ e g = go (row_of (drop (2 * line) os)) refl
     where
       made : (f : Forest) → row_of (drop (2 * line) os) ≡ rowed f → leb n (count f) ≡ true → end₁ ≡ line + lines_f (first_trees n f) → deep₁ ≡ depth_f (first_trees n f)
@@ -330,7 +330,7 @@ module _ (os ss₀ ss : List ℕ) (line : ℕ) (b : Back os ss₀ ss line) (at c
 
   -- A leaf ends where the next line begins.
   pub leaf_spans : n ≡ 0 → To line 0 ≡ spanned_by line n (row_of (drop (2 * line) os))
-  unfolding spanned_by if◌then◌else◌ first_trees lines_f depth_f
+  unfolding spanned_by when◌then◌else◌ first_trees lines_f depth_f
   leaf_spans e = go (row_of (drop (2 * line) os)) b.are
     where
       go : (r : Rowed) → SpansAre line (drop (2 * line) (take (length os) ss)) r → To line 0 ≡ spanned_by line n r
@@ -339,7 +339,7 @@ module _ (os ss₀ ss : List ℕ) (line : ℕ) (b : Back os ss₀ ss line) (at c
 
   -- A leaf is one more of those that begin there.
   pub front-leaf : (first top run : ℕ) → FirstSpan os ss line first top run → sound_node c n ≡ true → n ≡ 0 → FirstSpan os (set (set ss (2 * at) line) (2 * at + 1) 0) at line 0 (run + 1)
-  unfolding node_before if◌then◌else◌
+  unfolding node_before when◌then◌else◌
   front-leaf first top run k e z = front-written os ss at line 0 (run + 1) (omega (arith, b.low, b.room)) (go (row_of (drop (2 * line) os)) refl k.leaves)
     where
       go : (r : Rowed) → row_of (drop (2 * line) os) ≡ r → LeavesAre run r → LeavesAre (run + 1) (row_of (drop (2 * at) os))
@@ -351,7 +351,7 @@ module _ (os ss₀ ss : List ℕ) (line : ℕ) (b : Back os ss₀ ss line) (at c
   -- A node that has children is no leaf.
   pub front-node : (first top run end₁ deep₁ : ℕ) → FirstSpan os ss line first top run → sound_node c n ≡ true → 0 < n → To end₁ deep₁ ≡ spanned_by line n (row_of (drop (2 * line) os))
       → FirstSpan os (set (set ss (2 * at) end₁) (2 * at + 1) deep₁) at end₁ deep₁ 0
-  unfolding spanned_by node_before if◌then◌else◌
+  unfolding spanned_by node_before when◌then◌else◌
   front-node first top run end₁ deep₁ k e z g = front-written os ss at end₁ deep₁ 0 (omega (arith, b.low, b.room)) (go (row_of (drop (2 * line) os)) refl k.leaves)
     where
       by_count : (f : Forest) → row_of (drop (2 * line) os) ≡ rowed f → (x : Bool) → leb n (count f) ≡ x → LeavesAre 0 (row_of (drop (2 * at) os))
@@ -371,7 +371,7 @@ back_equal os ss₀ ss ss₁ line first first₁ top top₁ run run₁ a b c d h
 
 -- What a node comes to is no more than there are lines.
 pub back_small : (os ss₀ ss : List ℕ) (line n e d : ℕ) → Back os ss₀ ss line → To e d ≡ spanned_by line n (row_of (drop (2 * line) os)) → (e ≤ length os / 2) × (d ≤ length os / 2)
-unfolding spanned_by if◌then◌else◌
+unfolding spanned_by when◌then◌else◌
 back_small os ss₀ ss line n e d b g = go (row_of (drop (2 * line) os)) refl
   where
     by_count : (f : Forest) → row_of (drop (2 * line) os) ≡ rowed f → (x : Bool) → leb n (count f) ≡ x → (e ≤ length os / 2) × (d ≤ length os / 2)

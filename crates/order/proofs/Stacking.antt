@@ -9,7 +9,7 @@ use lib.Dec.{leb}
 use lib.ListN.{length, take, drop, get_or, set, length-set, length-append, length-drop, drop_of_length-le, get_or-append}
 use lib.Seq.{length-take-le, take_all, take-nil, take-take, take-append-le, drop-append-le, get_or_at, get_or-take, get_or-drop, take-suc-set}
 use Rattle.words.proofs.Tests.{never, by_test}
-use Rattle.words.specs.Base.{if◌then◌else◌}
+use Rattle.words.specs.Base.{when◌then◌else◌}
 use Rattle.figures.specs.Nodes.{sound_node}
 use Rattle.figures.specs.Limits.{most_words}
 use Rattle.order.specs.Trees.{node, Forest, bare, cons, count, depth, depth_f}
@@ -61,7 +61,7 @@ module _ (many top run : ℕ) (ss : List ℕ) (f : Forest) (b : StackIs many top
 
   -- All children are leaves.
   pub leaves-popped : (n taken : ℕ) → taken ≡ n → n ≤ run → 0 < n → Left (many + 1 - taken) 1 ≡ popped_by n f
-  unfolding popped_by if◌then◌else◌
+  unfolding popped_by when◌then◌else◌
   leaves-popped n taken w h more =
       let l : n ≤ leaves_f f = omega (arith, b.leaves) in
       let k : count f + 1 - n ≡ many + 1 - taken = omega (arith, b.counted) in
@@ -69,7 +69,7 @@ module _ (many top run : ℕ) (ss : List ℕ) (f : Forest) (b : StackIs many top
 
   -- A child is lacking.
   pub none-popped : (n : ℕ) → many < n → Short ≡ popped_by n f
-  unfolding popped_by if◌then◌else◌
+  unfolding popped_by when◌then◌else◌
   none-popped n h = rw (lt-leb n (count f) (omega (arith, b.counted))) refl
 
   module _ (low : many ≤ length ss) where
@@ -97,7 +97,7 @@ module _ (many top run : ℕ) (ss : List ℕ) (f : Forest) (b : StackIs many top
 
   -- All children are taken.
   pub all-popped : (n taken at deep : ℕ) → taken ≡ n → 0 < n → taken ≤ many → at ≡ many + 1 - taken → deep ≡ depth_f (first_trees (suc (many - at)) f) → Left (many + 1 - taken) deep ≡ popped_by n f
-  unfolding popped_by if◌then◌else◌
+  unfolding popped_by when◌then◌else◌
   all-popped n taken at deep w more h a e =
       let k : count f + 1 - n ≡ many + 1 - taken = omega (arith, b.counted) in
       let m : suc (many - at) ≡ n = omega arith in
@@ -169,12 +169,12 @@ Small ws faulty = Unit {0}
 Small ws (rowed f) = (2 * count f ≤ length ws) × (2 * depth_f f ≤ length ws)
 
 small-node : (b : Bool) (c n : ℕ) (ws : List ℕ) (r : Rowed) → Small ws r → Small (c ∷ n ∷ ws) (node_before b c n r)
-unfolding node_before if◌then◌else◌ count depth_f depth
+unfolding node_before when◌then◌else◌ count depth_f depth
 small-node false c n ws r h = tt
 small-node true c n ws faulty h = tt
 small-node true c n ws (rowed f) h = go (leb n (count f))
   where
-    go : (b : Bool) → Small (c ∷ n ∷ ws) (if b then rowed (cons (node c (first_trees n f)) (later_trees n f)) else faulty)
+    go : (b : Bool) → Small (c ∷ n ∷ ws) (when b then rowed (cons (node c (first_trees n f)) (later_trees n f)) else faulty)
     go false = tt
     go true =
         let l = later-small n f in
@@ -235,7 +235,7 @@ depth-of (Left a d) = d
 
 -- What a node takes of a row that has its children.
 had : (n rest deep : ℕ) (f : Forest) → Left rest deep ≡ popped_by n f → (n ≤ count f) × (rest ≡ count f + 1 - n) × (deep ≡ depth_f (first_trees n f))
-unfolding popped_by if◌then◌else◌
+unfolding popped_by when◌then◌else◌
 had n rest deep f e = go (leb n (count f)) refl
   where
     go : (x : Bool) → leb n (count f) ≡ x → (n ≤ count f) × (rest ≡ count f + 1 - n) × (deep ≡ depth_f (first_trees n f))
@@ -246,7 +246,7 @@ had n rest deep f e = go (leb n (count f)) refl
 
 -- A node before a row that lacks a child is a fault.
 lacked : (x : Bool) (c n : ℕ) (f : Forest) → Short ≡ popped_by n f → node_before x c n (rowed f) ≡ faulty
-unfolding popped_by if◌then◌else◌
+unfolding popped_by when◌then◌else◌
 lacked x c n f e = by_test (leb n (count f)) (λ l. never (cc (rw l at e))) (lacks_child x c n f)
 
 module _ (os ss₀ ss : List ℕ) (at many top run : ℕ) (b : Stacked os ss₀ ss at many top run) where
@@ -294,7 +294,7 @@ module _ (os ss₀ ss : List ℕ) (at many top run : ℕ) (b : Stacked os ss₀ 
 
     -- A node that has its children is put before the trees behind them.
     node-here : sound_node c n ≡ true → n ≤ count b.row → row_of (drop here os) ≡ rowed (cons (node c (first_trees n b.row)) (later_trees n b.row))
-    unfolding node_before if◌then◌else◌
+    unfolding node_before when◌then◌else◌
     node-here s h = row_here ∙ rw (s, le-leb n (count b.row) h) refl
 
     -- A leaf.

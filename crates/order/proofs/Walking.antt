@@ -9,7 +9,7 @@ use borrow.Author.Tests.{leb-true, leb-false}
 use lib.Dec.{leb}
 use lib.ListN.{length, drop, get_or, length-append, length-drop}
 use lib.Seq.{drop-drop, get_or-drop, drop-append_seam}
-use Rattle.words.specs.Base.{if◌then◌else◌}
+use Rattle.words.specs.Base.{when◌then◌else◌}
 use Rattle.figures.specs.Limits.{greatest_depth}
 use Rattle.order.specs.Trees.{Tree, node, Forest, bare, cons, count, words, words_f, cut, cut_f, subtrees}
 use Rattle.order.specs.Standing.{cut_of}
@@ -232,16 +232,16 @@ module _ (os : List ℕ) (line own d end at : ℕ) (got : List ℕ) (p : Walking
         }
 
     -- By how deep it lies.
-    walk_on : Gone (if leb d (t.level - own) then 0 else count t.row) (if leb d (t.level - own) then at + length (subtrees (node t.code t.row)) else at + 1)
-    unfolding if◌then◌else◌
+    walk_on : Gone (when leb d (t.level - own) then 0 else count t.row) (when leb d (t.level - own) then at + length (subtrees (node t.code t.row)) else at + 1)
+    unfolding when◌then◌else◌
     walk_on = go (leb d (t.level - own)) refl
       where
-        go : (b : Bool) → leb d (t.level - own) ≡ b → Gone (if b then 0 else count t.row) (if b then at + length (subtrees (node t.code t.row)) else at + 1)
+        go : (b : Bool) → leb d (t.level - own) ≡ b → Gone (when b then 0 else count t.row) (when b then at + length (subtrees (node t.code t.row)) else at + 1)
         go true e = leaving (leb-true d (t.level - own) e)
         go false e = keeping (leb-false d (t.level - own) e)
 
     -- By its two words and the next line.
-    walk_next : (v at' : ℕ) → v ≡ (if leb d (t.level - own) then 0 else count t.row) → at' ≡ (if leb d (t.level - own) then at + length (subtrees (node t.code t.row)) else at + 1)
+    walk_next : (v at' : ℕ) → v ≡ (when leb d (t.level - own) then 0 else count t.row) → at' ≡ (when leb d (t.level - own) then at + length (subtrees (node t.code t.row)) else at + 1)
         → Gone v at'
     walk_next v at' e f = rw (e, f) walk_on
 
@@ -254,13 +254,13 @@ pub record Stepping (os ss ls : List ℕ) (line own d end at : ℕ) (got : List 
   pub levelled : at < length ls
   pub small : get_or ls at 0 ≤ greatest_depth
   pub above : own ≤ get_or ls at 0
-  pub next : (v at' : ℕ) → v ≡ (if leb d (get_or ls at 0 - own) then 0 else get_or os (at * 2 + 1) 0) → at' ≡ (if leb d (get_or ls at 0 - own) then get_or ss (at * 2) 0 else at + 1)
+  pub next : (v at' : ℕ) → v ≡ (when leb d (get_or ls at 0 - own) then 0 else get_or os (at * 2 + 1) 0) → at' ≡ (when leb d (get_or ls at 0 - own) then get_or ss (at * 2) 0 else at + 1)
       → Walking os line own d end at' (got ++ (get_or os (at * 2) 0 ∷ v ∷ []))
-  pub on : (at' : ℕ) → at' ≡ (if leb d (get_or ls at 0 - own) then get_or ss (at * 2) 0 else at + 1) → at < at'
+  pub on : (at' : ℕ) → at' ≡ (when leb d (get_or ls at 0 - own) then get_or ss (at * 2) 0 else at + 1) → at < at'
 
 -- The next line is further on.
-later : (b : Bool) (at at' e : ℕ) → at' ≡ (if b then e else at + 1) → at < e → at < at'
-unfolding if◌then◌else◌
+later : (b : Bool) (at at' e : ℕ) → at' ≡ (when b then e else at + 1) → at < e → at < at'
+unfolding when◌then◌else◌
 later true at at' e f g = omega arith
 later false at at' e f g = omega arith
 

@@ -9,7 +9,7 @@ use lib.Dec.{leb}
 use lib.ListN.{length, take, drop, get_or, set, length-drop, drop_of_length-le}
 use lib.Seq.{take_all as whole_take, drop-cons, drop-drop}
 use native.Mathlib.Numerals.{add-one, add-two}
-use Rattle.words.specs.Base.{if◌then◌else◌, over}
+use Rattle.words.specs.Base.{when◌then◌else◌, over}
 use Rattle.words.proofs.Tests.{either_way}
 use Rattle.figures.specs.Numbers.{done, short_output}
 use Rattle.figures.specs.Answers.{wrote}
@@ -43,17 +43,17 @@ part-back len out w last h e =
 module _ (w l : List ℕ) (r : Written) where
   -- There are none.
   pub no_words : r ≡ wrote done 0 → w ≡ [] → writing r l ≡ write w l
-  unfolding write if◌then◌else◌
+  unfolding write when◌then◌else◌
   no_words a e = let z : leb 0 (length l) ≡ true = le-leb 0 (length l) (omega arith) in rw (a, e, z) refl
 
   -- They have no room.
   pub no_output_room : r ≡ wrote short_output 0 → length l < length w → writing r l ≡ write w l
-  unfolding write if◌then◌else◌
+  unfolding write when◌then◌else◌
   no_output_room a h = rw (a, lt-leb (length w) (length l) h) refl
 
   -- They have room, and were written.
   pub has_room : (n : ℕ) (last : List ℕ) → r ≡ wrote done n → length w ≡ n → n ≤ length l → last ≡ over w l → writing r last ≡ write w l
-  unfolding write if◌then◌else◌
+  unfolding write when◌then◌else◌
   has_room n last a e h o = let z : leb (length w) (length l) ≡ true = le-leb (length w) (length l) (omega arith) in rw (a, o, z, e) refl
 
 -- ---- the figures of what is answered

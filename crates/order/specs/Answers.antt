@@ -1,6 +1,6 @@
 -- What the public functions of `order_check`, `order_cuts` and `order_parts` answer, for all inputs. Assumes nothing: these are definitions.
 use Rattle.std.specs.Prelude.{List, [], ◌∷◌, ℕ, zero, suc, ◌+◌, ◌-◌, ◌*◌, leb, length}
-use Rattle.words.specs.Base.{if◌then◌else◌, over}
+use Rattle.words.specs.Base.{when◌then◌else◌, over}
 use Rattle.figures.specs.Numbers.{done, short_output}
 use Rattle.figures.specs.Answers.{wrote}
 use Rattle.order.specs.Trees.{Tree, words, cut, subtrees}
@@ -72,7 +72,7 @@ refuse n out = writing (wrote n 0) out
 -- "the stated output at its front; later output words stay"; 11 where the output is too short
 unfoldable pub write : List ℕ → List ℕ → Writing
 write new out =
-    if leb (length new) (length out)
+    when leb (length new) (length out)
     then writing (wrote done (length new)) (over new out)
     else refuse short_output out
 

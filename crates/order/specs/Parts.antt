@@ -1,6 +1,6 @@
 -- The parts of an order at k (01, "Parts"). Assumes nothing: these are definitions.
 use Rattle.std.specs.Prelude.{ℕ, ◌-◌, Bool, not, List, [], ◌∷◌, map, leb}
-use Rattle.words.specs.Base.{if◌then◌else◌, same_words, keep}
+use Rattle.words.specs.Base.{when◌then◌else◌, same_words, keep}
 use Rattle.order.specs.Trees.{Tree, words, depth, cut, subtrees}
 use Rattle.order.specs.declared.Kind.{Kind}
 use Rattle.order.specs.declared.Kind.TheVariants.{Low, Middle}
@@ -53,4 +53,4 @@ pub record Part : Type 0 where
 
 -- The subtree itself if it is low, and otherwise its cut.
 unfoldable pub part_of : ℕ → Tree → Part
-part_of k s = if is_low k s then record { kind = Low; tree = s } else record { kind = Middle; tree = middle k s }
+part_of k s = when is_low k s then record { kind = Low; tree = s } else record { kind = Middle; tree = middle k s }

@@ -1,6 +1,6 @@
 -- Words read as an order (01, "Orders", and "Within an order" under "Order of checks"). Assumes nothing: these are definitions.
 use Rattle.std.specs.Prelude.{List, [], ◌∷◌, Bool, true, false, ℕ, zero, suc, ◌+◌, ◌%◌, leb, ltb, eqb, length}
-use Rattle.words.specs.Base.{if◌then◌else◌}
+use Rattle.words.specs.Base.{when◌then◌else◌}
 use Rattle.figures.specs.Limits.{most_words, greatest_depth}
 use Rattle.figures.specs.Nodes.{sound_node}
 use Rattle.figures.specs.Numbers.{done, no_order, too_large}
@@ -73,14 +73,14 @@ by_order (order t) f g = g t
 -- "the other causes of 1, depth"
 unfoldable pub within_depth : TreeFound → Order
 within_depth missing = refused no_order
-within_depth (found t) = if leb (depth t) greatest_depth then order t else refused too_large
+within_depth (found t) = when leb (depth t) greatest_depth then order t else refused too_large
 
 -- "Within an order: empty or odd length, over 128 words, the other causes of 1, depth."
 unfoldable pub order_of : List ℕ → Order
 order_of ws =
-    if eqb (length ws) 0 then refused no_order else
-    if eqb (length ws % 2) 1 then refused no_order else
-    if ltb most_words (length ws) then refused too_large else
+    when eqb (length ws) 0 then refused no_order else
+    when eqb (length ws % 2) 1 then refused no_order else
+    when ltb most_words (length ws) then refused too_large else
     within_depth (tree_of ws)
 
 -- The number of an order: 0, or the first cause of 1 or 2.

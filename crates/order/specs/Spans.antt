@@ -2,7 +2,7 @@
 -- Orders gone over from the last node to the first: where the subtree of each line ends and how deep it is, and the row of trees that words
 -- spell. Assumes nothing: these are definitions.
 use Rattle.std.specs.Prelude.{List, [], ◌∷◌, ◌++◌, Bool, true, false, ◌≡◌, ℕ, zero, suc, ◌+◌, ◌*◌, ◌-◌, ◌/◌, ◌≤◌, ◌<◌, leb, length, take, drop, get_or, set}
-use Rattle.words.specs.Base.{if◌then◌else◌}
+use Rattle.words.specs.Base.{when◌then◌else◌}
 use Rattle.figures.specs.Limits.{most_words}
 use Rattle.figures.specs.Nodes.{sound_node}
 use Rattle.figures.specs.Numbers.{done}
@@ -51,7 +51,7 @@ pub data Rowed : Type 0 where
 unfoldable pub node_before : Bool → ℕ → ℕ → Rowed → Rowed
 node_before false c n r = faulty
 node_before true c n faulty = faulty
-node_before true c n (rowed f) = if leb n (count f) then rowed (cons (node c (first_trees n f)) (later_trees n f)) else faulty
+node_before true c n (rowed f) = when leb n (count f) then rowed (cons (node c (first_trees n f)) (later_trees n f)) else faulty
 
 -- The row of trees that words spell, from their last node on.
 unfoldable pub row_of : List ℕ → Rowed
@@ -95,7 +95,7 @@ pub record FirstSpan (os ss : List ℕ) (i first top run : ℕ) : Type 0 where
 -- What a node comes to whose children are the first n trees of a row, which stands on lines from i on.
 unfoldable pub spanned_by : ℕ → ℕ → Rowed → Spanned
 spanned_by i n faulty = Lacking
-spanned_by i n (rowed f) = if leb n (count f) then To (i + lines_f (first_trees n f)) (depth_f (first_trees n f)) else Lacking
+spanned_by i n (rowed f) = when leb n (count f) then To (i + lines_f (first_trees n f)) (depth_f (first_trees n f)) else Lacking
 
 -- ---- by a stack of depths
 
@@ -114,7 +114,7 @@ pub record StackIs (many top run : ℕ) (ss : List ℕ) (f : Forest) : Type 0 wh
 -- What a node comes to that takes the first n trees of a row as its children: it lacks one; or there are so many trees then, itself the
 -- first, and it is so deep.
 unfoldable pub popped_by : ℕ → Forest → Popped
-popped_by n f = if leb n (count f) then Left (count f + 1 - n) (depth_f (first_trees n f)) else Short
+popped_by n f = when leb n (count f) then Left (count f + 1 - n) (depth_f (first_trees n f)) else Short
 
 -- ---- the levels of lines by their spans
 

@@ -1,7 +1,7 @@
 -- Inner: no promise rests on these definitions.
 -- What stands at a word of an order, by the trees: a tree, its cut, a line. Assumes nothing: these are definitions.
 use Rattle.std.specs.Prelude.{List, [], ℕ, zero, suc, ◌*◌, ltb, length, drop}
-use Rattle.words.specs.Base.{if◌then◌else◌}
+use Rattle.words.specs.Base.{when◌then◌else◌}
 use Rattle.order.specs.Trees.{bare, cons, words, cut, subtrees}
 use Rattle.order.specs.Reading.{Reading, broken, read, read_trees, TreeFound, missing, found, by_found, by_order, order_of}
 use Rattle.order.specs.declared.Place.{Place}
@@ -24,7 +24,7 @@ cut_of ws at d = by_found (tree_from ws at) [] (λ t. words (cut t d))
 -- A line of an order stands at a word; line i + 1 stands at word 2 i.
 unfoldable pub line_place : ℕ → ℕ → Place
 line_place nodes zero = Lacking
-line_place nodes (suc i) = if ltb i nodes then At (i * 2) else Lacking
+line_place nodes (suc i) = when ltb i nodes then At (i * 2) else Lacking
 
 -- Where a line of an order stands, if the words are an order and have the line.
 unfoldable pub place_of : List ℕ → ℕ → Place

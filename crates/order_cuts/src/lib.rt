@@ -3,7 +3,7 @@
 #![tactic(auto)]
 
 ghost use Rattle.std.specs.Prelude.{◌≡◌, ◌+◌, ◌*◌, ◌/◌, ◌≤◌, ◌<◌, length, get_or, leb};
-ghost use Rattle.words.specs.Base.{over, if◌then◌else◌, same_words};
+ghost use Rattle.words.specs.Base.{over, when◌then◌else◌, same_words};
 ghost use Rattle.figures.specs.Limits.{most_words};
 ghost use Rattle.figures.specs.Numbers.{done};
 ghost use Rattle.order.specs.Reading.{cause_of};
@@ -63,7 +63,7 @@ pub fn subtree(order: &[u16], line: usize) -> &[u16]
 
 // What a node at a depth keeps of its number of children in a cut at d: none at depth d.
 fn kept_children(below: usize, d: usize, children: u16) -> u16
-    ensures { result ≡ (if leb d below then 0 else children) }
+    ensures { result ≡ (when leb d below then 0 else children) }
 {
     if d <= below { 0 } else { children }
 }
@@ -71,7 +71,7 @@ fn kept_children(below: usize, d: usize, children: u16) -> u16
 // The line that is written next in a cut at d behind a line at a depth: of what is below a line at depth d none is written.
 fn next_line(spans: &[u16], line: usize, below: usize, d: usize) -> usize
     requires { line * 2 < length spans.now }
-    ensures { result ≡ (if leb d below then get_or spans.now (line * 2) 0 else line + 1) }
+    ensures { result ≡ (when leb d below then get_or spans.now (line * 2) 0 else line + 1) }
 {
     if d <= below {
         return line_end(spans, line);

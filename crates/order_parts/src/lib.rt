@@ -2,7 +2,7 @@
 #![tactic(auto)]
 
 ghost use Rattle.std.specs.Prelude.{◌≡◌, ◌+◌, ◌-◌, ◌*◌, ◌<◌, leb, length, get_or};
-ghost use Rattle.words.specs.Base.{if◌then◌else◌};
+ghost use Rattle.words.specs.Base.{when◌then◌else◌};
 ghost use Rattle.order.specs.Answers.{no_part, part_writing, part_into_of};
 ghost use Rattle.order.specs.declared.Kind.TheVariants.{Low, Middle};
 
@@ -31,7 +31,7 @@ fn no_part(number: u16) -> PartWritten
 
 // The kind of a part that is low or not.
 fn kind_of(low: bool) -> Kind
-    ensures { result ≡ (if low then Low else Middle) }
+    ensures { result ≡ (when low then Low else Middle) }
 {
     if low { Kind::Low } else { Kind::Middle }
 }

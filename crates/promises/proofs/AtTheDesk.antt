@@ -12,7 +12,7 @@ use native.Mathlib.Decide.{dec_lt}
 use native.Mathlib.Omega.{arith}
 use lib.ListN.{length, length-append, length-replicate, get_or, replicate}
 use Rattle.words.proofs.Tests.{never}
-use Rattle.words.specs.Base.{if◌then◌else◌, ◌exactly_when◌}
+use Rattle.words.specs.Base.{when◌then◌else◌, ◌exactly_when◌}
 use Rattle.figures.specs.Limits.{head_words, desk_book_words, least_k, greatest_k, greatest_count, used_word}
 use Rattle.figures.specs.Numbers.{done, no_room, not_taught, top_unknown, low_unknown, middle_unknown}
 use Rattle.figures.specs.Answers.{answered}
@@ -70,16 +70,16 @@ blank_long = length-replicate {A = ℕ} desk_book_words 0
 
 -- A verdict is 0, 20, 21 or 22.
 verdict-number : (b : Book) (t : Tree) → DeskNumber Judge (verdict b t).number
-unfolding verdict verdict_on if◌then◌else◌
+unfolding verdict verdict_on when◌then◌else◌
 verdict-number b t = go (least_to_fix b 1 (subtrees t))
   where
     -- By whether the top is known.
-    tops : (x : Bool) → DeskNumber Judge (if x then answered done else record { number = top_unknown; line = 1 }).number
+    tops : (x : Bool) → DeskNumber Judge (when x then answered done else record { number = top_unknown; line = 1 }).number
     tops true = is_done refl
     tops false = is_top refl refl
 
     -- By whether the part is low.
-    parts : (x : Bool) → DeskNumber Judge (if x then low_unknown else middle_unknown)
+    parts : (x : Bool) → DeskNumber Judge (when x then low_unknown else middle_unknown)
     parts true = is-low refl refl
     parts false = is-middle refl refl
 

@@ -15,7 +15,7 @@ use native.Mathlib.Omega.{arith}
 use lib.Dec.{ltb}
 use lib.ListN.{length, drop}
 use Rattle.words.proofs.Tests.{never}
-use Rattle.words.specs.Base.{if◌then◌else◌}
+use Rattle.words.specs.Base.{when◌then◌else◌}
 use Rattle.figures.specs.Numbers.{done, too_large, no_form, top_unknown}
 use Rattle.figures.specs.Answers.{depth_of, asked_told}
 use Rattle.figures.specs.declared.depths.Asked.{Asked}
@@ -359,11 +359,11 @@ module _ (ws os text file out : List ℕ) (k line d : ℕ) where
 module _ (ws text out : List ℕ) where
   -- `desk_step::begin`: by a fault the words of the book's slice stay.
   pub begin_leaves : (a : Answer) → opening_of text ≡ Fault a → (begin_of text ws out).book ≡ ws
-  unfolding opening_of begin_of begun_by if◌then◌else◌
+  unfolding opening_of begin_of begun_by when◌then◌else◌
   begin_leaves a = go (ltb (length out) reply_room) (handed_in text)
     where
       -- By the room for a line and what is handed in.
-      go : (t : Bool) (h : Handed) → opening_by h ≡ Fault a → (if t then idle ws out else begun_by (length text) h ws out).book ≡ ws
+      go : (t : Bool) (h : Handed) → opening_by h ≡ Fault a → (when t then idle ws out else begun_by (length text) h ws out).book ≡ ws
       go true h e = refl
       go false (faulty b) e = refl
       go false (handed j cs) e = never cc

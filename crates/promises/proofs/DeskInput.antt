@@ -8,7 +8,7 @@ use borrow.Author.Tests.{ltb-false, le-ltb}
 use lib.Dec.{ltb}
 use lib.ListN.{length}
 use Rattle.words.proofs.Tests.{never}
-use Rattle.words.specs.Base.{◌∈◌, if◌then◌else◌, ◌exactly_when◌}
+use Rattle.words.specs.Base.{◌∈◌, when◌then◌else◌, ◌exactly_when◌}
 use Rattle.figures.specs.Limits.{most_input}
 use Rattle.figures.specs.Numbers.{too_large}
 use Rattle.figures.specs.Answers.{answered}
@@ -57,18 +57,18 @@ module _ (input : List ℕ) (k : ℕ) (cs : List FormCall) where
 
   -- What an input hands in is what its bytes are.
   handed-bytes : handed_in input ≡ handed k cs → InputIs input k cs
-  unfolding handed_in if◌then◌else◌
+  unfolding handed_in when◌then◌else◌
   handed-bytes = go (ltb most_input (length input)) refl
     where
       -- By whether the input is too long.
-      go : (t : Bool) → ltb most_input (length input) ≡ t → (if t then faulty (answered too_large) else by_first (first_line input)) ≡ handed k cs
+      go : (t : Bool) → ltb most_input (length input) ≡ t → (when t then faulty (answered too_large) else by_first (first_line input)) ≡ handed k cs
           → InputIs input k cs
       go true p e = never cc
       go false p e = first-bytes (omega (arith, ltb-false most_input (length input) p)) (first_line input) refl e
 
   -- What the bytes are is handed in.
   bytes-handed : InputIs input k cs → handed_in input ≡ handed k cs
-  unfolding handed_in by_first handed_by if◌then◌else◌
+  unfolding handed_in by_first handed_by when◌then◌else◌
   bytes-handed h =
       let f : first_line input ≡ asks k (joined_calls cs) = first-only input k (joined_calls cs) (record { least = h.least; greatest = h.greatest; spelt = h.spelt }) in
       rw (le-ltb most_input (length input) h.size, f, calls-split cs h.parts)

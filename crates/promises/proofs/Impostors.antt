@@ -11,7 +11,7 @@ use mathlib.Core.Path.{◌≡◌, refl, sym, ap, ap₂, subst, ◌∙◌}
 use mathlib.Core.List.{List, [], ◌∷◌, ◌++◌}
 use native.Mathlib.Omega.{arith}
 use lib.ListN.{length, get_or, length-append}
-use Rattle.words.specs.Base.{if◌then◌else◌, ◌exactly_when◌}
+use Rattle.words.specs.Base.{when◌then◌else◌, ◌exactly_when◌}
 use Rattle.figures.specs.Limits.{greatest_count, live_word}
 use Rattle.figures.specs.Numbers.{done, low_unknown, two_images}
 use Rattle.figures.specs.Answers.{answered}
@@ -267,12 +267,12 @@ one-more_differs k orders os ws x y = omega (arith, x.lives, y.lives, ap live (b
 
 -- After a teaching that is done one order more remains.
 done-one_more : (os : List ℕ) (n : ℕ) (orders : List (List ℕ)) → n ≡ done → remain_by (teach os) n orders ≡ os ∷ orders
-unfolding if◌then◌else◌
+unfolding when◌then◌else◌
 done-one_more os n orders e = rw e refl
 
 -- After a joining that is done the orders of the book that is joined remain too.
 done-joined : (vs : List ℕ) (c : Book) → IsBook vs c → (n : ℕ) (orders : List (List ℕ)) → n ≡ done → remain_by (join vs) n orders ≡ orders_in c.T ++ orders
-unfolding if◌then◌else◌
+unfolding when◌then◌else◌
 done-joined vs c i n orders e = ap (λ (m : ℕ). remain_by (join vs) m orders) e ∙ ap (λ (b : Book). orders_in b.T ++ orders) (read-book vs c i)
 
 -- They are as many more as teachings are live in that book.

@@ -9,7 +9,7 @@ use mathlib.Core.List.{List, [], ◌∷◌}
 use native.Mathlib.Omega.{arith}
 use borrow.Author.Tests.{ltb-true, lt-ltb}
 use lib.ListN.{length}
-use Rattle.words.specs.Base.{if◌then◌else◌, same_words, ◌∈◌}
+use Rattle.words.specs.Base.{when◌then◌else◌, same_words, ◌∈◌}
 use Rattle.words.proofs.Tests.{same-words, words_same, by_test}
 use Rattle.figures.specs.Limits.{greatest_depth, least_k}
 use Rattle.section.specs.Entries.{Entry, has, counts_for, count_of, total, Sorted, lower}
@@ -71,13 +71,13 @@ module _ (k : ℕ) (orders : List (List ℕ)) (ws vs : List ℕ) (x : ExactlyThe
 
 -- As many orders as are the words w is how often w stands among them.
 how_many-times : (w : List ℕ) {orders : List (List ℕ)} {n : ℕ} → HowMany (λ (os : List ℕ). os ≡ w) orders n → n ≡ times_of w orders
-unfolding times_of if◌then◌else◌
+unfolding times_of when◌then◌else◌
 how_many-times w none_left = refl
 how_many-times w (one_more {a} e c) = let q : same_words a w ≡ true = rw e (same-words w) in rw q (omega (arith, how_many-times w c))
 how_many-times w (not_this {a} {l} x c) = go (same_words a w) refl (how_many-times w c)
   where
     -- What is not w does not count.
-    go : {n : ℕ} → (b : Bool) → same_words a w ≡ b → n ≡ times_of w l → n ≡ (if b then 1 else 0) + times_of w l
+    go : {n : ℕ} → (b : Bool) → same_words a w ≡ b → n ≡ times_of w l → n ≡ (when b then 1 else 0) + times_of w l
     go true e next = absurd (x (words_same a w e))
     go false e next = omega (arith, next)
 
@@ -92,11 +92,11 @@ no_more_lowered p rest es s most z = omega (arith, count-lower p z es s, most z)
 
 -- and so does the section as it is, where it does not count the first order.
 no_more_later : (p : List ℕ) (rest : List (List ℕ)) (es : List Entry) → count_of p es ≡ 0 → NoMore es (p ∷ rest) → NoMore es rest
-unfolding times_of if◌then◌else◌
+unfolding times_of when◌then◌else◌
 no_more_later p rest es none most z = go (same_words p z) refl (most z)
   where
     -- By whether z is that order.
-    go : (b : Bool) → same_words p z ≡ b → count_of z es ≤ (if b then 1 else 0) + times_of z rest → count_of z es ≤ times_of z rest
+    go : (b : Bool) → same_words p z ≡ b → count_of z es ≤ (when b then 1 else 0) + times_of z rest → count_of z es ≤ times_of z rest
     go true e m = let c : count_of z es ≡ 0 = ap (λ (y : List ℕ). count_of y es) (sym (words_same p z e)) ∙ none in omega arith
     go false e m = omega arith
 

@@ -6,7 +6,7 @@ use mathlib.Core.Bool.{Bool, true, false}
 use mathlib.Core.List.{List, [], ◌∷◌, ◌++◌}
 use native.Mathlib.Omega.{arith}
 use lib.ListN.{replicate}
-use Rattle.words.specs.Base.{if◌then◌else◌, same_words}
+use Rattle.words.specs.Base.{when◌then◌else◌, same_words}
 use Rattle.words.proofs.Tests.{same-words, words_same}
 use Rattle.figures.specs.Numbers.{done}
 use Rattle.figures.specs.Answers.{answered}
@@ -57,12 +57,12 @@ behind-first p (and_then r s) = and_then (behind-first p r) (behind-first p s)
 
 -- An order that stands among orders can be brought to their front.
 from_front : (os : List ℕ) (orders : List (List ℕ)) → 1 ≤ times_of os orders → Rearranged (os ∷ without os orders) orders
-unfolding without times_of if◌then◌else◌
+unfolding without times_of when◌then◌else◌
 from_front os [] h = absurd (omega arith)
 from_front os (q ∷ qs) h = go (same_words q os) refl (from_front os qs)
   where
     -- By whether the first is such an order.
-    go : (b : Bool) → same_words q os ≡ b → (1 ≤ times_of os qs → Rearranged (os ∷ without os qs) qs) → Rearranged (os ∷ (if b then qs else q ∷ without os qs)) (q ∷ qs)
+    go : (b : Bool) → same_words q os ≡ b → (1 ≤ times_of os qs → Rearranged (os ∷ without os qs) qs) → Rearranged (os ∷ (when b then qs else q ∷ without os qs)) (q ∷ qs)
     go true e next = rw (words_same q os e) (as_they_are (os ∷ qs))
     go false e next =
         let i : 1 ≤ 0 + times_of os qs = rw e at h in
@@ -70,7 +70,7 @@ from_front os (q ∷ qs) h = go (same_words q os) refl (from_front os qs)
 
 -- The same orders are some rearrangement of one another: "in whichever order" is neither more nor less than that.
 pub same-rearranged : (ps qs : List (List ℕ)) → SameOrders ps qs → Rearranged ps qs
-unfolding times_of if◌then◌else◌
+unfolding times_of when◌then◌else◌
 same-rearranged [] [] e = as_they_are []
 same-rearranged [] (q ∷ qs) e =
     let one : times_of q (q ∷ qs) ≡ 1 + times_of q qs = rw (same-words q) refl in
@@ -86,27 +86,27 @@ same-rearranged (p ∷ ps) qs e =
 
 -- Orders with one more are not the same orders.
 pub not_once_more : (os : List ℕ) (ps : List (List ℕ)) → SameOrders (os ∷ ps) ps → ⊥
-unfolding times_of if◌then◌else◌
+unfolding times_of when◌then◌else◌
 not_once_more os ps e =
     let one : times_of os (os ∷ ps) ≡ 1 + times_of os ps = rw (same-words os) refl in
     omega (arith, one, e os)
 
 -- Orders with one such less have it once less,
 pub one_less : (os : List ℕ) (orders : List (List ℕ)) → 1 ≤ times_of os orders → times_of os (without os orders) + 1 ≡ times_of os orders
-unfolding if◌then◌else◌
+unfolding when◌then◌else◌
 one_less os orders h =
     let less : 1 + times_of os (without os orders) ≡ times_of os orders = rw (same-words os) at (times-without os os orders h) in
     omega (arith, less)
 
 -- and any other as often as before.
 pub others_stay : (os ps : List ℕ) (orders : List (List ℕ)) → (os ≡ ps → ⊥) → times_of ps (without os orders) ≡ times_of ps orders
-unfolding without times_of if◌then◌else◌
+unfolding without times_of when◌then◌else◌
 others_stay os ps [] other = refl
 others_stay os ps (q ∷ qs) other = go (same_words q os) refl (same_words q ps) refl (others_stay os ps qs other)
   where
     -- By whether the first is such an order, and whether it is the other.
     go : (b : Bool) → same_words q os ≡ b → (c : Bool) → same_words q ps ≡ c → times_of ps (without os qs) ≡ times_of ps qs
-        → times_of ps (if b then qs else q ∷ without os qs) ≡ (if same_words q ps then 1 else 0) + times_of ps qs
+        → times_of ps (when b then qs else q ∷ without os qs) ≡ (when same_words q ps then 1 else 0) + times_of ps qs
     go true e true f next = absurd (other (sym (words_same q os e) ∙ words_same q ps f))
     go true e false f next = rw f (omega arith)
     go false e c f next = omega (arith, next)
@@ -148,23 +148,23 @@ each-done (p ∷ ps) rest os ws n = each-done ps rest os (teach_of ws p).words n
 
 -- An order so many times and others: it stands among them so many times more,
 own_more : (os : List ℕ) (n : ℕ) (rest : List (List ℕ)) → times_of os (replicate n os ++ rest) ≡ n + times_of os rest
-unfolding times_of if◌then◌else◌
+unfolding times_of when◌then◌else◌
 own_more os zero rest = omega arith
 own_more os (suc n) rest = rw (same-words os) (omega (arith, own_more os n rest))
 
 -- and another as often as without it.
 others_more : (ps os : List ℕ) (n : ℕ) (rest : List (List ℕ)) → same_words ps os ≡ false → times_of os (replicate n ps ++ rest) ≡ times_of os rest
-unfolding times_of if◌then◌else◌
+unfolding times_of when◌then◌else◌
 others_more ps os zero rest x = refl
 others_more ps os (suc n) rest x = rw x (omega (arith, others_more ps os n rest x))
 
 -- Among the orders that a T counts each stands as often as T counts it: a file's orders are those of its T, neither more nor fewer.
 pub first-as_counted : (os : List ℕ) (es : List Entry) → times_of os (orders_in es) ≡ count_of os es
-unfolding orders_in times_of count_of counts_for if◌then◌else◌
+unfolding orders_in times_of count_of counts_for when◌then◌else◌
 first-as_counted os [] = refl
 first-as_counted os (e ∷ es) = go (same_words e.key os) refl (first-as_counted os es)
   where
     -- By whether the first entry is the order's.
-    go : (b : Bool) → same_words e.key os ≡ b → times_of os (orders_in es) ≡ count_of os es → times_of os (replicate e.count e.key ++ orders_in es) ≡ (if b then e.count else 0) + count_of os es
+    go : (b : Bool) → same_words e.key os ≡ b → times_of os (orders_in es) ≡ count_of os es → times_of os (replicate e.count e.key ++ orders_in es) ≡ (when b then e.count else 0) + count_of os es
     go true x next = rw (words_same e.key os x) (omega (arith, own_more os e.count (orders_in es), next))
     go false x next = omega (arith, others_more e.key os e.count (orders_in es) x, next)

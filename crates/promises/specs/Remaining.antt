@@ -1,7 +1,7 @@
 -- Calls on one book, the orders that remain of them, and what it is that a book holds exactly these (demand 3). Assumes nothing: these are
 -- definitions.
 use Rattle.std.specs.Prelude.{ℕ, suc, ◌+◌, ◌-◌, ◌≡◌, List, [], ◌∷◌, ◌++◌, eqb, length, replicate}
-use Rattle.words.specs.Base.{if◌then◌else◌, same_words, ◌∈◌}
+use Rattle.words.specs.Base.{when◌then◌else◌, same_words, ◌∈◌}
 use Rattle.figures.specs.Numbers.{done}
 use Rattle.figures.specs.Answers.{answered}
 use Rattle.section.specs.Entries.{Entry, count_of}
@@ -50,15 +50,15 @@ orders_in (e ∷ es) = replicate e.count e.key ++ orders_in es
 -- The orders with one such less.
 unfoldable pub without : List ℕ → List (List ℕ) → List (List ℕ)
 without os [] = []
-without os (p ∷ ps) = if same_words p os then ps else p ∷ without os ps
+without os (p ∷ ps) = when same_words p os then ps else p ∷ without os ps
 
 -- The orders that remain after a call, by the number that it answers: a teaching that is done is one order more, a withdrawal that is done
 -- one such less, and a joining that is done the orders of the other book more: "demand 3 counts the joined orders as taught". A refused call changes
 -- nothing.
 abbrev pub remain_by : Call → ℕ → List (List ℕ) → List (List ℕ)
-remain_by (teach os) n orders = if eqb n done then os ∷ orders else orders
-remain_by (withdraw os) n orders = if eqb n done then without os orders else orders
-remain_by (join vs) n orders = if eqb n done then orders_in (book_in vs).T ++ orders else orders
+remain_by (teach os) n orders = when eqb n done then os ∷ orders else orders
+remain_by (withdraw os) n orders = when eqb n done then without os orders else orders
+remain_by (join vs) n orders = when eqb n done then orders_in (book_in vs).T ++ orders else orders
 
 -- The orders that remain after calls, each as often as it remains, by what answers them.
 unfoldable pub remaining_by : (Call → List ℕ → Outcome) → List Call → List ℕ → List (List ℕ) → List (List ℕ)
@@ -74,7 +74,7 @@ remaining = remaining_by outcome_of
 -- How often an order stands among orders.
 unfoldable pub times_of : List ℕ → List (List ℕ) → ℕ
 times_of os [] = 0
-times_of os (p ∷ ps) = (if same_words p os then 1 else 0) + times_of os ps
+times_of os (p ∷ ps) = (when same_words p os then 1 else 0) + times_of os ps
 
 -- The same orders, "each as often as it remains, in whichever order".
 abbrev pub SameOrders : List (List ℕ) → List (List ℕ) → Type 0

@@ -1,3 +1,2 @@
 // The three demands and the numbered cases, as theorems: no code.
 #![tactic(auto)]
-

@@ -16,7 +16,7 @@ use native.Mathlib.Omega.{arith}
 use lib.ListN.{length, take, drop}
 use prog.Memory
 use prog.Routine
-use Rattle.words.specs.Base.{if◌then◌else◌}
+use Rattle.words.specs.Base.{when◌then◌else◌}
 use Rattle.figures.specs.declared.Answer.{Answer}
 use Rattle.figures.specs.declared.Written.{Written}
 use Rattle.section.specs.Near.{near}
@@ -209,12 +209,12 @@ told-written_as_it_is a = (refl, refl, refl)
 pub told-judged_as_it_is : (j : Judgement) → ((told_judged_of j).number ≡ j.answer.number) × ((told_judged_of j).line ≡ j.answer.line)
     × ((told_judged_of j).below ≡ j.near.below) × (j.near.there ≡ true → (told_judged_of j).there ≡ 1)
     × (j.near.there ≡ false → (told_judged_of j).there ≡ 0) × ((told_judged_of j).place_below ≡ j.near.low) × ((told_judged_of j).place_above ≡ j.near.high)
-unfolding if◌then◌else◌
+unfolding when◌then◌else◌
 told-judged_as_it_is j = (refl, refl, refl, λ e. rw e, λ e. rw e, refl, refl)
 
 -- So nothing of a judgement is lost: two that C gets as the same are the same.
 pub told-judged_back : (j i : Judgement) → told_judged_of j ≡ told_judged_of i → j ≡ i
-unfolding if◌then◌else◌
+unfolding when◌then◌else◌
 told-judged_back j i e =
     same
     (ap (λ (o : OfbJudged). o.number) e)
@@ -225,7 +225,7 @@ told-judged_back j i e =
     (ap (λ (o : OfbJudged). o.place_above) e)
   where
     -- Two tests that are told by the same number are the same.
-    one-test : (a b : Bool) → ◌≡◌ {A = ℕ} (if a then 1 else 0) (if b then 1 else 0) → a ≡ b
+    one-test : (a b : Bool) → ◌≡◌ {A = ℕ} (when a then 1 else 0) (when b then 1 else 0) → a ≡ b
     one-test true true f = refl
     one-test true false f = absurd (omega arith)
     one-test false true f = absurd (omega arith)

@@ -6,7 +6,7 @@ use mathlib.Core.Bool.{Bool, true, false}
 use mathlib.Core.List.{List, [], ◌∷◌}
 use native.Mathlib.Omega.{arith}
 use lib.ListN.{length}
-use Rattle.words.specs.Base.{if◌then◌else◌, keep}
+use Rattle.words.specs.Base.{when◌then◌else◌, keep}
 use Rattle.words.specs.Compare.{compare_of, before}
 use Rattle.words.specs.declared.Compared.{Compared}
 use Rattle.words.specs.declared.Compared.TheVariants.{Lower, Equal, Higher}
@@ -26,32 +26,32 @@ use Rattle.section.proofs.Searches.{has-lower, has_equal, has-higher}
 module _ (key : List ℕ) (e : Entry) (es : List Entry) where
   -- A lower entry is one of those below.
   pub lower-is_below : compare_of e.key key ≡ Lower → entries_below key (e ∷ es) ≡ e ∷ entries_below key es
-  unfolding entries_below keep if◌then◌else◌ before
+  unfolding entries_below keep when◌then◌else◌ before
   lower-is_below c = rw c
 
   -- An equal one is not.
   pub equal_not_below : compare_of e.key key ≡ Equal → entries_below key (e ∷ es) ≡ entries_below key es
-  unfolding entries_below keep if◌then◌else◌ before
+  unfolding entries_below keep when◌then◌else◌ before
   equal_not_below c = rw c
 
   -- Nor is a higher one.
   pub higher_not_below : compare_of e.key key ≡ Higher → entries_below key (e ∷ es) ≡ entries_below key es
-  unfolding entries_below keep if◌then◌else◌ before
+  unfolding entries_below keep when◌then◌else◌ before
   higher_not_below c = rw c
 
   -- A higher entry is one of those above.
   pub higher_is-above : compare_of e.key key ≡ Higher → entries_above key (e ∷ es) ≡ e ∷ entries_above key es
-  unfolding entries_above keep if◌then◌else◌ before
+  unfolding entries_above keep when◌then◌else◌ before
   higher_is-above c = rw (compare_flip e.key key, c)
 
   -- A lower one is not.
   pub lower-not_above : compare_of e.key key ≡ Lower → entries_above key (e ∷ es) ≡ entries_above key es
-  unfolding entries_above keep if◌then◌else◌ before
+  unfolding entries_above keep when◌then◌else◌ before
   lower-not_above c = rw (compare_flip e.key key, c)
 
   -- Nor is an equal one.
   pub equal_not_above : compare_of e.key key ≡ Equal → entries_above key (e ∷ es) ≡ entries_above key es
-  unfolding entries_above keep if◌then◌else◌ before
+  unfolding entries_above keep when◌then◌else◌ before
   equal_not_above c = rw (compare_flip e.key key, c)
 
 -- A key lower than the first of ascending entries has none below it.
@@ -65,12 +65,12 @@ none_below key (e ∷ es) h s = higher_not_below key e es (compare_flip key e.ke
 -- The neighbours of a key where n entries below it stand before these, and p is the place for the last of those.
 unfoldable near_from : ℕ → ℕ → List ℕ → List Entry → Neighbours
 near_from n p key es =
-    if has key es then near (n + length (entries_below key es)) true 0 0
+    when has key es then near (n + length (entries_below key es)) true 0 0
     else near (n + length (entries_below key es)) false (last_place p key (entries_below key es)) (first_place key (entries_above key es))
 
 -- Where no entry is left none has the key.
 near_none : (n p : ℕ) (key : List ℕ) → near n false p 0 ≡ near_from n p key []
-unfolding near_from has entries_below entries_above keep last_place first_place if◌then◌else◌
+unfolding near_from has entries_below entries_above keep last_place first_place when◌then◌else◌
 near_none n p key = ap (λ (m : ℕ). near m false p 0) (omega arith)
 
 module _ (n p : ℕ) (key : List ℕ) (e : Entry) (es : List Entry) where
@@ -83,14 +83,14 @@ module _ (n p : ℕ) (key : List ℕ) (e : Entry) (es : List Entry) where
 
   -- An equal entry is the key's, and no later one stands below.
   near-equal : Sorted (e ∷ es) → compare_of e.key key ≡ Equal → near n true 0 0 ≡ near_from n p key (e ∷ es)
-  unfolding near_from if◌then◌else◌ Sorted
+  unfolding near_from when◌then◌else◌ Sorted
   near-equal s c =
       let later : Below key es = subst (λ (k : List ℕ). Below k es) (compare_equal e.key key c) s.1 in
       rw (has_equal e es key c, equal_not_below key e es c, none_below key es later s.2) (ap (λ (m : ℕ). near m true 0 0) (omega arith))
 
   -- A higher entry is the first above, and none from it on stands below.
   near-higher : Sorted (e ∷ es) → compare_of e.key key ≡ Higher → near n false p (place_in key e) ≡ near_from n p key (e ∷ es)
-  unfolding near_from if◌then◌else◌ last_place first_place Below
+  unfolding near_from when◌then◌else◌ last_place first_place Below
   near-higher s c =
       let none = none_below key (e ∷ es) (compare_flip e.key key ∙ ap flip c) s in
       rw (has-higher e es key s c, none, higher_is-above key e es c) (ap (λ (m : ℕ). near m false p (place_in key e)) (omega arith))
@@ -112,11 +112,11 @@ near-from key at n p (e ∷ es) s = go (compare_of e.key key) refl (near-from ke
 
 -- What a section says of a key's neighbours says whether some entry has the key.
 pub near-there : (key : List ℕ) (es : List Entry) → (near_of key es).there ≡ has key es
-unfolding near_of if◌then◌else◌
+unfolding near_of when◌then◌else◌
 near-there key es = go (has key es) _ _ _ _
   where
     -- By whether one has it.
-    go : (b : Bool) (n m p q : ℕ) → (if b then near n true 0 0 else near m false p q).there ≡ b
+    go : (b : Bool) (n m p q : ℕ) → (when b then near n true 0 0 else near m false p q).there ≡ b
     go true n m p q = refl
     go false n m p q = refl
 
@@ -181,12 +181,12 @@ nowhere-small n h = record { below = h; low = h; high = h }
 
 -- Those in a section are, if its words are fewer by two.
 pub near-small : (n : ℕ) (key : List ℕ) (es : List Entry) → length (section_words es) + 1 < n → Small n (near_of key es)
-unfolding near_of if◌then◌else◌
+unfolding near_of when◌then◌else◌
 near-small n key es h = go (has key es)
   where
     -- By whether an entry has the key.
     go : (b : Bool)
-        → Small n (if b then near (length (entries_below key es)) true 0 0 else near (length (entries_below key es)) false (last_place 0 key (entries_below key es)) (first_place key (entries_above key es)))
+        → Small n (when b then near (length (entries_below key es)) true 0 0 else near (length (entries_below key es)) false (last_place 0 key (entries_below key es)) (first_place key (entries_above key es)))
     go true = record { below = omega (arith, below-few key es); low = omega arith; high = omega arith }
     go false = record {
       below = omega (arith, below-few key es);

@@ -8,7 +8,7 @@ use mathlib.Core.List.Memᴰ.{tail as there}
 use mathlib.Core.List.{List, [], ◌∷◌, ◌++◌}
 use native.Mathlib.Omega.{arith}
 use lib.ListN.{length, get_or, take, drop, length-append}
-use Rattle.words.specs.Base.{if◌then◌else◌, ◌∈◌}
+use Rattle.words.specs.Base.{when◌then◌else◌, ◌∈◌}
 use Rattle.words.specs.Compare.{compare_of, ◌≺◌, signed_of, size_of}
 use Rattle.words.specs.declared.Compared.{Compared}
 use Rattle.words.specs.declared.Compared.TheVariants.{Lower, Equal, Higher}
@@ -25,12 +25,12 @@ use Rattle.section.proofs.Counts.{lower-differs, below-lacks}
 
 -- Past a lower entry the key is still to be found.
 pub has-lower : (e : Entry) (es : List Entry) (key : List ℕ) → compare_of e.key key ≡ Lower → has key (e ∷ es) ≡ has key es
-unfolding has if◌then◌else◌
+unfolding has when◌then◌else◌
 has-lower e es key h = rw (lower-differs e.key key h)
 
 -- An entry told equal has the key.
 pub has_equal : (e : Entry) (es : List Entry) (key : List ℕ) → compare_of e.key key ≡ Equal → has key (e ∷ es) ≡ true
-unfolding has if◌then◌else◌
+unfolding has when◌then◌else◌
 has_equal e es key h = rw (compare_equal e.key key h, same-words key)
 
 -- From a higher entry on no entry has the key.
@@ -160,24 +160,24 @@ module _ (book key : List ℕ) (from many last at left : ℕ) (s : Searched book
 
   -- It stops where the key is found,
   pub stops_here : look key from 0 0 (entries many (drop from book)) ≡ At at (many - left) → SearchedTo book key from many (record { there = true; last = last; at = at; left = left })
-  unfolding found_at if◌then◌else◌
+  unfolding found_at when◌then◌else◌
   stops_here e = record { lies = searched_stopped; found = e }
 
   -- and where it is known not to be.
   pub stops_between : look key from 0 0 (entries many (drop from book)) ≡ Absent at (many - left) (place_at key book last (many - left)) (place_at key book at left)
       → SearchedTo book key from many (record { there = false; last = last; at = at; left = left })
-  unfolding found_at if◌then◌else◌
+  unfolding found_at when◌then◌else◌
   stops_between e = record { lies = searched_stopped; found = e }
 
 -- What a search that has stopped tells.
 module _ (book key : List ℕ) (from many : ℕ) (s : Stop) (t : SearchedTo book key from many s) where
   -- The key's entry, where it stopped there.
   pub told_here : s.there ≡ true → look key from 0 0 (entries many (drop from book)) ≡ At s.at (many - s.left)
-  unfolding found_at if◌then◌else◌
+  unfolding found_at when◌then◌else◌
   told_here e = t.found ∙ rw e
 
   -- Its place between its neighbours, where it did not.
   pub told-between : s.there ≡ false
       → look key from 0 0 (entries many (drop from book)) ≡ Absent s.at (many - s.left) (place_at key book s.last (many - s.left)) (place_at key book s.at s.left)
-  unfolding found_at if◌then◌else◌
+  unfolding found_at when◌then◌else◌
   told-between e = t.found ∙ rw e

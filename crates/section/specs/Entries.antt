@@ -1,7 +1,7 @@
 -- A section of the book (01, "The book"): counted entries, their words, the entries that words hold, where one stands, and the edits of
 -- teaching and withdrawing. A key is a tree's words; that it is a tree is not known here. Assumes nothing: these are definitions.
 use Rattle.std.specs.Prelude.{ℕ, zero, suc, ◌+◌, ◌*◌, ◌-◌, ◌/◌, ◌≤◌, Bool, true, false, List, [], ◌∷◌, ◌++◌, ◌≡◌, leb, length, get_or, take, drop}
-use Rattle.words.specs.Base.{if◌then◌else◌, same_words}
+use Rattle.words.specs.Base.{when◌then◌else◌, same_words}
 use Rattle.words.specs.Compare.{compare_of, ◌≺◌, signed_of, size_of}
 use Rattle.words.specs.declared.Compared.{Compared}
 use Rattle.words.specs.declared.Compared.TheVariants.{Lower, Equal, Higher}
@@ -58,11 +58,11 @@ span (suc n) ws = width ws + span n (drop (width ws) ws)
 -- Some entry has the key.
 unfoldable pub has : List ℕ → List Entry → Bool
 has key [] = false
-has key (e ∷ es) = if same_words e.key key then true else has key es
+has key (e ∷ es) = when same_words e.key key then true else has key es
 
 -- What an entry counts for a key.
 unfoldable pub counts_for : List ℕ → Entry → ℕ
-counts_for key e = if same_words e.key key then e.count else 0
+counts_for key e = when same_words e.key key then e.count else 0
 
 -- How often a key counts: 0 where no entry has it.
 unfoldable pub count_of : List ℕ → List Entry → ℕ
@@ -114,11 +114,11 @@ add n key (e ∷ es) =
 
 -- An entry more, unless its key has one: "once per teaching however often it occurs in it".
 unfoldable pub add_once : Entry → List Entry → List Entry
-add_once e es = if has e.key es then es else add e.count e.key es
+add_once e es = when has e.key es then es else add e.count e.key es
 
 -- One less of an entry: "takes out an entry that comes to 0".
 abbrev pub lessened : Entry → List Entry → List Entry
-lessened e es = if leb e.count 1 then es else counted e.key (e.count - 1) ∷ es
+lessened e es = when leb e.count 1 then es else counted e.key (e.count - 1) ∷ es
 
 -- One less of a key; nothing changes where it has no entry.
 unfoldable pub lower : List ℕ → List Entry → List Entry

@@ -1,7 +1,7 @@
 -- What a section says of a key's neighbours (02, "Say what the book expected"), over all of its entries, with no search; and what functions know
 -- of a search that has stopped. Assumes nothing: these are definitions.
 use Rattle.std.specs.Prelude.{ℕ, zero, suc, ◌+◌, ◌*◌, ◌-◌, ◌≤◌, ◌<◌, ◌≡◌, Bool, true, false, List, [], ◌∷◌, length, get_or, take, drop}
-use Rattle.words.specs.Base.{if◌then◌else◌, keep}
+use Rattle.words.specs.Base.{when◌then◌else◌, keep}
 use Rattle.words.specs.Compare.{before, signed_of, size_of}
 use Rattle.section.specs.Entries.{Entry, entries, has, place_in, look}
 use Rattle.section.specs.declared.Found.{Found}
@@ -39,7 +39,7 @@ first_place key (e ∷ es) = place_in key e
 -- 0 where there is no such entry, and 0 for both when the part is there"
 unfoldable pub near_of : List ℕ → List Entry → Neighbours
 near_of key es =
-    if has key es then near (length (entries_below key es)) true 0 0
+    when has key es then near (length (entries_below key es)) true 0 0
     else near (length (entries_below key es)) false (last_place 0 key (entries_below key es)) (first_place key (entries_above key es))
 
 -- The same by each case of a search's answer: a key that is found is there, and one that is not has its neighbours' places.
@@ -63,7 +63,7 @@ pub record Stopped (ws : List ℕ) (many last at left : ℕ) : Type 0 where
 -- What a search finds that has stopped: the key's entry, or the place between its neighbours.
 unfoldable pub found_at : List ℕ → List ℕ → ℕ → Stop → Found
 found_at key ws many s =
-    if s.there then At s.at (many - s.left)
+    when s.there then At s.at (many - s.left)
     else Absent s.at (many - s.left) (place_at key ws s.last (many - s.left)) (place_at key ws s.at s.left)
 
 -- A search for a key among so many entries from a word on has stopped there.

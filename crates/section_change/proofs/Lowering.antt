@@ -8,7 +8,7 @@ use native.Mathlib.Omega.{arith}
 use lib.Dec.{leb}
 use lib.ListN.{length, get_or, set}
 use borrow.Author.Tests.{leb-true, leb-false, le-leb, lt-leb}
-use Rattle.words.specs.Base.{if◌then◌else◌, same_words}
+use Rattle.words.specs.Base.{when◌then◌else◌, same_words}
 use Rattle.words.specs.Compare.{compare_of}
 use Rattle.words.specs.declared.Compared.{Compared}
 use Rattle.words.specs.declared.Compared.TheVariants.{Lower, Equal, Higher}
@@ -83,16 +83,16 @@ size-lower_all [] es = omega arith
 size-lower_all (o ∷ os) es = omega (arith, size-lower o.key (lower_all os es), size-lower_all os es)
 
 -- Each key of the other counts one less, down to 0, and the others the same.
-pub count-lower_all : (z : List ℕ) (os es : List Entry) → Sorted os → Sorted es → count_of z (lower_all os es) ≡ count_of z es - (if has z os then 1 else 0)
-unfolding Sorted lower_all has if◌then◌else◌
+pub count-lower_all : (z : List ℕ) (os es : List Entry) → Sorted os → Sorted es → count_of z (lower_all os es) ≡ count_of z es - (when has z os then 1 else 0)
+unfolding Sorted lower_all has when◌then◌else◌
 count-lower_all z [] es p s = omega arith
 count-lower_all z (o ∷ os) es p s = go (same_words o.key z) refl (count-lower_all z os es p.2 s)
   where
     one : count_of z (lower_all (o ∷ os) es) ≡ count_of z (lower_all os es) - counts_for z (counted o.key 1)
     one = count-lower o.key z (lower_all os es) (sorted-lower_all os es s)
 
-    go : (b : Bool) → same_words o.key z ≡ b → count_of z (lower_all os es) ≡ count_of z es - (if has z os then 1 else 0)
-        → count_of z (lower_all (o ∷ os) es) ≡ count_of z es - (if (if b then true else has z os) then 1 else 0)
+    go : (b : Bool) → same_words o.key z ≡ b → count_of z (lower_all os es) ≡ count_of z es - (when has z os then 1 else 0)
+        → count_of z (lower_all (o ∷ os) es) ≡ count_of z es - (when (when b then true else has z os) then 1 else 0)
     go true t ih = omega (arith, one, counts-own o.key z 1 t, rw (below-lacks z os (rw (words_same o.key z t) at p.1) p.2) at ih)
     go false t ih = omega (arith, one, counts-other o.key z 1 t)
 
@@ -128,23 +128,23 @@ lessened-apart e es =
 module _ (to kept at : ℕ) (ws : List ℕ) where
   -- An entry that counts at most 1 is taken out.
   pub lessened-words_out : get_or ws (at + 1) 0 ≤ 1 → lessened_words to kept at ws ≡ brought to kept at ws
-  unfolding lessened_words if◌then◌else◌
+  unfolding lessened_words when◌then◌else◌
   lessened-words_out h = rw (le-leb (get_or ws (at + 1) 0) 1 h)
 
   -- The gap then reaches past it.
   pub lessened-by_out : get_or ws (at + 1) 0 ≤ 1
       → lessened_by to kept at ws ≡ record { to = to + (at - kept); kept = at + 2 + 2 * get_or ws at 0; next = at + 2 + 2 * get_or ws at 0; out = 1 }
-  unfolding lessened_by if◌then◌else◌
+  unfolding lessened_by when◌then◌else◌
   lessened-by_out h = rw (le-leb (get_or ws (at + 1) 0) 1 h)
 
   -- An entry that counts more has one less.
   pub lessened-words_left : 1 < get_or ws (at + 1) 0 → lessened_words to kept at ws ≡ set ws (at + 1) (get_or ws (at + 1) 0 - 1)
-  unfolding lessened_words if◌then◌else◌
+  unfolding lessened_words when◌then◌else◌
   lessened-words_left h = rw (lt-leb (get_or ws (at + 1) 0) 1 h)
 
   -- The gap is then as it was.
   pub lessened-by_left : 1 < get_or ws (at + 1) 0 → lessened_by to kept at ws ≡ record { to = to; kept = kept; next = at + 2 + 2 * get_or ws at 0; out = 0 }
-  unfolding lessened_by if◌then◌else◌
+  unfolding lessened_by when◌then◌else◌
   lessened-by_left h = rw (lt-leb (get_or ws (at + 1) 0) 1 h)
 
   -- No more than the one entry is taken out.

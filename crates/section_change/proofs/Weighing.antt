@@ -11,7 +11,7 @@ use native.Mathlib.Omega.{arith}
 use lib.Dec.{leb}
 use lib.ListN.{length}
 use borrow.Author.Tests.{leb-true, le-leb}
-use Rattle.words.specs.Base.{◌and◌, if◌then◌else◌, ◌∈◌}
+use Rattle.words.specs.Base.{◌and◌, when◌then◌else◌, ◌∈◌}
 use Rattle.words.specs.Compare.{compare_of, ◌≺◌}
 use Rattle.words.specs.declared.Compared.{Compared}
 use Rattle.words.specs.declared.Compared.TheVariants.{Lower, Equal, Higher}
@@ -48,24 +48,24 @@ overfull-past (o ∷ os) e es h s = rw (count-lower_first e es o.key h, overfull
 module _ (o : Entry) (os : List Entry) (e : Entry) (es : List Entry) (same : e.key ≡ o.key) (s : Sorted (o ∷ os)) where
   -- An entry of the same key makes the other's first not lacking.
   pub lacking_same : lacking_words (o ∷ os) (e ∷ es) ≡ lacking_words os es
-  unfolding lacking_words Sorted if◌then◌else◌
+  unfolding lacking_words Sorted when◌then◌else◌
   lacking_same =
       rw (has_equal e es o.key (rw same (compare_self o.key)), lacking_past os e es (rw same s.1) s.2, zero-add)
 
   -- An entry of the same key passes if the two counts do, and otherwise the others decide.
-  overfull-same : Sorted (e ∷ es) → overfull (o ∷ os) (e ∷ es) ≡ (if leb (e.count + o.count) greatest_count then overfull os es else true)
+  overfull-same : Sorted (e ∷ es) → overfull (o ∷ os) (e ∷ es) ≡ (when leb (e.count + o.count) greatest_count then overfull os es else true)
   unfolding overfull Sorted
   overfull-same t = rw (entry-count o.key t (here refl) same, overfull-past os e es (rw same s.1) s.2)
 
 module _ (o : Entry) (os es : List Entry) (h : Below o.key es) (s : Sorted es) where
   -- The other's first entry is lacking where it stands below all.
   pub lacking_new : lacking_words (o ∷ os) es ≡ 2 + length o.key + lacking_words os es
-  unfolding lacking_words if◌then◌else◌
+  unfolding lacking_words when◌then◌else◌
   lacking_new = rw (below-lacks o.key es h s)
 
   -- An entry that is entered does not pass, if its own count does not.
   overfull-new : o.count ≤ greatest_count → overfull (o ∷ os) es ≡ overfull os es
-  unfolding overfull if◌then◌else◌
+  unfolding overfull when◌then◌else◌
   overfull-new fits = rw (below-absent o.key es h s, zero-add, le-leb o.count greatest_count fits)
 
 -- ---- the words that are lacking
@@ -85,14 +85,14 @@ lacking_size (o ∷ os) es p s =
 
 -- Where no words are lacking each of the other's entries has its key in the section.
 pub lacking_none : (os es : List Entry) → lacking_words os es ≡ 0 → (o : Entry) → o ∈ os → has o.key es ≡ true
-unfolding lacking_words if◌then◌else◌
+unfolding lacking_words when◌then◌else◌
 lacking_none [] es h i x'' = elim x'' [ ]
 lacking_none (o ∷ os) es h i (here q) = by_test (has o.key es) (λ t. rw q t) (λ t. absurd (omega (arith, rw t at h)))
 lacking_none (o ∷ os) es h i (there m) = lacking_none os es (omega (arith, h)) i m
 
 -- Where each of the other's entries has its key in the section no words are lacking.
 pub none-lacking : (os es : List Entry) → ((o : Entry) → o ∈ os → has o.key es ≡ true) → lacking_words os es ≡ 0
-unfolding lacking_words if◌then◌else◌
+unfolding lacking_words when◌then◌else◌
 none-lacking [] es h = refl
 none-lacking (o ∷ os) es h = rw (h o (here refl), none-lacking os es (λ i m. h i (there m)))
 
@@ -129,9 +129,9 @@ overfull-fitting (o ∷ os) es p s f =
     fitting-add o.count o.key (add_all os es) (sorted-add_all os es p.2 s)
     ∙ rw (counts, overfull-fitting os es p.2 s f) (both (leb (count_of o.key es + o.count) greatest_count))
   where
-    both : (b : Bool) → (b and not (overfull os es)) ≡ not (if b then overfull os es else true)
-    both true = unfold ◌and◌ if◌then◌else◌ in refl
-    both false = unfold ◌and◌ if◌then◌else◌ in refl
+    both : (b : Bool) → (b and not (overfull os es)) ≡ not (when b then overfull os es else true)
+    both true = unfold ◌and◌ when◌then◌else◌ in refl
+    both false = unfold ◌and◌ when◌then◌else◌ in refl
 
 -- ---- one pass over both
 
@@ -141,11 +141,11 @@ pub record Weighs (words : ℕ) (passes : Bool) (os es : List Entry) (lacking : 
   pub mine : Sorted es
   pub fits : fitting os ≡ true
   pub lacks : words ≡ lacking + lacking_words os es
-  pub passed : passes ≡ (if full then true else overfull os es)
+  pub passed : passes ≡ (when full then true else overfull os es)
 
 -- Before the first turn nothing is weighed.
 pub weighs_none : (os es : List Entry) → Sorted os → Sorted es → fitting os ≡ true → Weighs (lacking_words os es) (overfull os es) os es 0 false
-weighs_none os es p s f = record { theirs = p; mine = s; fits = f; lacks = sym (zero-add (lacking_words os es)); passed = unfold if◌then◌else◌ in refl }
+weighs_none os es p s f = record { theirs = p; mine = s; fits = f; lacks = sym (zero-add (lacking_words os es)); passed = unfold when◌then◌else◌ in refl }
 
 module _ {words : ℕ} {passes : Bool} {os : List Entry} {e : Entry} {es : List Entry} {lacking : ℕ} {full : Bool} where
   -- A turn past an entry that is below all of the other's weighs nothing.
@@ -161,7 +161,7 @@ module _ {words : ℕ} {passes : Bool} {os : List Entry} {e : Entry} {es : List 
 
   -- A turn past two entries of the same key weighs whether their counts pass together.
   pub weighs_same : {o : Entry} → Weighs words passes (o ∷ os) (e ∷ es) lacking full → e.key ≡ o.key
-      → Weighs words passes os es lacking (if leb (e.count + o.count) greatest_count then full else true)
+      → Weighs words passes os es lacking (when leb (e.count + o.count) greatest_count then full else true)
   unfolding Sorted fitting
   weighs_same {o} w k = record {
     theirs = w.theirs.2;
@@ -171,11 +171,11 @@ module _ {words : ℕ} {passes : Bool} {os : List Entry} {e : Entry} {es : List 
     passed = w.passed ∙ rw (overfull-same o os e es k w.theirs w.mine) (either full (leb (e.count + o.count) greatest_count));
   }
     where
-      either : (a b : Bool) → (if a then true else (if b then overfull os es else true)) ≡ (if (if b then a else true) then true else overfull os es)
-      either true true = unfold if◌then◌else◌ in refl
-      either true false = unfold if◌then◌else◌ in refl
-      either false true = unfold if◌then◌else◌ in refl
-      either false false = unfold if◌then◌else◌ in refl
+      either : (a b : Bool) → (when a then true else (when b then overfull os es else true)) ≡ (when (when b then a else true) then true else overfull os es)
+      either true true = unfold when◌then◌else◌ in refl
+      either true false = unfold when◌then◌else◌ in refl
+      either false true = unfold when◌then◌else◌ in refl
+      either false false = unfold when◌then◌else◌ in refl
 
 module _ {words : ℕ} {passes : Bool} {o : Entry} {os es : List Entry} {lacking : ℕ} {full : Bool} where
   -- A turn past an entry of the other's that is lacking weighs its words.
@@ -195,6 +195,6 @@ pub weighs_all : {words : ℕ} {passes : Bool} {es : List Entry} {lacking : ℕ}
 unfolding lacking_words overfull
 weighs_all {lacking = lacking} {full = full} w = ap₂ (λ (n : ℕ) (b : Bool). record { lacking = n; overfull = b }) (sym (w.lacks ∙ add-zero lacking)) (sym (w.passed ∙ same full))
   where
-    same : (b : Bool) → (if b then true else false) ≡ b
-    same true = unfold if◌then◌else◌ in refl
-    same false = unfold if◌then◌else◌ in refl
+    same : (b : Bool) → (when b then true else false) ≡ b
+    same true = unfold when◌then◌else◌ in refl
+    same false = unfold when◌then◌else◌ in refl

@@ -2,7 +2,7 @@
 -- A section changed by another one, whose keys ascend as well: what the other adds to it, what it takes from it, and what it would enter;
 -- and the words of a lent part whose first entries are changed. Assumes nothing: these are definitions.
 use Rattle.std.specs.Prelude.{ℕ, ◌+◌, ◌*◌, ◌-◌, ◌≤◌, Bool, true, false, List, [], ◌∷◌, ◌++◌, ◌≡◌, leb, length, get_or, set, take, drop, replicate}
-use Rattle.words.specs.Base.{◌and◌, if◌then◌else◌}
+use Rattle.words.specs.Base.{◌and◌, when◌then◌else◌}
 use Rattle.words.specs.Compare.{compare_of}
 use Rattle.words.specs.declared.Compared.{Compared}
 use Rattle.words.specs.declared.Compared.TheVariants.{Higher}
@@ -32,12 +32,12 @@ fitting (e ∷ es) = leb e.count greatest_count and fitting es
 -- How many words the entries take that the section lacks.
 unfoldable pub lacking_words : List Entry → List Entry → ℕ
 lacking_words [] es = 0
-lacking_words (o ∷ os) es = (if has o.key es then 0 else 2 + length o.key) + lacking_words os es
+lacking_words (o ∷ os) es = (when has o.key es then 0 else 2 + length o.key) + lacking_words os es
 
 -- "a touched count would pass 65,535"
 unfoldable pub overfull : List Entry → List Entry → Bool
 overfull [] es = false
-overfull (o ∷ os) es = if leb (count_of o.key es + o.count) greatest_count then overfull os es else true
+overfull (o ∷ os) es = when leb (count_of o.key es + o.count) greatest_count then overfull os es else true
 
 -- What the other's entries would do to the section.
 abbrev pub weighed : List Entry → List Entry → Weighed
@@ -86,10 +86,10 @@ entered to kept at entry ws = take to ws ++ (take (at - kept) (drop kept ws) ++ 
 
 -- The words once the entry at `at` has one less: if it comes to 0 those from `kept` up to it have moved down to `to`.
 unfoldable pub lessened_words : ℕ → ℕ → ℕ → List ℕ → List ℕ
-lessened_words to kept at ws = if leb (get_or ws (at + 1) 0) 1 then brought to kept at ws else set ws (at + 1) (get_or ws (at + 1) 0 - 1)
+lessened_words to kept at ws = when leb (get_or ws (at + 1) 0) 1 then brought to kept at ws else set ws (at + 1) (get_or ws (at + 1) 0 - 1)
 
 -- The gap then, which holds the entry if it comes to 0, the word past the entry, and how many entries were taken out.
 unfoldable pub lessened_by : ℕ → ℕ → ℕ → List ℕ → Lessened
 lessened_by to kept at ws =
-    if leb (get_or ws (at + 1) 0) 1 then record { to = to + (at - kept); kept = at + 2 + 2 * get_or ws at 0; next = at + 2 + 2 * get_or ws at 0; out = 1 }
+    when leb (get_or ws (at + 1) 0) 1 then record { to = to + (at - kept); kept = at + 2 + 2 * get_or ws at 0; next = at + 2 + 2 * get_or ws at 0; out = 1 }
     else record { to = to; kept = kept; next = at + 2 + 2 * get_or ws at 0; out = 0 }

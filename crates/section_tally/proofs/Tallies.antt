@@ -14,7 +14,7 @@ use lib.Dec.{eqb}
 use lib.ListN.{length, get_or, set, drop, drop_of_length-le}
 use lib.Seq.{drop-cons, get_or-drop}
 use borrow.Author.Tests.{eq-eqb, ne_eqb}
-use Rattle.words.specs.Base.{◌and◌, if◌then◌else◌, same_words, ◌∈◌}
+use Rattle.words.specs.Base.{◌and◌, when◌then◌else◌, same_words, ◌∈◌}
 use Rattle.words.specs.Compare.{compare_of, ◌≺◌}
 use Rattle.words.specs.declared.Compared.TheVariants.{Equal, Higher}
 use Rattle.words.proofs.Ordered.{≺-trans, compare_equal, compare_flip}
@@ -79,7 +79,7 @@ ascending (e ∷ es) s (suc i) (suc j) l h = ascending es s.2 i j (omega arith) 
 
 -- Where no entry has the key it is missing.
 sought_missing : (key : List ℕ) (es : List Entry) → ((i : ℕ) → i < length es → same_words (key_at es i) key ≡ false) → sought_in key es ≡ Missing
-unfolding sought_in if◌then◌else◌
+unfolding sought_in when◌then◌else◌
 sought_missing key [] h = refl
 sought_missing key (e ∷ es) h =
     let first : same_words e.key key ≡ false = h 0 (omega arith) in
@@ -88,7 +88,7 @@ sought_missing key (e ∷ es) h =
 -- Where the i-th entry has the key and none before it does, that is the one.
 sought_number : (key : List ℕ) (es : List Entry) (i : ℕ) → i < length es → key_at es i ≡ key → ((j : ℕ) → j < i → same_words (key_at es j) key ≡ false)
     → sought_in key es ≡ Number i
-unfolding sought_in if◌then◌else◌
+unfolding sought_in when◌then◌else◌
 sought_number key [] i h is others = absurd (not-suc-le-zero h)
 sought_number key (e ∷ es) zero h is others = let first : same_words e.key key ≡ true = rw is (same-words key) in rw first
 sought_number key (e ∷ es) (suc i) h is others =
@@ -154,7 +154,7 @@ module _ (key : List ℕ) (es : List Entry) where
 
 -- A key that is missing has no entry.
 pub sought_lacks : (key : List ℕ) (es : List Entry) → sought_in key es ≡ Missing → has key es ≡ false
-unfolding sought_in has if◌then◌else◌
+unfolding sought_in has when◌then◌else◌
 sought_lacks key [] h = refl
 sought_lacks key (e ∷ es) h = go (same_words e.key key) refl (sought_in key es) refl (sought_lacks key es)
   where
@@ -165,7 +165,7 @@ sought_lacks key (e ∷ es) h = go (same_words e.key key) refl (sought_in key es
 
 -- A key that is found has an entry, and the number is that of one.
 pub sought_has : (key : List ℕ) (es : List Entry) (i : ℕ) → sought_in key es ≡ Number i → (i < length es) × (has key es ≡ true)
-unfolding sought_in has if◌then◌else◌
+unfolding sought_in has when◌then◌else◌
 sought_has key [] i h = never cc
 sought_has key (e ∷ es) i h = go (same_words e.key key) refl (sought_in key es) refl (sought_has key es)
   where
@@ -190,19 +190,19 @@ length-each f os (e ∷ es) (c ∷ cs) = ap suc (length-each f os es cs)
 
 -- With no key none is changed.
 pub each_none : (f : ℕ → ℕ) (es : List Entry) (cs : List ℕ) → on_each f [] es cs ≡ cs
-unfolding on_each has if◌then◌else◌
+unfolding on_each has when◌then◌else◌
 each_none f [] cs = refl
 each_none f (e ∷ es) [] = refl
 each_none f (e ∷ es) (c ∷ cs) = rw (each_none f es cs)
 
 -- No count becomes less.
 pub tallied-least : (n : ℕ) (os es : List Entry) (cs : List ℕ) (i : ℕ) → get_or cs i 0 ≤ get_or (tallied n os es cs) i 0
-unfolding on_each if◌then◌else◌
+unfolding on_each when◌then◌else◌
 tallied-least n os [] cs i = omega arith
 tallied-least n os (e ∷ es) [] i = omega arith
 tallied-least n os (e ∷ es) (c ∷ cs) zero = go (has e.key os)
   where
-    go : (b : Bool) → c ≤ (if b then c + n else c)
+    go : (b : Bool) → c ≤ (when b then c + n else c)
     go true = omega arith
     go false = omega arith
 tallied-least n os (e ∷ es) (c ∷ cs) (suc i) = tallied-least n os es cs i
@@ -210,12 +210,12 @@ tallied-least n os (e ∷ es) (c ∷ cs) (suc i) = tallied-least n os es cs i
 -- By more keys no count becomes less.
 pub tallied-more : (n : ℕ) (os fs es : List Entry) (cs : List ℕ) → ((z : List ℕ) → has z os ≡ true → has z fs ≡ true) → (i : ℕ)
     → get_or (tallied n os es cs) i 0 ≤ get_or (tallied n fs es cs) i 0
-unfolding on_each if◌then◌else◌
+unfolding on_each when◌then◌else◌
 tallied-more n os fs [] cs h i = omega arith
 tallied-more n os fs (e ∷ es) [] h i = omega arith
 tallied-more n os fs (e ∷ es) (c ∷ cs) h zero = go (has e.key os) refl (has e.key fs) refl
   where
-    go : (a : Bool) → has e.key os ≡ a → (b : Bool) → has e.key fs ≡ b → (if a then c + n else c) ≤ (if b then c + n else c)
+    go : (a : Bool) → has e.key os ≡ a → (b : Bool) → has e.key fs ≡ b → (when a then c + n else c) ≤ (when b then c + n else c)
     go true p true q = omega arith
     go true p false q = no_test (sym q ∙ h e.key p)
     go false p true q = omega arith
@@ -224,12 +224,12 @@ tallied-more n os fs (e ∷ es) (c ∷ cs) h (suc i) = tallied-more n os fs es c
 
 -- Of another turn no mark comes.
 pub marked_other : (j turn : ℕ) (os es : List Entry) (ms : List ℕ) → (turn ≡ j → ⊥) → Unmarked j ms → Unmarked j (marked turn os es ms)
-unfolding on_each if◌then◌else◌
+unfolding on_each when◌then◌else◌
 marked_other j turn os [] ms other u i = u i
 marked_other j turn os (e ∷ es) [] other u i = u i
 marked_other j turn os (e ∷ es) (m ∷ ms) other u zero = go (has e.key os)
   where
-    go : (b : Bool) → (if b then turn else m) ≡ j → ⊥
+    go : (b : Bool) → (when b then turn else m) ≡ j → ⊥
     go true = other
     go false = u zero
 marked_other j turn os (e ∷ es) (m ∷ ms) other u (suc i) = marked_other j turn os es ms other (λ l. u (suc l)) i
@@ -237,15 +237,15 @@ marked_other j turn os (e ∷ es) (m ∷ ms) other u (suc i) = marked_other j tu
 -- ---- one key more
 
 -- The second list has one key more than the first, or the same.
-module _ (key : List ℕ) (os fs : List Entry) (more : (z : List ℕ) → has z fs ≡ (if same_words key z then true else has z os)) where
+module _ (key : List ℕ) (os fs : List Entry) (more : (z : List ℕ) → has z fs ≡ (when same_words key z then true else has z os)) where
   -- It has that key.
   more_own : has key fs ≡ true
-  unfolding if◌then◌else◌
+  unfolding when◌then◌else◌
   more_own = more key ∙ rw (same-words key)
 
   -- Another key it has if the first does.
   more_other : (z : List ℕ) → same_words key z ≡ false → has z fs ≡ has z os
-  unfolding if◌then◌else◌
+  unfolding when◌then◌else◌
   more_other z t = more z ∙ rw t
 
   module _ (f : ℕ → ℕ) where
@@ -260,7 +260,7 @@ module _ (key : List ℕ) (os fs : List Entry) (more : (z : List ℕ) → has z 
     -- What was changed for the first list, and then for the entry of that key, once a turn, is changed for the second.
     pub once_more : (turn : ℕ) (es : List Entry) (ms cs : List ℕ) → Sorted es → length ms ≡ length es → length cs ≡ length es → Unmarked turn ms
         → on_one f turn (sought_in key es) (marked turn os es ms) (on_each f os es cs) ≡ on_each f fs es cs
-    unfolding on_one on_each Sorted sought_in if◌then◌else◌
+    unfolding on_one on_each Sorted sought_in when◌then◌else◌
     once_more turn [] ms cs s lm lc u = refl
     once_more turn (e ∷ es) [] cs s lm lc u = absurd (omega arith)
     once_more turn (e ∷ es) (m ∷ ms) [] s lm lc u = absurd (omega arith)
@@ -280,15 +280,15 @@ module _ (key : List ℕ) (os fs : List Entry) (more : (z : List ℕ) → has z 
             → on_one f turn (sought_in key es) (marked turn os es ms) (on_each f os es cs) ≡ on_each f fs es cs
             → on_one f turn (sought_in key (e ∷ es)) (marked turn os (e ∷ es) (m ∷ ms)) (on_each f os (e ∷ es) (c ∷ cs)) ≡ on_each f fs (e ∷ es) (c ∷ cs)
         go true t r q later = rw t (own (words_same e.key key t) (has e.key os) refl)
-        go false t Missing q later = rw (t, q, more_other e.key (different e.key key t)) (ap (λ (l : List ℕ). (if has e.key os then f c else c) ∷ l) (rw q at later))
+        go false t Missing q later = rw (t, q, more_other e.key (different e.key key t)) (ap (λ (l : List ℕ). (when has e.key os then f c else c) ∷ l) (rw q at later))
         go false t (Number j) q later = rw (t, q, more_other e.key (different e.key key t)) (tail (eqb (get_or (marked turn os es ms) j 0) turn) refl (rw q at later))
           where
             tail : (b : Bool) → eqb (get_or (marked turn os es ms) j 0) turn ≡ b
-                → (if eqb (get_or (marked turn os es ms) j 0) turn then on_each f os es cs else set (on_each f os es cs) j (f (get_or (on_each f os es cs) j 0))) ≡ on_each f fs es cs
-                → (if eqb (get_or (marked turn os es ms) j 0) turn then ((if has e.key os then f c else c) ∷ on_each f os es cs)
-                else ((if has e.key os then f c else c) ∷ set (on_each f os es cs) j (f (get_or (on_each f os es cs) j 0)))) ≡ ((if has e.key os then f c else c) ∷ on_each f fs es cs)
-            tail true p ih = rw p (ap (λ (l : List ℕ). (if has e.key os then f c else c) ∷ l) (rw p at ih))
-            tail false p ih = rw p (ap (λ (l : List ℕ). (if has e.key os then f c else c) ∷ l) (rw p at ih))
+                → (when eqb (get_or (marked turn os es ms) j 0) turn then on_each f os es cs else set (on_each f os es cs) j (f (get_or (on_each f os es cs) j 0))) ≡ on_each f fs es cs
+                → (when eqb (get_or (marked turn os es ms) j 0) turn then ((when has e.key os then f c else c) ∷ on_each f os es cs)
+                else ((when has e.key os then f c else c) ∷ set (on_each f os es cs) j (f (get_or (on_each f os es cs) j 0)))) ≡ ((when has e.key os then f c else c) ∷ on_each f fs es cs)
+            tail true p ih = rw p (ap (λ (l : List ℕ). (when has e.key os then f c else c) ∷ l) (rw p at ih))
+            tail false p ih = rw p (ap (λ (l : List ℕ). (when has e.key os then f c else c) ∷ l) (rw p at ih))
 
 -- ---- all keys
 

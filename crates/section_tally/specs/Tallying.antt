@@ -1,7 +1,7 @@
 -- Inner: no promise rests on these definitions.
 -- Entries by the places where they start, and the counts and marks that a turn leaves for them. Assumes nothing: these are definitions.
 use Rattle.std.specs.Prelude.{ℕ, zero, suc, ◌+◌, ◌≤◌, ◌<◌, ◌≡◌, Bool, true, false, List, [], ◌∷◌, eqb, length, get_or, set, drop}
-use Rattle.words.specs.Base.{◌and◌, if◌then◌else◌, same_words, ◌∈◌}
+use Rattle.words.specs.Base.{◌and◌, when◌then◌else◌, same_words, ◌∈◌}
 use Rattle.figures.specs.Limits.{greatest_count}
 use Rattle.section.specs.Entries.{Entry, width, first_entry, has, Sorted}
 use Rattle.section_tally.specs.declared.EntryFound.{EntryFound}
@@ -33,7 +33,7 @@ next (Number i) = Number (suc i)
 -- Which entry has the key, counted from 0.
 unfoldable pub sought_in : List ℕ → List Entry → EntryFound
 sought_in key [] = Missing
-sought_in key (e ∷ es) = if same_words e.key key then Number 0 else next (sought_in key es)
+sought_in key (e ∷ es) = when same_words e.key key then Number 0 else next (sought_in key es)
 
 -- ---- counts and marks
 
@@ -46,7 +46,7 @@ has_all (o ∷ os) es = has o.key es and has_all os es
 unfoldable pub on_each : (ℕ → ℕ) → List Entry → List Entry → List ℕ → List ℕ
 on_each f os [] cs = cs
 on_each f os (e ∷ es) [] = []
-on_each f os (e ∷ es) (c ∷ cs) = (if has e.key os then f c else c) ∷ on_each f os es cs
+on_each f os (e ∷ es) (c ∷ cs) = (when has e.key os then f c else c) ∷ on_each f os es cs
 
 -- The counts, one for each entry of the second list, with n more for each whose key the first list has.
 abbrev pub tallied : ℕ → List Entry → List Entry → List ℕ → List ℕ
@@ -63,7 +63,7 @@ Unmarked turn ms = (i : ℕ) → get_or ms i 0 ≡ turn → ⊥
 -- The numbers, one for each entry, changed by f for the one that is sought, unless it has the turn's mark.
 unfoldable pub on_one : (ℕ → ℕ) → ℕ → EntryFound → List ℕ → List ℕ → List ℕ
 on_one f turn Missing ms cs = cs
-on_one f turn (Number i) ms cs = if eqb (get_or ms i 0) turn then cs else set cs i (f (get_or cs i 0))
+on_one f turn (Number i) ms cs = when eqb (get_or ms i 0) turn then cs else set cs i (f (get_or cs i 0))
 
 -- The counts with n more for the entry that is sought, once a turn.
 abbrev pub tallied_once : ℕ → ℕ → EntryFound → List ℕ → List ℕ → List ℕ

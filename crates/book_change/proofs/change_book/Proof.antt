@@ -129,7 +129,6 @@ change-section-requires-4 c κs =
 returns : tie.Need-returns
 unfolding changed_book
 returns c =
-    
     let s = start (one (two c.before.before.before.before.before.before)) in
     (next-stage _ (fourth s) _ (stage3 c.before.before.before.before.before.before) s.args.change Taught (other s) s.requires.1.1.0.taught c.change_section.new.book c.change_section.ensures.1).is
 

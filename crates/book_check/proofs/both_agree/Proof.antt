@@ -1,7 +1,6 @@
 -- `book_check::both_agree` meets its contract: the second book decides where the first agrees. Assumes nothing.
 use mathlib.Core.Path.{◌≡◌, sym, ◌∙◌}
 use mathlib.Core.Bool.{Bool, true}
-use borrow.Author.Tests.{not-true, not-false}
 use Rattle.words.specs.Base.{◌and◌}
 use Rattle.words.proofs.Tests.{fails_left}
 use Rattle.book_check.proofs.both_agree.Statement.{statement}

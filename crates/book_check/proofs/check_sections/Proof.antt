@@ -4,8 +4,7 @@ use mathlib.Core.Path.{◌≡◌, sym, ◌∙◌}
 use mathlib.Core.Bool.{true, false}
 use mathlib.Core.List.{List}
 use borrow.Author.Rules.{rules}
-use borrow.Author.Tests.{not-true, not-false}
-use Rattle.words.specs.Base.{if◌then◌else◌}
+use Rattle.words.specs.Base.{when◌then◌else◌}
 use Rattle.figures.specs.Numbers.{done, not_agreeing}
 use Rattle.figures.specs.Answers.{answered}
 use Rattle.book.specs.Decoding.{book_in}
@@ -21,12 +20,12 @@ use Rattle.book_check.proofs.check_sections.Tie as tie
 module _ (ws : List ℕ) (p : Places) (h : Holds ws p) where
   -- Where the book does not agree the answer is 9.
   check-not : agreeing (book_in ws) ≡ false → answered not_agreeing ≡ agree_of ws
-  unfolding if◌then◌else◌
+  unfolding when◌then◌else◌
   check-not e = sym (check_held ws (book_in ws) (held_book ws p h) ∙ rw e)
 
   -- Where it does the answer is 0.
   check_done : agreeing (book_in ws) ≡ true → answered done ≡ agree_of ws
-  unfolding if◌then◌else◌
+  unfolding when◌then◌else◌
   check_done e = sym (check_held ws (book_in ws) (held_book ws p h) ∙ rw e)
 
 returns : tie.Need-returns-then-not-agrees

@@ -7,7 +7,6 @@ use native.Mathlib.Omega.{arith}
 use lib.ListN.{length, get_or, take, drop, replicate, length-append, length-take, length-drop, length-replicate}
 use lib.Seq.{take_at}
 use borrow.Author.Rules.{rules}
-use borrow.Author.Tests.{not-true, not-false}
 use Rattle.words.specs.Base.{◌and◌, over}
 use Rattle.words.proofs.Tests.{fails_left}
 use Rattle.section.specs.Entries.{entries, span, Sorted}

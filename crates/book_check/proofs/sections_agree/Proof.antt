@@ -3,7 +3,6 @@ use mathlib.Core.Path.{◌≡◌, refl, sym, ◌∙◌}
 use mathlib.Core.Bool.{true, false}
 use native.Mathlib.Omega.{arith}
 use borrow.Author.Rules.{rules}
-use borrow.Author.Tests.{not-true, not-false}
 use Rattle.words.specs.Base.{◌and◌}
 use Rattle.words.proofs.Tests.{fails_left, fails_right}
 use Rattle.book.specs.Book.{Book, section_of}

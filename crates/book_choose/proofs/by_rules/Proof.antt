@@ -39,13 +39,10 @@ slice-aggregate-rule-at c = sym c.loop-left.invariant.1
 
 rule-at-requires : tie.Need-rule_at-requires invariant-loop decreases-loop
 rule-at-requires c κs =
-    
     (c.loop-left.invariant.0, c.requires.1.1.1, omega (arith, c.loop-left.invariant.1))
 
 returns-3 : tie.Need-returns-in_default invariant-loop decreases-loop
 returns-3 c =
-    
-    
     let none : AtRule c.args.k.k c.args.rules.now c.loop-left.at NoRule = rule_found _ _ _ _ _ c.rule_at.ensures.0 c.in_default.is in
     c.unchosen-in_default.ensures ∙ sym (c.loop-left.invariant.2 ∙ no_rule _ _ _ c.requires.0.sound _ _ _ c.loop-left-test.true none)
 
@@ -79,7 +76,6 @@ part-tree-end c = (stands c.before).lies
 with-rule-requires : tie.Need-with_rule-named-requires invariant-loop decreases-loop
 with-rule-requires c κs =
     let t = stands c.before.before in
-    
     let rest = length-drop (c.loop-left.at + 2) c.args.rules.now in
     let long = length-take-le (c.in-Ends.end - (c.loop-left.at + 2)) (drop (c.loop-left.at + 2) c.args.rules.now) (omega (arith, t.lies, rest)) in
     (c.requires.0, (c.requires.1.0, omega (arith, t.some-nodes, long)))
@@ -90,8 +86,6 @@ loop-less c = omega (arith, c.loop-left-test.true)
 loop-again : tie.Need-loop-left-preserved invariant-loop decreases-loop
 loop-again c =
     let t = stands c.before.before.before in
-    
-    
     let more = c.loop-left-test.true in (
       t.lies,
       c.rule_at.ensures.1 ∙ c.loop-left.invariant.1,
@@ -100,7 +94,6 @@ loop-again c =
 
 returns-4 : tie.Need-returns-then-at-rules invariant-loop decreases-loop
 returns-4 c =
-    
     let none : c.loop-left.left ≡ 0 = omega (arith, c.loop-left-test.false) in
     c.unchosen-then-at-rules.ensures
     ∙ sym (c.loop-left.invariant.2
@@ -109,7 +102,6 @@ returns-4 c =
 
 returns-5 : tie.Need-returns invariant-loop decreases-loop
 returns-5 c =
-    
     let none : c.loop-left.left ≡ 0 = omega (arith, c.loop-left-test.false) in
     c.told.ensures
     ∙ sym (c.loop-left.invariant.2

@@ -15,7 +15,6 @@ level-lines-requires c κs = (gone-over c.before.before.before, omega (arith, pa
 
 by-rules-requires : tie.Need-by_rules-requires
 by-rules-requires c κs =
-    
     (gone-over c.before.before.before.before.before.before.before, (c.level_lines.ensures.0, c.requires.1))
 
 pub image_for_spec : {M : Type 1} → statement M

@@ -4,7 +4,7 @@ use mathlib.Core.Path.{◌≡◌, sym, ap, ◌∙◌}
 use mathlib.Core.Bool.{true}
 use mathlib.Core.List.{List}
 use native.Mathlib.Omega.{arith}
-use borrow.Author.Tests.{not-true, not-false, eq-eqb, ne_eqb}
+use borrow.Author.Tests.{eq-eqb, ne_eqb}
 use lib.ListN.{length}
 use Rattle.words.proofs.Shifts.{tail_all}
 use Rattle.book.specs.Decoding.{sized}
@@ -56,7 +56,6 @@ part-read-rest-start c = omega (arith, long c.before.before)
 returns-4 : tie.Need-returns
 returns-4 c =
     let x = c.args in
-    
     c.read_rest.ensures
     ∙ ap (λ (bytes : List ℕ). read_rest_of bytes x.book.now) (tail_all front_bytes x.file.now (long c.before.before.before.before.before.before.before))
     ∙ sym (read-rest x.file.now x.book.now (right c.before.before.before.before.before.before.before.before.before) (marked c.before.before.before.before.before.before.before) (eq-eqb _ _ (sym c.word_at.ensures ∙ c.if-word_at-ne-VERSION.false)))

@@ -22,6 +22,7 @@ module _ (n : ℕ) (xs ys : List ℕ) (long : length ys ≡ n) where
   -- It has at least n words.
   fits : n ≤ length (put_mid 0 (n - 0) xs ys)
   fits = simp length-append (omega arith)
+
   -- Its first n are the others.
   front : take (n - 0) (drop 0 (put_mid 0 (n - 0) xs ys)) ≡ ys
   front = take_at ys (drop (n - 0) xs) (n - 0) (omega arith)

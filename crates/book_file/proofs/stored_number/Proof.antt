@@ -6,7 +6,7 @@ use mathlib.Core.List.{List}
 use lib.ListN.{length}
 use borrow.Author.Tests.{eq-eqb, ne_eqb}
 use borrow.Author.Rules.{rules}
-use Rattle.words.specs.Base.{if◌then◌else◌}
+use Rattle.words.specs.Base.{when◌then◌else◌}
 use Rattle.figures.specs.Numbers.{done, not_agreeing, no_stored_book}
 use Rattle.figures.specs.declared.Answer.{Answer}
 use Rattle.book.specs.Decoding.{book_in}
@@ -22,15 +22,15 @@ use Rattle.book_file.proofs.stored_number.Tie as tie
 
 -- Words that are not all used are answered by 14.
 more-words : (ws : List ℕ) (n : ℕ) → (n ≡ length ws → ⊥) → no_stored_book ≡ stored_number ws n
-unfolding stored_number if◌then◌else◌
+unfolding stored_number when◌then◌else◌
 more-words ws n x = rw (ne_eqb n (length ws) x)
 
 -- Words that are all used are answered as a check of their book is.
 just-used : (ws : List ℕ) (p : Places) → Holds ws p → p.used ≡ length ws → (agree_of ws).number ≡ stored_number ws p.used
-unfolding stored_number if◌then◌else◌
+unfolding stored_number when◌then◌else◌
 just-used ws p h e =
     ap (λ (a : Answer). a.number) (check_held ws (book_in ws) (held_book ws p h))
-    ∙ ap (λ (t : Bool). if not t then no_stored_book else if agreeing (book_in ws) then done else not_agreeing) (sym (eq-eqb p.used (length ws) e))
+    ∙ ap (λ (t : Bool). when not t then no_stored_book else when agreeing (book_in ws) then done else not_agreeing) (sym (eq-eqb p.used (length ws) e))
 
 returns : tie.Need-returns-then-places-words
 returns c = more-words _ _ c.if-places-words.true

@@ -40,7 +40,6 @@ part-put-words-end c = (told c.before.before.before.before.before.before).fits
 
 returns-3 : tie.Need-returns
 returns-3 c =
-    
     has_room _ _ _ _ _ c.wrote-2.ensures (told c.before.before.before.before.before.before.before.before.before.before.before.before).size c.if-out-count.false (file_over _ _ _ _ _ (told c.before.before.before.before.before.before.before.before.before.before.before.before) c.put_front.ensures c.put_words.ensures)
     ∙ sym (agreed_file _ _ (agreed c.before.before.before.before.before.before.before.before.before.before.before.before))
 

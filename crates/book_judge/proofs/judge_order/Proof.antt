@@ -31,7 +31,6 @@ level-lines-requires c κs = (gone-over c.before.before, omega (arith, passed-sh
 
 line-to-fix-requires : tie.Need-line_to_fix-judged-requires
 line-to-fix-requires c κs =
-    
     (c.requires, (gone-over c.before.before.before.before.before.before, c.level_lines.ensures.0))
 
 returns-2 : tie.Need-returns-then-judged-ne0
@@ -41,7 +40,6 @@ returns-2 c =
 
 top-near-requires : tie.Need-top_near-near-requires
 top-near-requires c κs =
-    
     (c.requires, (gone-over c.before.before.before.before.before.before.before.before.before.before.before, c.level_lines.ensures.0))
 
 -- No line is to be fixed.
@@ -54,12 +52,10 @@ topped c = ap (λ (r : Neighbours). r.there) c.top_near-near.ensures
 
 returns-3 : tie.Need-returns-then-near
 returns-3 c =
-    
     c.plainly-then-near.ensures ∙ sym (judge_passes _ _ _ c.requires (ordered c.before.before.before.before.before.before.before.before.before.before.before.before.before.before) (none c.before.before) (sym (topped c.before.before) ∙ c.if-near.true))
 
 returns-4 : tie.Need-returns
 returns-4 c =
-    
     ap (λ (r : Neighbours). record { answer = record { number = top_unknown; line = 1 }; near = r }) c.top_near-near.ensures
     ∙ sym (judge_top _ _ _ c.requires (ordered c.before.before.before.before.before.before.before.before.before.before.before.before.before) (none c.before) (sym (topped c.before) ∙ c.if-near.false))
 

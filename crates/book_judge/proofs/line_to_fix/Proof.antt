@@ -35,7 +35,6 @@ first-unknown-requires c κs =
 
 returns : tie.Need-returns-then-line-eq0 invariant-loop decreases-loop
 returns c =
-    
     subst (λ (n : ℕ). JudgedAt (book_in c.args.book.now) c.args.order.now n c.loop-places.found) (down_last _ _ _ _ _ _ c.loop-places.invariant.0 c.first_unknown-judged.ensures.at c.if-line-eq0.true) c.loop-places.invariant.1
 
 -- The lines to be gone over next, where one is unknown.

@@ -59,6 +59,7 @@ module _ (b : tie.Start) where
   -- It is ready for it.
   abbrev ReadyFor : ℕ → List ℕ → Type 0
   ReadyFor by os = TurnReady b.args.turn by (parts_in b.args.section b.args.k.k os) (listed b.args.starts.now b.args.book.now) b.args.counts.now b.args.marks.now
+
   -- It was taken for it.
   abbrev TakenFor : List ℕ → List ℕ → Bool → ℕ → List ℕ → Type 0
   TakenFor cs ms r by os = Taken b.args.turn by (parts_in b.args.section b.args.k.k os) (listed b.args.starts.now b.args.book.now) b.args.counts.now b.args.marks.now cs ms r

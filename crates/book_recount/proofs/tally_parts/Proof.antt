@@ -5,7 +5,6 @@ use mathlib.Core.Logic.{⊎_elim}
 use native.Mathlib.Omega.{arith}
 use lib.ListN.{length}
 use borrow.Author.Rules.{rules}
-use borrow.Author.Tests.{not-true, not-false}
 use Rattle.section_tally.specs.Tallying.{listed}
 use Rattle.section_tally.proofs.Starts.{length-listed}
 use Rattle.order.proofs.LineSpans.{spans-room}
@@ -55,8 +54,6 @@ is-low-requires c κs = omega (arith, c.loop-line-test.true, spans-room _ _ (cal
 
 tally-cut-requires : tie.Need-tally_cut-requires invariant-loop decreases-loop
 tally-cut-requires c κs =
-    
-    
     let b = called c.before.before.before.before.before.before in
     let st = c.loop-line.invariant in (
       b.requires.1.0,
@@ -89,7 +86,6 @@ returns c =
 
 loop-again : tie.Need-loop-line-preserved invariant-loop decreases-loop
 loop-again c =
-    
     let b = called c.before.before in
     let st = c.loop-line.invariant in
     ⊎_elim

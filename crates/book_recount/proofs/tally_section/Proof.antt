@@ -62,31 +62,24 @@ enum_told c = search rules
 
 tally-cut-requires : tie.Need-tally_cut-requires
 tally-cut-requires c κs =
-    
     let few = key-few _ _ _ _ _ _ c.requires.1.1.1.1.0.sorted (ready-in c.before.before.before.before.before.before.before.before.before.before.before.before Taught c.in-Taught.is) in
     (c.requires.1.0, (c.requires.1.1.0, (first-line _ c.requires.1.0.sound, (c.requires.1.1.1.0, (c.requires.1.1.1.1.0, (long c.before.before.before.before.before.before.before.before.before.before.before.before, few))))))
 
 tally-cut-requires-2 : tie.Need-tally_cut-requires-in-Tops
 tally-cut-requires-2 c κs =
-    
-    
     let ready = subst (ReadyFor c.before.before.before.before.before.before.before.before.before.before.before.before.before) (sym (top-is c.before.before.before.before.before.before.before.before.before.before.before.before.before _ c.of_tops-d.ensures)) (ready-in c.before.before.before.before.before.before.before.before.before.before.before.before.before Tops c.in-Tops.is) in
     (c.requires.1.0, (c.requires.1.1.0, (first-line _ c.requires.1.0.sound, (c.requires.1.1.1.0, (c.requires.1.1.1.1.0, (long c.before.before.before.before.before.before.before.before.before.before.before.before.before, key-few _ _ _ _ _ _ c.requires.1.1.1.1.0.sorted ready))))))
 
 tally-parts-requires : tie.Need-tally_parts-requires
 tally-parts-requires c κs =
-    
     (c.requires.0, (c.requires.1.0, (c.requires.1.1.0, (c.requires.1.1.1.0, (c.requires.1.1.1.1.0, ready-in c.before.before.before.before.before.before.before.before.before.before.before.before Lows c.in-Lows.is)))))
 
 tally-parts-requires-2 : tie.Need-tally_parts-requires-in-Middles
 tally-parts-requires-2 c κs =
-    
     (c.requires.0, (c.requires.1.0, (c.requires.1.1.0, (c.requires.1.1.1.0, (c.requires.1.1.1.1.0, ready-in c.before.before.before.before.before.before.before.before.before.before.before.before Middles c.in-Middles.is)))))
 
 returns : tie.Need-returns-in-Taught
 returns c =
-    
-    
     let told = c.in-Taught.is in
     let a = c.tally_cut.ensures in
     subst (TakenFor c.before.before.before.before.before.before.before.before.before.before.before.before.before.before.before.before.before.before.before _ _ _) (counted_is c.before.before.before.before.before.before.before.before.before.before.before.before.before.before.before.before.before.before.before Taught told)
@@ -94,9 +87,6 @@ returns c =
 
 returns-2 : tie.Need-returns-in-Tops
 returns-2 c =
-    
-    
-    
     let told = c.in-Tops.is in
     let one = top-is c.before.before.before.before.before.before.before.before.before.before.before.before.before.before.before.before.before.before.before.before _ c.of_tops-d.ensures in
     let a = c.tally_cut-in-Tops.ensures in
@@ -105,14 +95,10 @@ returns-2 c =
 
 returns-3 : tie.Need-returns-in-Lows
 returns-3 c =
-    
-    
     subst (TakenFor c.before.before.before.before.before.before.before.before.before.before.before.before.before.before.before.before.before.before.before _ _ _) (counted_is c.before.before.before.before.before.before.before.before.before.before.before.before.before.before.before.before.before.before.before Lows c.in-Lows.is) c.tally_parts.ensures
 
 returns-4 : tie.Need-returns-in-Middles
 returns-4 c =
-    
-    
     subst (TakenFor c.before.before.before.before.before.before.before.before.before.before.before.before.before.before.before.before.before.before.before _ _ _) (counted_is c.before.before.before.before.before.before.before.before.before.before.before.before.before.before.before.before.before.before.before Middles c.in-Middles.is) c.tally_parts-in-Middles.ensures
 
 pub tally_section_spec : {M : Type 1} → statement M

@@ -8,7 +8,6 @@ use mathlib.Core.List.{List, [], ◌∷◌}
 use native.Mathlib.Omega.{arith}
 use lib.ListN.{length, get_or, drop, replicate, length-replicate}
 use borrow.Author.Rules.{rules}
-use borrow.Author.Tests.{not-true, not-false}
 use Rattle.words.specs.Base.{◌and◌, ◌∈◌}
 use Rattle.words.proofs.Tests.{no_test, fails_left}
 use Rattle.figures.specs.Limits.{most_nodes, most_words, taught_word, head_words}
@@ -79,10 +78,12 @@ module _ (book starts : List ℕ) (s : Section) (counts₀ counts marks₀ marks
   last-known : left ≤ 0 → true ≡ all_known s (book_in book).k (book_in book).T (listed starts book)
   unfolding all_known entries
   last-known none = let z : left ≡ 0 = omega arith in sym (i.known ∙ ap (λ (n : ℕ). all_known s (book_in book).k (entries n (drop at book)) (listed starts book)) z)
+
   -- With none left all is tallied.
   last-counted : left ≤ 0 → counts ≡ tallied_all s (book_in book).k (book_in book).T (listed starts book) counts₀
   unfolding tallied_all entries
   last-counted none = let z : left ≡ 0 = omega arith in sym (i.counted ∙ ap (λ (n : ℕ). tallied_all s (book_in book).k (entries n (drop at book)) (listed starts book) counts) z)
+
   -- With none left all is marked.
   last-noted : left ≤ 0 → marks ≡ marked_all s (book_in book).k (book_in book).T (listed starts book) marks₀
   unfolding marked_all entries
@@ -94,23 +95,28 @@ module _ (book starts : List ℕ) (s : Section) (k : ℕ) (deep : k ≡ (book_in
   -- The others start at its end.
   first-apart : entries left (drop at book) ≡ first_entry (drop at book) ∷ entries (left - 1) (drop end book)
   first-apart = entries-step (drop at book) left more ∙ ap (λ (ws : List ℕ). first_entry (drop at book) ∷ entries (left - 1) ws) (past-at book at left end more ends)
+
   -- It is an entry of T.
   first-taught : first_entry (drop at book) ∈ (book_in book).T
   first-taught = i.taught _ (subst (λ (es : List Entry). first_entry (drop at book) ∈ es) (sym first-apart) (here refl))
+
   -- All is known if what it counts is, and what the others count.
   first-known : all_known s (book_in book).k (book_in book).T (listed starts book)
       ≡ (has_all (parts_in s k (first_entry (drop at book)).key) (listed starts book) and all_known s (book_in book).k (entries (left - 1) (drop end book)) (listed starts book))
   unfolding all_known
   first-known = rw deep (i.known ∙ ap (λ (es : List Entry). all_known s (book_in book).k es (listed starts book)) first-apart)
+
   -- All is tallied by tallying what it counts, and then what the others count.
   first_counted : tallied_all s (book_in book).k (book_in book).T (listed starts book) counts₀
       ≡ tallied_all s (book_in book).k (entries (left - 1) (drop end book)) (listed starts book)
       (tallied (first_entry (drop at book)).count (parts_in s k (first_entry (drop at book)).key) (listed starts book) counts)
   unfolding tallied_all
   first_counted = rw deep (i.counted ∙ ap (λ (es : List Entry). tallied_all s (book_in book).k es (listed starts book) counts) first-apart)
+
   -- It is the turn of as many orders as are left.
   first-turn : length (first_entry (drop at book) ∷ entries (left - 1) (drop end book)) ≡ left
   first-turn = omega (arith, length-entries (left - 1) (drop end book))
+
   -- All is marked by marking what it counts, and then what the others count.
   first-noted : marked_all s (book_in book).k (book_in book).T (listed starts book) marks₀
       ≡ marked_all s (book_in book).k (entries (left - 1) (drop end book)) (listed starts book) (marked left (parts_in s k (first_entry (drop at book)).key) (listed starts book) marks)
@@ -121,24 +127,28 @@ module _ (book starts : List ℕ) (s : Section) (k : ℕ) (deep : k ≡ (book_in
       rw deep
       (i.noted ∙ ap (λ (ts : List Entry). marked_all s (book_in book).k ts es marks) first-apart
       ∙ ap (λ (n : ℕ). marked_all s (book_in book).k (entries (left - 1) (drop end book)) es (marked n os es marks)) first-turn)
+
   -- If no count passes 65,535 in the end, none does by it.
   first-few : Few (tallied_all s (book_in book).k (book_in book).T (listed starts book) counts₀)
       → Few (tallied (first_entry (drop at book)).count (parts_in s k (first_entry (drop at book)).key) (listed starts book) counts)
   first-few few j =
       let cs = tallied (first_entry (drop at book)).count (parts_in s k (first_entry (drop at book)).key) (listed starts book) counts in
       omega (arith, all-grow s (book_in book).k (entries (left - 1) (drop end book)) (listed starts book) cs j, subst Few first_counted few j)
+
   -- The turn is ready for it.
   first-ready : Few (tallied_all s (book_in book).k (book_in book).T (listed starts book) counts₀)
       → TurnReady left (first_entry (drop at book)).count (parts_in s k (first_entry (drop at book)).key) (listed starts book) counts marks
   first-ready few =
       let each = sym (length-listed starts book) in
       record { counts = i.long ∙ each; marks = i.wide ∙ each; fresh = i.fresh left (omega arith) (omega arith); few = first-few few }
+
   -- The turn is taken.
   module _ (counts' marks' : List ℕ) (r : Bool)
       (t : Taken left (first_entry (drop at book)).count (parts_in s k (first_entry (drop at book)).key) (listed starts book) counts marks counts' marks' r) where
     -- If what it counts lacks an entry, not all is known.
     first-unknown : r ≡ false → false ≡ all_known s (book_in book).k (book_in book).T (listed starts book)
     first-unknown lacks = sym (first-known ∙ fails_left _ _ (sym t.told ∙ lacks))
+
     -- If not, those behind it are left.
     left-next : r ≡ true → length counts' ≡ length counts → length marks' ≡ length marks → Left book starts s counts₀ counts' marks₀ marks' end (left - 1)
     unfolding ◌and◌

@@ -2,7 +2,7 @@
 use mathlib.Core.Path.{refl}
 use borrow.Author.Tests.{eq-eqb, ne_eqb}
 use borrow.Author.Rules.{rules}
-use Rattle.words.specs.Base.{if◌then◌else◌}
+use Rattle.words.specs.Base.{when◌then◌else◌}
 use Rattle.book_choosing.specs.Walking.{also_of}
 use Rattle.book_rules.proofs.also.Statement.{statement}
 use Rattle.book_rules.proofs.also.Tie as tie
@@ -12,11 +12,11 @@ unfolding also_of
 returns c = rw c.in-Nothing.is refl
 
 returns-2 : tie.Need-returns-then-image-first
-unfolding also_of if◌then◌else◌
+unfolding also_of when◌then◌else◌
 returns-2 c = rw (c.in-One.is, eq-eqb _ _ c.if-image-first.true) refl
 
 returns-3 : tie.Need-returns-else-image-first
-unfolding also_of if◌then◌else◌
+unfolding also_of when◌then◌else◌
 returns-3 c = rw (c.in-One.is, ne_eqb _ _ c.if-image-first.false) refl
 
 returns-4 : tie.Need-returns-in-Two

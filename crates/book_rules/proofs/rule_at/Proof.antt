@@ -3,7 +3,6 @@ use Prim.Native.Nat.{◌+◌}
 use mathlib.Core.Path.{◌≡◌, refl, ap, sym, ◌∙◌}
 use mathlib.Core.Bool.{Bool}
 use native.Mathlib.Omega.{arith}
-use borrow.Author.Tests.{not-true, not-false}
 use borrow.Author.Rules.{rules}
 use Rattle.order.specs.Fits.{fits_of}
 use Rattle.book_choosing.specs.Rules.{sound_rule}
@@ -30,7 +29,6 @@ sound-by : (c : tie.After-fits) (b : Bool) → c.fits.result ≡ b →
     let a = c.args in
     sound_rule a.k.k (rule_within a.rules.now a.at (rule_past a.rules.now a.at)) ≡ b
 sound-by c b e =
-    
     let a = c.args in
     let r = rule_within a.rules.now a.at (rule_past a.rules.now a.at) in
     image-sound a.k.k r c.if-rules-at-lt-LEAST_IMAGE.false (omega (arith, c.shared_slice_known-3-1.given a.at))
@@ -40,12 +38,10 @@ sound-by c b e =
 
 returns-4 : tie.Need-returns-then-not-fits
 returns-4 c =
-    
     (told-fault _ _ _ (omega (arith, c.if-rules-at-lt2.false)) (omega (arith, c.if-rules-start.false, c.if-rules-at-lt2.false)) (sound-by c.before.before.before _ (c.if-not-fits.true)), c.fits.ensures.1)
 
 returns-5 : tie.Need-returns
 returns-5 c =
-    
     (told-rule _ _ _ (omega (arith, c.if-rules-at-lt2.false)) (omega (arith, c.if-rules-start.false, c.if-rules-at-lt2.false)) (sound-by c.before.before.before _ (c.if-not-fits.false)), c.fits.ensures.1)
 
 pub rule_at_spec : {M : Type 1} → statement M

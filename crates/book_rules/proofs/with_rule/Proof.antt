@@ -1,8 +1,7 @@
 -- `book_rules::with_rule` meets its contract: a rule that would not change what is named leaves it, fitting or not. Assumes nothing.
 use mathlib.Core.Path.{refl, sym, ◌∙◌}
-use borrow.Author.Tests.{not-true}
 use borrow.Author.Rules.{rules}
-use Rattle.words.specs.Base.{if◌then◌else◌}
+use Rattle.words.specs.Base.{when◌then◌else◌}
 use Rattle.book_choosing.proofs.Turns.{named_stays, fits-or_not}
 use Rattle.book_rules.proofs.with_rule.Statement.{statement}
 use Rattle.book_rules.proofs.with_rule.Tie as tie
@@ -11,11 +10,11 @@ returns : tie.Need-returns-then-not-would_change
 returns c = fits-or_not _ _ _ (named_stays _ _ (sym c.would_change.ensures ∙ c.if-not-would_change.true))
 
 returns-2 : tie.Need-returns-then-has_cut
-unfolding if◌then◌else◌
+unfolding when◌then◌else◌
 returns-2 c = rw (sym c.has_cut.ensures ∙ c.if-has_cut.true) c.also.ensures
 
 returns-3 : tie.Need-returns
-unfolding if◌then◌else◌
+unfolding when◌then◌else◌
 returns-3 c = rw (sym c.has_cut.ensures ∙ c.if-has_cut.false) refl
 
 pub with_rule_spec : {M : Type 1} → statement M

@@ -42,7 +42,6 @@ level-lines-requires c κs = (gone c.before.before.before.before, omega (arith, 
 
 list-own-requires : tie.Need-list_own-owns-requires
 list-own-requires c κs =
-    
     (allowed _ _ c.requires, (gone c.before.before.before.before.before.before.before.before.before.before, (c.level_lines.ensures.0, (omega arith, (all-zeros own_words, refl)))))
 
 weigh-book-requires : tie.Need-weigh_book-weighed-requires
@@ -51,9 +50,6 @@ weigh-book-requires c κs =
 
 returns-3 : tie.Need-returns-then-weighed
 returns-3 c =
-    
-    
-    
     told _ _ _ c.answered-then-weighed.ensures
     ∙ teach-overfull _ _ _ c.requires (ordered c.before.before.before.before.before.before.before.before.before.before.before.before.before.before.before.before) _ _ c.list_own-owns.ensures.0 c.list_own-owns.ensures.1 _ c.weigh_book-weighed.ensures c.if-weighed.true
 
@@ -63,30 +59,16 @@ sub-if4 c =
 
 returns-4 : tie.Need-returns-then-book-places
 returns-4 c =
-    
-    
-    
-    
     told _ _ _ c.answered-then-book-places.ensures
     ∙ teach-crowded _ _ _ c.requires (ordered c.before.before.before.before.before.before.before.before.before.before.before.before.before.before.before.before.before.before.before) _ _ c.list_own-owns.ensures.0 c.list_own-owns.ensures.1 _ c.weigh_book-weighed.ensures c.if-book.false c.if-weighed.false c.if-book-places.true
 
 change-book-requires : tie.Need-change_book-requires
 change-book-requires c κs =
-    
-    
-    
-    
     let ready = teach-ready _ _ _ c.requires (ordered c.before.before.before.before.before.before.before.before.before.before.before.before.before.before.before.before.before.before.before.before.before) _ _ c.list_own-owns.ensures.0 c.list_own-owns.ensures.1 _ c.weigh_book-weighed.ensures c.if-book.false c.if-weighed.false c.if-book-places.false in
     (c.requires, (listed c.before.before.before.before.before.before.before.before.before.before, (ready, ap (λ (x : BookWeighed). x.each) c.weigh_book-weighed.ensures)))
 
 returns-5 : tie.Need-returns
 returns-5 c =
-    
-    
-    
-    
-    
-    
     told _ _ _ c.answered-2.ensures
     ∙ teach-done _ _ _ c.requires (ordered c.before.before.before.before.before.before.before.before.before.before.before.before.before.before.before.before.before.before.before.before.before.before.before.before.before) _ _ c.list_own-owns.ensures.0 c.list_own-owns.ensures.1 _ c.weigh_book-weighed.ensures c.if-book.false c.if-weighed.false c.if-book-places.false _ c.change_book.ensures
 

@@ -37,7 +37,6 @@ level-lines-requires c κs = (gone c.before.before, omega (arith, passed-short _
 
 list-own-requires : tie.Need-list_own-owns-requires
 list-own-requires c κs =
-    
     (allowed _ _ c.requires, (gone c.before.before.before.before.before.before.before.before, (c.level_lines.ensures.0, (omega arith, (all-zeros own_words, refl)))))
 
 weigh-section-requires : tie.Need-weigh_section-taught-requires
@@ -46,9 +45,6 @@ weigh-section-requires c κs =
 
 returns-2 : tie.Need-returns-then-taught-gt0
 returns-2 c =
-    
-    
-    
     told _ _ _ c.answered-then-taught-gt0.ensures
     ∙ withdraw-untaught _ _ _ c.requires (ordered c.before.before.before.before.before.before.before.before.before.before.before.before.before.before.before) _ _ c.list_own-owns.ensures.0 c.list_own-owns.ensures.1 _ c.weigh_section-taught.ensures c.if-taught-gt0.true
 
@@ -58,32 +54,16 @@ lacking-parts-requires c κs =
 
 returns-3 : tie.Need-returns-then-lacking_parts-gt0
 returns-3 c =
-    
-    
-    
-    
-    
     told _ _ _ c.answered-then-lacking_parts-gt0.ensures
     ∙ withdraw-disagrees _ _ _ c.requires (ordered c.before.before.before.before.before.before.before.before.before.before.before.before.before.before.before.before.before.before) _ _ c.list_own-owns.ensures.0 c.list_own-owns.ensures.1 _ c.weigh_section-taught.ensures c.if-taught-gt0.false _ c.lacking_parts.ensures c.if-lacking_parts-gt0.true
 
 change-book-requires : tie.Need-change_book-requires
 change-book-requires c κs =
-    
-    
-    
-    
     let ready = withdraw-ready _ _ _ c.requires (ordered c.before.before.before.before.before.before.before.before.before.before.before.before.before.before.before.before.before.before.before) _ _ c.list_own-owns.ensures.0 c.list_own-owns.ensures.1 _ c.weigh_section-taught.ensures c.if-taught-gt0.false in
     (c.requires, (listed c.before.before.before.before.before.before.before.before.before.before, (ready, tt)))
 
 returns-4 : tie.Need-returns
 returns-4 c =
-    
-    
-    
-    
-    
-    
-    
     told _ _ _ c.answered-2.ensures
     ∙ withdraw-done _ _ _ c.requires (ordered c.before.before.before.before.before.before.before.before.before.before.before.before.before.before.before.before.before.before.before.before.before.before.before) _ _ c.list_own-owns.ensures.0 c.list_own-owns.ensures.1 _ c.weigh_section-taught.ensures c.if-taught-gt0.false _ c.lacking_parts.ensures c.if-lacking_parts-gt0.false _ c.change_book.ensures
 

@@ -2,7 +2,7 @@
 use mathlib.Core.Path.{◌≡◌, refl}
 use mathlib.Core.Bool.{Bool, true, false}
 use mir.Val.{bool_byte}
-use Rattle.words.specs.Base.{if◌then◌else◌}
+use Rattle.words.specs.Base.{when◌then◌else◌}
 use borrow.Author.Rules.{rules}
 use Rattle.ofb.proofs.told_judged.Statement.{statement}
 use Rattle.ofb.proofs.told_judged.Tie as tie
@@ -23,8 +23,8 @@ cast-t8 : tie.Need-overflow_cast-result-5
 cast-t8 c = search rules
 
 -- A test that passes is 1, and one that fails 0.
-byte-is : (b : Bool) → bool_byte b ≡ (if b then 1 else 0)
-unfolding if◌then◌else◌
+byte-is : (b : Bool) → bool_byte b ≡ (when b then 1 else 0)
+unfolding when◌then◌else◌
 byte-is true = refl
 byte-is false = refl
 

@@ -2,7 +2,7 @@
 use mathlib.Core.Path.{refl}
 use borrow.Author.Rules.{rules}
 use borrow.Author.Tests.{le-leb, lt-leb}
-use Rattle.words.specs.Base.{if◌then◌else◌}
+use Rattle.words.specs.Base.{when◌then◌else◌}
 use Rattle.order_cuts.proofs.next_line.Statement.{statement}
 use Rattle.order_cuts.proofs.next_line.Tie as tie
 
@@ -10,14 +10,14 @@ line-end-requires : tie.Need-line_end-requires
 line-end-requires c κs = search rules
 
 returns : tie.Need-returns-then-d-below
-unfolding if◌then◌else◌
+unfolding when◌then◌else◌
 returns c = rw (c.line_end.ensures, le-leb _ _ c.if-d-below.true) refl
 
 add-result : tie.Need-overflow_add-result
 add-result c = search rules
 
 returns-2 : tie.Need-returns
-unfolding if◌then◌else◌
+unfolding when◌then◌else◌
 returns-2 c = rw (lt-leb _ _ c.if-d-below.false) refl
 
 pub next_line_spec : {M : Type 1} → statement M

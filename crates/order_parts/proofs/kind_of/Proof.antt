@@ -1,15 +1,15 @@
 -- `order_parts::kind_of` meets its contract, by what it is told. Assumes nothing.
 use mathlib.Core.Path.{refl}
-use Rattle.words.specs.Base.{if◌then◌else◌}
+use Rattle.words.specs.Base.{when◌then◌else◌}
 use Rattle.order_parts.proofs.kind_of.Statement.{statement}
 use Rattle.order_parts.proofs.kind_of.Tie as tie
 
 returns : tie.Need-returns-then-low
-unfolding if◌then◌else◌
+unfolding when◌then◌else◌
 returns c = rw c.if-low.true refl
 
 returns-2 : tie.Need-returns-else-low
-unfolding if◌then◌else◌
+unfolding when◌then◌else◌
 returns-2 c = rw c.if-low.false refl
 
 pub kind_of_spec : {M : Type 1} → statement M

@@ -5,7 +5,7 @@ use mathlib.Core.Bool.{Bool}
 use native.Mathlib.Omega.{arith}
 use borrow.Author.Rules.{rules}
 use lib.Dec.{leb}
-use Rattle.words.specs.Base.{if◌then◌else◌}
+use Rattle.words.specs.Base.{when◌then◌else◌}
 use Rattle.order.specs.Parts.{is_low}
 use Rattle.order.specs.Standing.{cut_of}
 use Rattle.order.specs.Answers.{write, part_writing, of_kind}
@@ -52,7 +52,7 @@ returns-3 c =
     let s = stands-span _ _ over _ _ (has c.before.before.before.before.before.before.before.before.before) (stands c.before.before.before.before.before.before.before.before.before) in
     let low : c.is_low.result ≡ is_low x.k.k (has c.before.before.before.before.before.before.before.before.before).spot.tree = c.is_low.ensures ∙ ap (λ (n : ℕ). leb n (x.k.k - 2)) s.3 in
     ap₂ of_kind
-    (c.kind_of-kind.ensures ∙ ap (λ (b : Bool). if b then Low else Middle) low)
+    (c.kind_of-kind.ensures ∙ ap (λ (b : Bool). when b then Low else Middle) low)
     (c.cut_line-written.ensures ∙ ap₂ (λ (n d : ℕ). write (cut_of x.order.now n d) x.out.now) s.1 c.of_middles.ensures)
     ∙ sym (part-has _ _ _ (has c.before.before.before.before.before.before.before.before.before) _ _)
 

@@ -4,7 +4,7 @@ use Prim.Native.Nat.{ℕ}
 use mathlib.Core.Path.{◌≡◌, refl, sym, ap, ◌∙◌}
 use mathlib.Core.Bool.{Bool, true, false}
 use mathlib.Core.List.{List}
-use Rattle.words.specs.Base.{if◌then◌else◌, ◌exactly_when◌}
+use Rattle.words.specs.Base.{when◌then◌else◌, ◌exactly_when◌}
 use Rattle.words.proofs.Tests.{no_test}
 use Rattle.figures.specs.Numbers.{done, book_size, not_in_form, not_agreeing}
 use Rattle.figures.specs.Answers.{answered}
@@ -26,7 +26,7 @@ use Rattle.promises.proofs.Laws.Remaining.{Begun, after-book, after-agrees}
 module _ (ws : List ℕ) where
   -- What is answered by a book that passes the test of agreeing or does not.
   abbrev by_test : Bool → Answer
-  by_test x = answered (if x then done else not_agreeing)
+  by_test x = answered (when x then done else not_agreeing)
 
   -- Checking refuses by 4 or 5 where the words have such a reason.
   unbooked : (n : ℕ) → WhyForm ws (Refused n) → agree_of ws ≡ answered n
@@ -39,12 +39,12 @@ module _ (ws : List ℕ) where
 
     -- One that passes is answered by 0,
     passed-0 : agreeing b ≡ true → agree_of ws ≡ answered done
-    unfolding if◌then◌else◌
+    unfolding when◌then◌else◌
     passed-0 e = check_held ws b i ∙ ap by_test e
 
     -- and one that does not by 9.
     failed_9 : agreeing b ≡ false → agree_of ws ≡ answered not_agreeing
-    unfolding if◌then◌else◌
+    unfolding when◌then◌else◌
     failed_9 e = check_held ws b i ∙ ap by_test e
 
   -- What checking answers has a row of 01's table.

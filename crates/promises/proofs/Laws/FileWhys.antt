@@ -10,7 +10,7 @@ use native.Mathlib.Omega.{arith}
 use borrow.Author.Tests.{le-leb, eqb-true, eq-eqb}
 use lib.Dec.{leb, eqb}
 use lib.ListN.{length, take, drop, length-drop, take-append-drop}
-use Rattle.words.specs.Base.{◌and◌, if◌then◌else◌, same_words}
+use Rattle.words.specs.Base.{◌and◌, when◌then◌else◌, same_words}
 use Rattle.words.proofs.Tests.{no_test, and_right, and_both, fails_right, same-words, words_same}
 use Rattle.figures.specs.Limits.{head_words, most_book_words}
 use Rattle.figures.specs.Answers.{answered}
@@ -46,12 +46,12 @@ module _ (ws out : List ℕ) where
   module _ (b : Book) (i : IsBook ws b) where
     -- A book that does not pass the test of agreeing is refused by 9.
     not_filed : agreeing b ≡ false → write_file_of ws out ≡ refuse not_agreeing out
-    unfolding if◌then◌else◌
+    unfolding when◌then◌else◌
     not_filed e = file_by ws out b i false e
 
     -- A book that agrees with itself is written.
     pub agrees-filed : Agrees b → write_file_of ws out ≡ write (file_of b) out
-    unfolding if◌then◌else◌
+    unfolding when◌then◌else◌
     agrees-filed g = file_by ws out b i true ((sound-agreeing b i.sound).1 g)
 
     -- One that does not is refused by 9.

@@ -6,7 +6,7 @@ use mathlib.Core.List.{List, [], ◌∷◌, ◌++◌, append_assoc, append-nil}
 use native.Mathlib.Omega.{arith}
 use borrow.Author.Tests.{le-leb}
 use lib.Dec.{leb}
-use Rattle.words.specs.Base.{if◌then◌else◌, ◌and◌}
+use Rattle.words.specs.Base.{when◌then◌else◌, ◌and◌}
 use Rattle.figures.specs.Numbers.{low_unknown}
 use Rattle.section.specs.Entries.{has}
 use Rattle.order.specs.Trees.{Tree, node, Forest, bare, cons, words, depth, subtrees, subtrees_f, below}
@@ -19,22 +19,22 @@ use Rattle.promises.specs.Heard.{first_leaf, leaf_in}
 module _ (b : Book) (no-lows : b.L ≡ []) (no-middles : b.P ≡ []) where
   -- It knows no part.
   knows-none : (s : Tree) → knows b s ≡ false
-  unfolding knows has if◌then◌else◌
+  unfolding knows has when◌then◌else◌
   knows-none s = go (is_low b.k s)
     where
       -- By the kind of the part.
-      go : (low : Bool) → (if low then has (words s) b.L else has (words (middle b.k s)) b.P) ≡ false
+      go : (low : Bool) → (when low then has (words s) b.L else has (words (middle b.k s)) b.P) ≡ false
       go true = rw no-lows
       go false = rw no-middles
 
   -- A leaf is to be fixed.
   leaf_fix : (c line : ℕ) (rest : List Tree) → least_to_fix b line (node c bare ∷ rest) ≡ doubt line (node c bare)
-  unfolding least_to_fix to_fix below subtrees knows_each if◌then◌else◌
+  unfolding least_to_fix to_fix below subtrees knows_each when◌then◌else◌
   leaf_fix c line rest = rw (knows-none (node c bare))
 
   -- A node with children is not.
   inner_not : (c line : ℕ) (t : Tree) (f : Forest) (rest : List Tree) → least_to_fix b line (node c (cons t f) ∷ rest) ≡ least_to_fix b (suc line) rest
-  unfolding least_to_fix to_fix below subtrees knows_each if◌then◌else◌ ◌and◌
+  unfolding least_to_fix to_fix below subtrees knows_each when◌then◌else◌ ◌and◌
   inner_not c line (node d g) f rest = rw (knows-none (node c (cons (node d g) f)), knows-none (node d g))
 
   -- So the first leaf is the line to fix, whatever follows.
@@ -55,7 +55,7 @@ module _ (b : Book) (no-lows : b.L ≡ []) (no-middles : b.P ≡ []) where
 
   -- The verdict on any order.
   pub leaf_verdict : (t : Tree) → verdict b t ≡ record { number = low_unknown; line = first_leaf t }
-  unfolding verdict verdict_on is_low if◌then◌else◌
+  unfolding verdict verdict_on is_low when◌then◌else◌
   leaf_verdict t =
       let r = first_leaf_lem t 0 [] in
       let none_more : 0 + first_leaf t ≡ first_leaf t = omega arith in

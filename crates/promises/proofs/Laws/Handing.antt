@@ -8,7 +8,7 @@ use native.Mathlib.Omega.{arith}
 use lib.Dec.{eqb}
 use lib.ListN.{length, drop, length-append, length-drop}
 use Rattle.words.proofs.Tests.{never}
-use Rattle.words.specs.Base.{◌and◌, if◌then◌else◌, same_words}
+use Rattle.words.specs.Base.{◌and◌, when◌then◌else◌, same_words}
 use Rattle.figures.specs.Limits.{least_k, greatest_k, most_input}
 use Rattle.figures.specs.Numbers.{done, no_form}
 use Rattle.order.specs.Trees.{Tree, words}
@@ -113,12 +113,12 @@ forms-make (c ∷ cs) = simp length-append (omega (arith, form-makes c, forms-ma
 
 -- Orders with one such less are no more than they were.
 fewer : (os : List ℕ) (orders : List (List ℕ)) → length (without os orders) ≤ length orders
-unfolding without if◌then◌else◌
+unfolding without when◌then◌else◌
 fewer os [] = omega arith
 fewer os (p ∷ ps) = go (same_words p os) (fewer os ps)
   where
     -- By whether the first is such.
-    go : (b : Bool) → length (without os ps) ≤ length ps → length (if b then ps else p ∷ without os ps) ≤ length (p ∷ ps)
+    go : (b : Bool) → length (without os ps) ≤ length ps → length (when b then ps else p ∷ without os ps) ≤ length (p ∷ ps)
     go true h = omega arith
     go false h = omega arith
 
@@ -164,17 +164,17 @@ forms-one (c ∷ cs) = one-both (made_of c) (made_by cs) (form-one c) (forms-one
 
 -- After a call with one order one order more remains at most.
 one-more_left : (c : Call) (n : ℕ) (orders : List (List ℕ)) → OneOrder c → length (remain_by c n orders) ≤ suc (length orders)
-unfolding if◌then◌else◌
+unfolding when◌then◌else◌
 one-more_left (teach os) n orders p = go (eqb n done)
   where
     -- By whether it is done.
-    go : (b : Bool) → length (if b then os ∷ orders else orders) ≤ suc (length orders)
+    go : (b : Bool) → length (when b then os ∷ orders else orders) ≤ suc (length orders)
     go true = omega arith
     go false = omega arith
 one-more_left (withdraw os) n orders p = go (eqb n done)
   where
     -- By whether it is done.
-    go : (b : Bool) → length (if b then without os orders else orders) ≤ suc (length orders)
+    go : (b : Bool) → length (when b then without os orders else orders) ≤ suc (length orders)
     go true = omega (arith, fewer os orders)
     go false = omega arith
 one-more_left (join vs) n orders p = absurd p

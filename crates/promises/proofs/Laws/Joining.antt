@@ -7,7 +7,7 @@ use mathlib.Core.List.{List, [], ◌∷◌, ◌++◌}
 use native.Mathlib.Omega.{arith}
 use borrow.Author.Tests.{lt-leb}
 use lib.ListN.{length}
-use Rattle.words.specs.Base.{if◌then◌else◌}
+use Rattle.words.specs.Base.{when◌then◌else◌}
 use Rattle.words.proofs.Tests.{no_test}
 use Rattle.figures.specs.Limits.{greatest_count}
 use Rattle.figures.specs.Numbers.{done}
@@ -129,7 +129,7 @@ module _ (ws vs : List ℕ) where
 pub joins-as_taught : (ws vs : List ℕ) → (join_of ws vs).answer.number ≡ done → (b c : Book) → IsBook ws b → IsBook vs c → (slice : List ℕ) → length slice ≡ length ws
     → (qs : List (List ℕ)) → SameOrders qs (orders_in c.T ++ orders_in b.T)
     → NoneRefused qs (open_of slice b.k).words × (taught_all qs (open_of slice b.k).words ≡ (join_of ws vs).words)
-unfolding after_by remaining_by if◌then◌else◌
+unfolding after_by remaining_by when◌then◌else◌
 joins-as_taught ws vs e b c i j slice long qs same =
     let d : Done ws vs = was_joined ws vs e in
     let first : d.first ≡ b = book-only ws d.first b d.both.is_first i in

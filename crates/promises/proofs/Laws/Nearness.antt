@@ -11,7 +11,7 @@ use native.Mathlib.Omega.{arith}
 use borrow.Author.Tests.{eqb-true, eqb-false}
 use lib.Dec.{eqb}
 use lib.ListN.{length}
-use Rattle.words.specs.Base.{if◌then◌else◌, keep, ◌∈◌}
+use Rattle.words.specs.Base.{when◌then◌else◌, keep, ◌∈◌}
 use Rattle.words.specs.Compare.{compare_of, ◌≺◌}
 use Rattle.words.specs.Differences.{FirstDiffers, IsLower}
 use Rattle.words.specs.declared.Compared.{Compared}
@@ -189,12 +189,12 @@ place-above key es s = go (first_of key es s)
 
 -- An ascending section says of a key what `near_of` tells.
 pub near_of_lem : (key : List ℕ) (es : List Entry) → Sorted es → IsNear key es (near_of key es)
-unfolding near_of if◌then◌else◌
+unfolding near_of when◌then◌else◌
 near_of_lem key es s = go (has key es) refl
   where
     -- By whether an entry has the key.
     go : (b : Bool) → has key es ≡ b → let lows = entries_below key es in
-        IsNear key es (if b then near (length lows) true 0 0 else near (length lows) false (last_place 0 key lows) (first_place key (entries_above key es)))
+        IsNear key es (when b then near (length lows) true 0 0 else near (length lows) false (last_place 0 key lows) (first_place key (entries_above key es)))
     go true e =
         let x = has-entry key es e in
         record { below = below-many key es; stands = it_is_there (record { entry = x.0; there = x.1; same = x.2 }) refl refl refl }
@@ -290,19 +290,19 @@ data HandsOn (b : Book) (t : Tree) (a : Answer) (r : Neighbours) : Type 0 where
 
 -- The verdict and what is expected go together so.
 hands_on : (b : Book) (t : Tree) → HandsOn b t (verdict b t) (expected b t)
-unfolding verdict verdict_on expected expected_on near_top near_part if◌then◌else◌ tree_of_line
+unfolding verdict verdict_on expected expected_on near_top near_part when◌then◌else◌ tree_of_line
 hands_on b t = go (least-is b 0 (subtrees t))
   where
     -- Where no line is doubted, by whether R has the top.
     tops : (x : Bool)
-        → HandsOn b t (if x then answered done else record { number = top_unknown; line = 1 }) (if x then nowhere else near_of (words (top b.k t)) b.R)
+        → HandsOn b t (when x then answered done else record { number = top_unknown; line = 1 }) (when x then nowhere else near_of (words (top b.k t)) b.R)
     tops true = hands_nothing refl refl
     tops false = hands_top refl refl
 
     -- At the doubted line, by whether its subtree is low.
     lines : (j : ℕ) (s : Tree) → tree_at (subtrees t) j ≡ found s → (x : Bool)
-        → HandsOn b t (record { number = if x then low_unknown else middle_unknown; line = suc j })
-        (if x then near_of (words s) b.L else near_of (words (middle b.k s)) b.P)
+        → HandsOn b t (record { number = when x then low_unknown else middle_unknown; line = suc j })
+        (when x then near_of (words s) b.L else near_of (words (middle b.k s)) b.P)
     lines j s at true = hands_low s refl at refl
     lines j s at false = hands_middle s refl at refl
 

@@ -9,7 +9,7 @@ use mathlib.Core.List.Memᴰ.{tail as there}
 use mathlib.Core.List.{List, [], ◌∷◌}
 use native.Mathlib.Omega.{arith}
 use lib.ListN.{length}
-use Rattle.words.specs.Base.{if◌then◌else◌, same_words, ◌∈◌}
+use Rattle.words.specs.Base.{when◌then◌else◌, same_words, ◌∈◌}
 use Rattle.words.proofs.Tests.{no_test, same-words, words_same, by_test}
 use Rattle.figures.specs.Limits.{greatest_depth, least_k, greatest_k, greatest_count}
 use Rattle.section.specs.Entries.{counts_for, count_of, total, Sorted}
@@ -55,13 +55,13 @@ one-order_more os rest f all ps (there m) = all ps m
 
 -- An order stands at least once among orders with it.
 in_times : (os : List ℕ) {orders : List (List ℕ)} → os ∈ orders → 1 ≤ times_of os orders
-unfolding times_of if◌then◌else◌
+unfolding times_of when◌then◌else◌
 in_times os (here {x} {xs} e) = let q : same_words x os ≡ true = rw e (same-words x) in rw q (omega arith)
 in_times os (there {x} {xs} m) = omega (arith, in_times os m)
 
 -- One that stands at least once is among them.
 times-in : (os : List ℕ) (orders : List (List ℕ)) → 1 ≤ times_of os orders → os ∈ orders
-unfolding times_of if◌then◌else◌
+unfolding times_of when◌then◌else◌
 times-in os [] h = absurd (omega arith)
 times-in os (p ∷ ps) h = go (same_words p os) refl (times-in os ps)
   where
@@ -72,26 +72,26 @@ times-in os (p ∷ ps) h = go (same_words p os) refl (times-in os ps)
 
 -- Orders with one such less are among the orders.
 pub without_in : (os ps : List ℕ) (orders : List (List ℕ)) → ps ∈ without os orders → ps ∈ orders
-unfolding without if◌then◌else◌
+unfolding without when◌then◌else◌
 without_in os ps [] m = m
 without_in os ps (q ∷ qs) m = go (same_words q os) m (without_in os ps qs)
   where
     -- By whether the first is the one that is left out.
-    go : (b : Bool) → ps ∈ (if b then qs else q ∷ without os qs) → (ps ∈ without os qs → ps ∈ qs) → ps ∈ q ∷ qs
+    go : (b : Bool) → ps ∈ (when b then qs else q ∷ without os qs) → (ps ∈ without os qs → ps ∈ qs) → ps ∈ q ∷ qs
     go true i next = there i
     go false (here e) next = here e
     go false (there i) next = there (next i)
 
 -- One such less is one less of it, and as many of any other.
 pub times-without : (os ps : List ℕ) (orders : List (List ℕ)) → 1 ≤ times_of os orders
-    → (if same_words os ps then 1 else 0) + times_of ps (without os orders) ≡ times_of ps orders
-unfolding without times_of if◌then◌else◌
+    → (when same_words os ps then 1 else 0) + times_of ps (without os orders) ≡ times_of ps orders
+unfolding without times_of when◌then◌else◌
 times-without os ps [] h = absurd (omega arith)
 times-without os ps (q ∷ qs) h = go (same_words q os) refl (times-without os ps qs)
   where
     -- By whether the first is the one that is left out.
-    go : (b : Bool) → same_words q os ≡ b → (1 ≤ times_of os qs → (if same_words os ps then 1 else 0) + times_of ps (without os qs) ≡ times_of ps qs)
-        → (if same_words os ps then 1 else 0) + times_of ps (if b then qs else q ∷ without os qs) ≡ (if same_words q ps then 1 else 0) + times_of ps qs
+    go : (b : Bool) → same_words q os ≡ b → (1 ≤ times_of os qs → (when same_words os ps then 1 else 0) + times_of ps (without os qs) ≡ times_of ps qs)
+        → (when same_words os ps then 1 else 0) + times_of ps (when b then qs else q ∷ without os qs) ≡ (when same_words q ps then 1 else 0) + times_of ps qs
     go true e next = rw (words_same q os e)
     go false e next = let i : 1 ≤ 0 + times_of os qs = rw e at h in omega (arith, next (omega arith))
 
@@ -256,7 +256,7 @@ count-times k ps (os ∷ rest) all =
     ap (λ (b : Book). count_of ps b.T) (booked-first k os rest f.tree f.is_order) ∙ go f.tree f.is_order.spelt (count-times k ps rest (later os rest all))
   where
     -- By the tree of the first order.
-    go : (t : Tree) → os ≡ words t → count_of ps (booked k rest).T ≡ times_of ps rest → count_of ps (taught 1 t (booked k rest)).T ≡ (if same_words os ps then 1 else 0) + times_of ps rest
+    go : (t : Tree) → os ≡ words t → count_of ps (booked k rest).T ≡ times_of ps rest → count_of ps (taught 1 t (booked k rest)).T ≡ (when same_words os ps then 1 else 0) + times_of ps rest
     go t e next = unfold taught counts_for in rw (count_add 1 (words t) ps (booked k rest).T, next, e) refl
 
 -- ---- in form
@@ -287,7 +287,7 @@ module _ (k : ℕ) where
   -- The book of orders is that with one such less, with a teaching more.
   pub booked-without : (os : List ℕ) (t : Tree) → IsOrder os t → (orders : List (List ℕ)) → Orders orders → 1 ≤ times_of os orders
       → booked k orders ≡ taught 1 t (booked k (without os orders))
-  unfolding times_of without if◌then◌else◌
+  unfolding times_of without when◌then◌else◌
   booked-without os t o [] all h = absurd (omega arith)
   booked-without os t o (p ∷ ps) all h = go (same_words p os) refl (booked-without os t o ps (later p ps all))
     where
@@ -297,7 +297,7 @@ module _ (k : ℕ) where
 
       -- By whether the first is such an order.
       go : (b : Bool) → same_words p os ≡ b → (1 ≤ times_of os ps → booked k ps ≡ taught 1 t (booked k (without os ps)))
-          → booked k (p ∷ ps) ≡ taught 1 t (booked k (if b then ps else p ∷ without os ps))
+          → booked k (p ∷ ps) ≡ taught 1 t (booked k (when b then ps else p ∷ without os ps))
       go true e next = booked-first k p ps t (rw (sym (words_same p os e)) at o)
       go false e next =
           let i : 1 ≤ 0 + times_of os ps = rw e at h in
@@ -324,4 +324,4 @@ module _ (k : ℕ) where
     where
       -- Without the first of the one list the two are the same orders still.
       rest : 1 ≤ times_of q orders → SameOrders qs (without q orders)
-      rest some os = let e : (if same_words q os then 1 else 0) + times_of os qs ≡ times_of os orders = unfold times_of in same os in omega (arith, times-without q os orders some)
+      rest some os = let e : (when same_words q os then 1 else 0) + times_of os qs ≡ times_of os orders = unfold times_of in same os in omega (arith, times-without q os orders some)

@@ -7,7 +7,7 @@ use native.Mathlib.Decide.{dec_lt}
 use native.Mathlib.Omega.{arith}
 use borrow.Author.Tests.{le-leb, lt-leb}
 use lib.ListN.{length, take, drop}
-use Rattle.words.specs.Base.{if◌then◌else◌}
+use Rattle.words.specs.Base.{when◌then◌else◌}
 use Rattle.figures.specs.Numbers.{done}
 use Rattle.figures.specs.Answers.{answered, wrote}
 use Rattle.figures.specs.declared.Answer.{Answer}
@@ -208,12 +208,12 @@ module _ (os out : List ℕ) (line k : ℕ) where
 
     -- A subtree of depth at most k-2 is written as a low part, if there is room.
     parts_low : (s : Tree) → tree_of_line line (subtrees t) ≡ found s → depth s ≤ k - 2 → part_into_of os line k out ≡ of_kind Low (write (words s) out)
-    unfolding part_into_of by_order by_found part_of is_low if◌then◌else◌
+    unfolding part_into_of by_order by_found part_of is_low when◌then◌else◌
     parts_low s e h = rw (order-read os t o, e, le-leb (depth s) (k - 2) h)
 
     -- The cut of a deeper one is written as a middle part, if there is room.
     parts-middle : (s : Tree) → tree_of_line line (subtrees t) ≡ found s → k - 2 < depth s → part_into_of os line k out ≡ of_kind Middle (write (words (cut s (k - 1))) out)
-    unfolding part_into_of by_order by_found part_of is_low middle if◌then◌else◌
+    unfolding part_into_of by_order by_found part_of is_low middle when◌then◌else◌
     parts-middle s e h = rw (order-read os t o, e, lt-leb (depth s) (k - 2) h)
 
   -- Writing a part answers by a row of 01's table.

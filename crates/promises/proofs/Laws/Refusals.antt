@@ -8,7 +8,7 @@ use native.Mathlib.Decide.{dec_lt}
 use native.Mathlib.Omega.{arith}
 use lib.ListN.{length, drop, length-append, length-drop}
 use lib.Seq.{drop-append_seam}
-use Rattle.words.specs.Base.{if◌then◌else◌, within, over, ◌exactly_when◌}
+use Rattle.words.specs.Base.{when◌then◌else◌, within, over, ◌exactly_when◌}
 use Rattle.figures.specs.Limits.{least_k, greatest_k}
 use Rattle.figures.specs.Numbers.{done, k_outside, book_size, short_output}
 use Rattle.figures.specs.Answers.{wrote, refused_at}
@@ -132,12 +132,12 @@ read-refusal_leaves text out = go (form_of text)
 
 -- Opening leaves the slice where it refuses.
 pub open_refusal_leaves : (ws : List ℕ) (k : ℕ) → ((open_of ws k).answer.number ≡ done → ⊥) → (open_of ws k).words ≡ ws
-unfolding open_of if◌then◌else◌
+unfolding open_of when◌then◌else◌
 open_refusal_leaves ws k = go (sized ws) (within least_k greatest_k k)
   where
     -- What opening does, by the tests of the size and of k.
     whole : Bool → Bool → Outcome
-    whole a b = if not a then leave ws book_size else if not b then leave ws k_outside else write_book ws (book_of k [])
+    whole a b = when not a then leave ws book_size else when not b then leave ws k_outside else write_book ws (book_of k [])
 
     -- By the two tests.
     go : (a b : Bool) → ((whole a b).answer.number ≡ done → ⊥) → (whole a b).words ≡ ws

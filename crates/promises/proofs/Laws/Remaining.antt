@@ -11,7 +11,7 @@ use native.Mathlib.Omega.{arith}
 use borrow.Author.Tests.{eqb-true, eq-eqb}
 use lib.Dec.{eqb}
 use lib.ListN.{length}
-use Rattle.words.specs.Base.{◌and◌, if◌then◌else◌}
+use Rattle.words.specs.Base.{◌and◌, when◌then◌else◌}
 use Rattle.words.proofs.Tests.{no_test}
 use Rattle.figures.specs.Limits.{least_k, greatest_k, greatest_count, head_words, most_book_words}
 use Rattle.figures.specs.Numbers.{done}
@@ -159,9 +159,9 @@ module _ (slice : List ℕ) (k : ℕ) (long : head_words ≤ length slice) (shor
         done-keeps e (goes b t g) = taught-kept os t g.is_order e
 
         -- By whether the answer is 0.
-        by_number : (b : Bool) → eqb (teach_of ws os).answer.number done ≡ b → Kept (length slice) k (if b then os ∷ orders else orders) (teach_of ws os).words
-        by_number true e = unfold if◌then◌else◌ in done-keeps (eqb-true (teach_of ws os).answer.number done e) (met ws os)
-        by_number false e = unfold if◌then◌else◌ in
+        by_number : (b : Bool) → eqb (teach_of ws os).answer.number done ≡ b → Kept (length slice) k (when b then os ∷ orders else orders) (teach_of ws os).words
+        by_number true e = unfold when◌then◌else◌ in done-keeps (eqb-true (teach_of ws os).answer.number done e) (met ws os)
+        by_number false e = unfold when◌then◌else◌ in
             rw (teach-refusal_leaves ws os (λ d. no_test (sym e ∙ eq-eqb (teach_of ws os).answer.number done d))) kept
 
     -- So does withdrawing any words.
@@ -174,9 +174,9 @@ module _ (slice : List ℕ) (k : ℕ) (long : head_words ≤ length slice) (shor
         done-keeps e (goes b t g) = withdrawn-kept os t g.is_order e
 
         -- By whether the answer is 0.
-        by_number : (b : Bool) → eqb (withdraw_of ws os).answer.number done ≡ b → Kept (length slice) k (if b then without os orders else orders) (withdraw_of ws os).words
-        by_number true e = unfold if◌then◌else◌ in done-keeps (eqb-true (withdraw_of ws os).answer.number done e) (met ws os)
-        by_number false e = unfold if◌then◌else◌ in
+        by_number : (b : Bool) → eqb (withdraw_of ws os).answer.number done ≡ b → Kept (length slice) k (when b then without os orders else orders) (withdraw_of ws os).words
+        by_number true e = unfold when◌then◌else◌ in done-keeps (eqb-true (withdraw_of ws os).answer.number done e) (met ws os)
+        by_number false e = unfold when◌then◌else◌ in
             rw (withdraw-refusal_leaves ws os (λ d. no_test (sym e ∙ eq-eqb (withdraw_of ws os).answer.number done d))) kept
 
     -- The orders of a book in form, with these, are within limits.
@@ -217,9 +217,9 @@ module _ (slice : List ℕ) (k : ℕ) (long : head_words ≤ length slice) (shor
     join-keeps vs = by_number (eqb (join_of ws vs).answer.number done) refl
       where
         -- By whether the answer is 0.
-        by_number : (b : Bool) → eqb (join_of ws vs).answer.number done ≡ b → Kept (length slice) k (if b then orders_in (book_in vs).T ++ orders else orders) (join_of ws vs).words
-        by_number true e = unfold if◌then◌else◌ in joined-kept vs (was_joined ws vs (eqb-true (join_of ws vs).answer.number done e))
-        by_number false e = unfold if◌then◌else◌ in rw (join-leaves ws vs (λ d. no_test (sym e ∙ eq-eqb (join_of ws vs).answer.number done d))) kept
+        by_number : (b : Bool) → eqb (join_of ws vs).answer.number done ≡ b → Kept (length slice) k (when b then orders_in (book_in vs).T ++ orders else orders) (join_of ws vs).words
+        by_number true e = unfold when◌then◌else◌ in joined-kept vs (was_joined ws vs (eqb-true (join_of ws vs).answer.number done e))
+        by_number false e = unfold when◌then◌else◌ in rw (join-leaves ws vs (λ d. no_test (sym e ∙ eq-eqb (join_of ws vs).answer.number done d))) kept
 
   -- Any calls keep the book that of the orders that then remain.
   calls-keep : (cs : List Call) (orders : List (List ℕ)) (ws : List ℕ) → Kept (length slice) k orders ws → Kept (length slice) k (remaining cs ws orders) (after cs ws)

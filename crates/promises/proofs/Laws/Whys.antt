@@ -9,7 +9,7 @@ use native.Mathlib.Decide.{dec_lt}
 use native.Mathlib.Omega.{arith}
 use borrow.Author.Tests.{le-leb, lt-leb}
 use lib.ListN.{length}
-use Rattle.words.specs.Base.{if◌then◌else◌, within}
+use Rattle.words.specs.Base.{when◌then◌else◌, within}
 use Rattle.words.proofs.Tests.{and_both, fails_left, fails_right}
 use Rattle.figures.specs.Limits.{head_words, most_book_words, least_k, greatest_k}
 use Rattle.figures.specs.Numbers.{done, k_outside, book_size, not_in_form}
@@ -46,7 +46,7 @@ use Rattle.promises.proofs.Laws.Refusals.{write-refuses, write-writes}
 module _ (k : ℕ) where
   -- A k that the test fails is outside.
   depth-fails : within least_k greatest_k k ≡ false → depth_of k ≡ Outside
-  unfolding depth_of if◌then◌else◌
+  unfolding depth_of when◌then◌else◌
   depth-fails e = rw e refl
 
   -- A k that is too low is outside.
@@ -59,7 +59,7 @@ module _ (k : ℕ) where
 
   -- Any other k is allowed.
   between_allowed : least_k ≤ k → k ≤ greatest_k → depth_of k ≡ Allowed (record { k = k })
-  unfolding depth_of if◌then◌else◌
+  unfolding depth_of when◌then◌else◌
   between_allowed a z = let e : within least_k greatest_k k ≡ true = and_both (le-leb least_k k a) (le-leb k greatest_k z) in rw e refl
 
   -- Asking for a k tells what a row of 01's table says.

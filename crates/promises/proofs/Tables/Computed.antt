@@ -1,7 +1,7 @@
 -- One name that opens every definition that the tables compute, one that opens those of choosing an image besides, and one those of the desk. Assumes
 -- nothing.
 use Prim.Native.Nat.{ℕ}
-use Rattle.words.specs.Base.{◌and◌, if◌then◌else◌, same_words, keep}
+use Rattle.words.specs.Base.{◌and◌, when◌then◌else◌, same_words, keep}
 use Rattle.words.specs.Compare.{compare_of, before}
 use Rattle.section.specs.Entries.{section_words, entries, span, has, total, add, lower}
 use Rattle.section_change.specs.Editing.{fitting}
@@ -31,7 +31,7 @@ use Rattle.promises.specs.Heard.{computed, heard}
 
 -- Opens them all.
 unfoldable pub computes : ℕ
-unfolding ◌and◌ if◌then◌else◌ same_words keep compare_of before count words depth cut subtrees first_trees later_trees sound_node node_over read_trees
+unfolding ◌and◌ when◌then◌else◌ same_words keep compare_of before count words depth cut subtrees first_trees later_trees sound_node node_over read_trees
     by_found only tree_of by_order within_depth order_of top is_low lows middle is_middle middles same_tree each_once low_parts middle_parts fits_of section_words
     entries span has total add lower fitting section_of body used live encode lay entry_in_form ascending_from section_in_form in_form tops_at lows_at
     middles_at book_in formed decode by_book sized on_book add_each taught book_of teachings_in same_section agreeing open_of on_order within_counts teach_tree

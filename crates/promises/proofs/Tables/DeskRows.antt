@@ -9,7 +9,7 @@ use native.Mathlib.Omega.{arith}
 use borrow.Author.Tests.{lt-ltb}
 use lib.ListN.{length, take}
 use lib.Seq.{take_all, length-take-le}
-use Rattle.words.specs.Base.{if◌then◌else◌}
+use Rattle.words.specs.Base.{when◌then◌else◌}
 use Rattle.figures.specs.Limits.{head_words, most_book_words, desk_book_words, least_k, greatest_k, most_input}
 use Rattle.figures.specs.Numbers.{done, too_large, k_outside, no_form}
 use Rattle.figures.specs.Answers.{answered}
@@ -326,7 +326,7 @@ faults_said = (refl, refl, refl)
 
 -- An input of more than 32,768 bytes is too long, whatever they are.
 long-faulty : (input : List ℕ) → most_input < length input → handed_in input ≡ faulty (answered too_large)
-unfolding handed_in if◌then◌else◌
+unfolding handed_in when◌then◌else◌
 long-faulty input h = rw (lt-ltb most_input (length input) h)
 
 -- "longer input prints "K 2 0 0""

@@ -89,7 +89,7 @@ some-equal : (c : tie.In-Equal invariant-loop decreases-loop) → 0 < c.loop-res
 some-equal c = against_some _ _ _ Equal (is-equal c) (λ h. never cc)
 
 -- An equal entry lies within the book.
-equal-here : (c : tie.In-Equal invariant-loop decreases-loop) → 
+equal-here : (c : tie.In-Equal invariant-loop decreases-loop) →
     c.loop-rest.at + 2 + 2 * get_or c.loop-rest.book c.loop-rest.at 0 ≤ length c.loop-rest.book
 equal-here c = first c.before.before.before.before.before (some-equal c)
 
@@ -128,8 +128,6 @@ loop-less c = omega (arith, some-lower c.before)
 
 loop-again : tie.Need-loop-rest-preserved-in-Lower invariant-loop decreases-loop
 loop-again c =
-    
-    
     λ ws r now. adds_lower ws _ _ _ _ _ _ _ _ _ _ _ _ _ (c.loop-rest.invariant ws r now) c.past-end.result c.loop-rest-test.true c.past-end.ensures (is-lower c.before) (some-lower c.before) c.past-at.result c.past-at.ensures
 
 mul-raise : tie.Need-offset_bounds-book-at invariant-loop decreases-loop
@@ -152,15 +150,10 @@ shared-slice-read-raise c = omega (arith, room c.before.before.before.before.bef
 
 raise-requires : tie.Need-raise-requires invariant-loop decreases-loop
 raise-requires c κs =
-    
-    
     adds_fits _ _ _ _ _ _ _ _ _ _ _ _ _ _ (reached c.before.before.before.before.before.before.before) c.past-end.result c.loop-rest-test.true c.past-end.ensures (is-equal c.before.before) (some-equal c.before.before)
 
 past-requires-3 : tie.Need-past-at-requires-in-Equal invariant-loop decreases-loop
 past-requires-3 c κs =
-    
-    
-    
     let a = adds_raised _ _ _ _ _ _ _ _ _ _ _ _ _ _ (reached c.before.before.before.before.before.before.before.before.before.before) c.past-end.result c.loop-rest-test.true c.past-end.ensures c.raise.new.part c.raise.ensures (some-equal c.before.before.before.before.before) in
     omega (arith, a.0, a.1, equal-here c.before.before.before.before.before)
 
@@ -175,9 +168,6 @@ loop-less-2 c = omega (arith, some-equal c.before.before.before.before.before.be
 
 loop-again-2 : tie.Need-loop-rest-preserved-in-Equal invariant-loop decreases-loop
 loop-again-2 c =
-    
-    
-    
     λ ws ready now. adds_equal ws _ _ _ _ _ _ _ _ _ _ _ _ _ (c.loop-rest.invariant ws ready now) c.past-end.result c.loop-rest-test.true c.past-end.ensures c.raise.new.part c.raise.ensures (is-equal c.before.before.before.before.before.before) (some-equal c.before.before.before.before.before.before) c.past-at-in-Equal.result c.past-at-in-Equal.ensures
 
 mul-enter-behind : tie.Need-offset_bounds-other-from-in-Higher invariant-loop decreases-loop
@@ -188,8 +178,6 @@ part-enter-behind-end c = omega (arith, room c.before.before.before.before.befor
 
 enter-behind-requires : tie.Need-enter_behind-to-requires invariant-loop decreases-loop
 enter-behind-requires c κs =
-    
-    
     let g = (reached c.before.before.before.before.before.before.before).gap in
     let fits = adds_room _ _ _ _ _ _ _ _ _ _ _ _ _ _ (reached c.before.before.before.before.before.before.before) c.past-end.result c.loop-rest-test.true c.past-end.ensures (is-higher c.before.before) in
     (simp (length-take, length-drop) (omega (arith, fits, room c.before.before.before.before.before.before)), g.mid, g.high)
@@ -205,9 +193,6 @@ loop-less-3 c = omega (arith, c.loop-rest-test.true)
 
 loop-again-3 : tie.Need-loop-rest-preserved invariant-loop decreases-loop
 loop-again-3 c =
-    
-    
-    
     λ ws r now. adds_higher ws _ _ _ _ _ _ _ _ _ _ _ _ _ (c.loop-rest.invariant ws r now) c.past-end.result c.loop-rest-test.true c.past-end.ensures (is-higher c.before.before.before.before.before) c.enter_behind-to.new.book c.enter_behind-to.result c.enter_behind-to.ensures.0 c.enter_behind-to.ensures.1 c.enter_behind-to.auto.book
 
 add-uses : tie.Need-overflow_add-uses invariant-loop decreases-loop

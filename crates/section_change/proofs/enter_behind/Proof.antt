@@ -27,7 +27,6 @@ came-back book down entry last to kept at end low mid high moved is now =
 
 returns : tie.Need-returns
 returns c =
-    
     let x = c.args in
     (came-back x.book.now _ x.entry.now _ x.to x.kept x.at _ c.requires.0 c.requires.1 c.requires.2 c.bring_down-end.ensures.0 c.bring_down-end.ensures.1 c.copy.ensures, ap (λ (n : ℕ). n + length x.entry.now) c.bring_down-end.ensures.1)
 

@@ -63,7 +63,6 @@ same-length-2 c = search rules
 
 returns-2 : tie.Need-returns
 returns-2 c =
-    
     let part = c.args.part.now in
     let at = c.search-stop.result.at in
     let entered = rw (tail_all at part (inside c.before.before.before.before)) at c.enter.ensures in

@@ -13,7 +13,6 @@ bring-down-requires c κs =
 
 returns : tie.Need-returns-then-count-le1
 returns c =
-    
     let x = c.args in
     let b = c.bring_down-end in (
       b.ensures.0 ∙ sym (lessened-words_out x.to x.kept x.at x.book.now c.if-count-le1.true),

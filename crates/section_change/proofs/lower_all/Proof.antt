@@ -42,7 +42,6 @@ within k = lowers_within _ _ _ _ _ _ _ _ _ _ _ _ _ k.loop-rest.invariant
 -- The first entry left stands so to the other's first key.
 abbrev Answered : tie.After-first_against invariant-loop decreases-loop → Compared → Type 0
 Answered a o =
-    
     first_against (take (a.past-end.result - (a.loop-rest.from + 2)) (drop (a.loop-rest.from + 2) (other a.before.before.before.before))) (entries a.loop-rest.left (drop a.loop-rest.at a.loop-rest.book)) ≡ o
 
 -- It is lower.
@@ -99,7 +98,6 @@ loop-less c = omega (arith, some-lower c.before)
 
 loop-again : tie.Need-loop-rest-preserved-in-Lower invariant-loop decreases-loop
 loop-again c =
-    
     lowers_lower _ _ _ _ _ _ _ _ _ _ _ _ _ c.loop-rest.invariant c.past-end.result c.loop-rest-test.true c.past-end.ensures (is-lower c.before) (some-lower c.before) c.past-at.result c.past-at.ensures
 
 lessen-requires : tie.Need-lessen-less-requires invariant-loop decreases-loop
@@ -109,7 +107,6 @@ lessen-requires c κs =
 
 sub-count : tie.Need-overflow_sub-count invariant-loop decreases-loop
 sub-count c =
-    
     omega (arith, lessened-most _ _ _ _ c.lessen-less.result c.lessen-less.ensures.1, first c.before.before.before.before.before.before.before.before.before.before (some-equal c.before.before.before.before.before))
 
 sub-left-2 : tie.Need-overflow_sub-left-in-Equal invariant-loop decreases-loop
@@ -123,9 +120,6 @@ loop-less-2 c = omega (arith, some-equal c.before.before.before.before.before, c
 
 loop-again-2 : tie.Need-loop-rest-preserved-in-Equal invariant-loop decreases-loop
 loop-again-2 c =
-    
-    
-    
     lowers_equal _ _ _ _ _ _ _ _ _ _ _ _ _ c.loop-rest.invariant c.past-end.result c.loop-rest-test.true c.past-end.ensures (is-equal c.before.before.before.before.before) (some-equal c.before.before.before.before.before) c.lessen-less.new.book c.lessen-less.result c.lessen-less.ensures.0 c.lessen-less.ensures.1 c.lessen-less.auto.book
 
 sub-rest-2 : tie.Need-overflow_sub-rest-in-Higher invariant-loop decreases-loop
@@ -136,7 +130,6 @@ loop-less-3 c = omega (arith, c.loop-rest-test.true)
 
 loop-again-3 : tie.Need-loop-rest-preserved invariant-loop decreases-loop
 loop-again-3 c =
-    
     lowers_higher _ _ _ _ _ _ _ _ _ _ _ _ _ c.loop-rest.invariant c.past-end.result c.loop-rest-test.true c.past-end.ensures (is-higher c)
 
 sub-freed : tie.Need-overflow_sub-freed invariant-loop decreases-loop
@@ -170,7 +163,6 @@ same_length c = c.book-2-1.given.1 ∙ c.loop-rest.invariant.gap.long
 
 returns : tie.Need-returns invariant-loop decreases-loop
 returns c =
-    
     lowers_end _ _ _ _ _ _ _ _ _ _ _ _ _ c.loop-rest.invariant c.requires.0.0 c.loop-rest-test.false c.close_gap.new.part c.close_gap.ensures c.book-2-1.given.1
 
 pub lower_all_spec : {M : Type 1} → statement M

@@ -10,7 +10,7 @@ use lib.ListN.{length, get_or, take, drop, length-take, length-drop}
 use borrow.Author.Rules.{rules}
 use borrow.Author.Tests.{le-leb, lt-leb}
 use Rattle.words.proofs.Tests.{never}
-use Rattle.words.specs.Base.{if◌then◌else◌}
+use Rattle.words.specs.Base.{when◌then◌else◌}
 use Rattle.words.specs.declared.Compared.TheVariants.{Lower, Equal, Higher}
 use Rattle.words.proofs.Ordered.{compare_equal}
 use Rattle.figures.specs.Limits.{greatest_count}
@@ -46,12 +46,13 @@ equal-some key ws (suc left) h = omega arith
 -- Two counts of a key, and whether a count was told to pass before and after they are put together.
 module _ (m n : ℕ) (full full' : Bool) (fits : n ≤ greatest_count) where
   -- Together they pass.
-  told_over : greatest_count - n < m → full' ≡ true → full' ≡ (if leb (m + n) greatest_count then full else true)
-  unfolding if◌then◌else◌
+  told_over : greatest_count - n < m → full' ≡ true → full' ≡ (when leb (m + n) greatest_count then full else true)
+  unfolding when◌then◌else◌
   told_over h e = rw (lt-leb (m + n) greatest_count (omega arith)) e
+
   -- Together they do not.
-  told_under : m ≤ greatest_count - n → full' ≡ full → full' ≡ (if leb (m + n) greatest_count then full else true)
-  unfolding if◌then◌else◌
+  told_under : m ≤ greatest_count - n → full' ≡ full → full' ≡ (when leb (m + n) greatest_count then full else true)
+  unfolding when◌then◌else◌
   told_under h e = rw (le-leb (m + n) greatest_count (omega arith)) e
 
 -- The first of the other's entries left, whose words end at `end`.
@@ -60,6 +61,7 @@ module _ (book : List ℕ) (many : ℕ) (other : List ℕ) (more at left from re
   -- It lies within the other's words, with those behind it.
   room : end + span (rest - 1) (drop end other) ≤ length other
   room = omega (arith, s.theirs, span-at other from rest end some ends)
+
   -- A lower entry of the book is passed.
   past-lower : (next : ℕ) → 0 < left → next ≡ at + 2 + 2 * get_or book at 0 → first_against (take (end - (from + 2)) (drop (from + 2) other)) (entries left (drop at book)) ≡ Lower
       → State book many other more next (left - 1) from rest lacking full
@@ -68,9 +70,10 @@ module _ (book : List ℕ) (many : ℕ) (other : List ℕ) (more at left from re
       let w = rw (entries_at book at left next l nexts) at s.weighs in
       let c = rw (entries_at book at left next l nexts) at h in
       record { mine = omega (arith, s.mine, span-at book at left next l nexts); theirs = s.theirs; few = s.few; weighs = weighs_past w (rw (entries_at other from rest end some ends) c) }
+
   -- Two entries of the same key are passed.
   past_equal : (next : ℕ) → 0 < left → next ≡ at + 2 + 2 * get_or book at 0 → first_against (take (end - (from + 2)) (drop (from + 2) other)) (entries left (drop at book)) ≡ Equal
-      → (full' : Bool) → full' ≡ (if leb (get_or book (at + 1) 0 + get_or other (from + 1) 0) greatest_count then full else true)
+      → (full' : Bool) → full' ≡ (when leb (get_or book (at + 1) 0 + get_or other (from + 1) 0) greatest_count then full else true)
       → State book many other more next (left - 1) end (rest - 1) lacking full'
   past_equal next l nexts h full' told =
       let w = rw (entries_at book at left next l nexts, entries_at other from rest end some ends) at s.weighs in
@@ -81,6 +84,7 @@ module _ (book : List ℕ) (many : ℕ) (other : List ℕ) (more at left from re
         few = omega (arith, s.few);
         weighs = rw told (weighs_same w (compare_equal _ _ c));
       }
+
   -- An entry of the other's that the book lacks is passed.
   past-higher : first_against (take (end - (from + 2)) (drop (from + 2) other)) (entries left (drop at book)) ≡ Higher
       → State book many other more at left end (rest - 1) (lacking + (end - from)) full
@@ -125,7 +129,7 @@ book-room k some =
     omega (arith, k.loop-rest.invariant.mine, span-at (book k) k.loop-rest.at k.loop-rest.left (k.loop-rest.at + 2 + 2 * get_or (book k) k.loop-rest.at 0) some refl)
 
 -- The first of the book's entries left is lower.
-is-lower : (c : tie.In-Lower invariant-loop decreases-loop) → 
+is-lower : (c : tie.In-Lower invariant-loop decreases-loop) →
     first_against (take (c.past-end.result - (c.loop-rest.from + 2)) (drop (c.loop-rest.from + 2) (other c.before.before.before.before.before))) (entries c.loop-rest.left (drop c.loop-rest.at (book c.before.before.before.before.before))) ≡ Lower
 is-lower c = sym c.first_against.ensures ∙ c.in-Lower.is
 
@@ -134,7 +138,7 @@ lower-left : (c : tie.In-Lower invariant-loop decreases-loop) → 0 < c.loop-res
 lower-left c = lower-some _ _ _ (is-lower c)
 
 -- The first of the book's entries left is equal.
-is-equal : (c : tie.In-Equal invariant-loop decreases-loop) → 
+is-equal : (c : tie.In-Equal invariant-loop decreases-loop) →
     first_against (take (c.past-end.result - (c.loop-rest.from + 2)) (drop (c.loop-rest.from + 2) (other c.before.before.before.before.before))) (entries c.loop-rest.left (drop c.loop-rest.at (book c.before.before.before.before.before))) ≡ Equal
 is-equal c = sym c.first_against.ensures ∙ c.in-Equal.is
 

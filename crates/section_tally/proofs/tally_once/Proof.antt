@@ -8,7 +8,7 @@ use lib.ListN.{length, get_or, set}
 use lib.Seq.{get_or-set_same}
 use borrow.Author.Rules.{rules}
 use borrow.Author.Tests.{eq-eqb, ne_eqb}
-use Rattle.words.specs.Base.{if◌then◌else◌}
+use Rattle.words.specs.Base.{when◌then◌else◌}
 use Rattle.figures.specs.Limits.{greatest_count}
 use Rattle.section.specs.Entries.{has}
 use Rattle.section_tally.specs.Tallying.{listed, sought_in, Few, on_one, tallied_once}
@@ -30,12 +30,12 @@ module _ (f : ℕ → ℕ) (turn : ℕ) (r : EntryFound) (ms cs : List ℕ) wher
   module _ (i : ℕ) (is : r ≡ Number i) where
     -- Without the turn's mark the number is changed.
     one-changed : (get_or ms i 0 ≡ turn → ⊥) → set cs i (f (get_or cs i 0)) ≡ on_one f turn r ms cs
-    unfolding on_one if◌then◌else◌
+    unfolding on_one when◌then◌else◌
     one-changed other = rw (is, ne_eqb (get_or ms i 0) turn other)
 
     -- With it all stays.
     one_kept : get_or ms i 0 ≡ turn → cs ≡ on_one f turn r ms cs
-    unfolding on_one if◌then◌else◌
+    unfolding on_one when◌then◌else◌
     one_kept same = rw (is, eq-eqb (get_or ms i 0) turn same)
 
 -- A count that is stored fits where those do that are tallied then.
