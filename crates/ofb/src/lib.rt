@@ -1,5 +1,5 @@
 // The C interface of the library: the twelve functions of include/ofb.h, each of which calls the function below it and hands its answer on in C's
-// numbers. A slice is a pointer and a length to C. Assumes nothing beyond each inner function's `requires`.
+// numbers. A slice is a pointer and a length to C. `ofb_c` exports them. Assumes nothing beyond each inner function's `requires`.
 #![tactic(auto)]
 
 ghost use Rattle.std.specs.Prelude.{◌≡◌, ◌^◌, ◌<◌};
@@ -113,8 +113,7 @@ fn told_image(chosen: Chosen) -> OfbImage
 }
 
 // Opens an empty book: `book::open`.
-#[unsafe(no_mangle)]
-pub extern "C" fn ofb_open(book: &mut [u16], k: u16) -> OfbAnswer
+pub fn ofb_open(book: &mut [u16], k: u16) -> OfbAnswer
     ensures { handed result book.new ≡ outcome_in_c (open_of book.old k) }
 {
     let answer = book::open(book, k);
@@ -122,8 +121,7 @@ pub extern "C" fn ofb_open(book: &mut [u16], k: u16) -> OfbAnswer
 }
 
 // Teaches an order: `book_teach::teach`.
-#[unsafe(no_mangle)]
-pub extern "C" fn ofb_teach(book: &mut [u16], order: &[u16]) -> OfbAnswer
+pub fn ofb_teach(book: &mut [u16], order: &[u16]) -> OfbAnswer
     ensures { handed result book.new ≡ outcome_in_c (teach_of book.old order.now) }
 {
     let answer = book_teach::teach(book, order);
@@ -131,8 +129,7 @@ pub extern "C" fn ofb_teach(book: &mut [u16], order: &[u16]) -> OfbAnswer
 }
 
 // Withdraws an order: `book_teach::withdraw`.
-#[unsafe(no_mangle)]
-pub extern "C" fn ofb_withdraw(book: &mut [u16], order: &[u16]) -> OfbAnswer
+pub fn ofb_withdraw(book: &mut [u16], order: &[u16]) -> OfbAnswer
     ensures { handed result book.new ≡ outcome_in_c (withdraw_of book.old order.now) }
 {
     let answer = book_teach::withdraw(book, order);
@@ -140,8 +137,7 @@ pub extern "C" fn ofb_withdraw(book: &mut [u16], order: &[u16]) -> OfbAnswer
 }
 
 // Joins another book to a book: `book_join::join`.
-#[unsafe(no_mangle)]
-pub extern "C" fn ofb_join(book: &mut [u16], other: &[u16]) -> OfbAnswer
+pub fn ofb_join(book: &mut [u16], other: &[u16]) -> OfbAnswer
     ensures { handed result book.new ≡ outcome_in_c (join_of book.old other.now) }
 {
     let answer = book_join::join(book, other);
@@ -149,8 +145,7 @@ pub extern "C" fn ofb_join(book: &mut [u16], other: &[u16]) -> OfbAnswer
 }
 
 // Judges an order by a book: `book_judge::judge`.
-#[unsafe(no_mangle)]
-pub extern "C" fn ofb_judge(book: &[u16], order: &[u16]) -> OfbJudged
+pub fn ofb_judge(book: &[u16], order: &[u16]) -> OfbJudged
     ensures { result ≡ told_judged_of (judgement_of book.now order.now) }
 {
     let judged = book_judge::judge(book, order);
@@ -158,8 +153,7 @@ pub extern "C" fn ofb_judge(book: &[u16], order: &[u16]) -> OfbJudged
 }
 
 // Chooses the image to build an order with, by a book and a rule list: `book_choose::choose`.
-#[unsafe(no_mangle)]
-pub extern "C" fn ofb_choose(book: &[u16], order: &[u16], rules: &[u16]) -> OfbImage
+pub fn ofb_choose(book: &[u16], order: &[u16], rules: &[u16]) -> OfbImage
     ensures { result ≡ told_image_of (choose_of book.now order.now rules.now) }
 {
     let chosen = book_choose::choose(book, order, rules);
@@ -167,8 +161,7 @@ pub extern "C" fn ofb_choose(book: &[u16], order: &[u16], rules: &[u16]) -> OfbI
 }
 
 // Whether a book agrees with itself: `book_check::check`.
-#[unsafe(no_mangle)]
-pub extern "C" fn ofb_check(book: &[u16]) -> OfbAnswer
+pub fn ofb_check(book: &[u16]) -> OfbAnswer
     ensures { result ≡ told_of (agree_of book.now) }
 {
     let answer = book_check::check(book);
@@ -176,8 +169,7 @@ pub extern "C" fn ofb_check(book: &[u16]) -> OfbAnswer
 }
 
 // Writes a book's file: `book_file::write`.
-#[unsafe(no_mangle)]
-pub extern "C" fn ofb_write_file(book: &[u16], out: &mut [u8]) -> OfbAnswer
+pub fn ofb_write_file(book: &[u16], out: &mut [u8]) -> OfbAnswer
     ensures { handed result out.new ≡ writing_in_c (write_file_of book.now out.old) }
 {
     let answer = book_file::write(book, out);
@@ -185,8 +177,7 @@ pub extern "C" fn ofb_write_file(book: &[u16], out: &mut [u8]) -> OfbAnswer
 }
 
 // Reads a book's file: `book_file::read`.
-#[unsafe(no_mangle)]
-pub extern "C" fn ofb_read_file(file: &[u8], book: &mut [u16]) -> OfbAnswer
+pub fn ofb_read_file(file: &[u8], book: &mut [u16]) -> OfbAnswer
     ensures { handed result book.new ≡ outcome_in_c (read_file_of file.now book.old) }
 {
     let answer = book_file::read(file, book);
@@ -194,8 +185,7 @@ pub extern "C" fn ofb_read_file(file: &[u8], book: &mut [u16]) -> OfbAnswer
 }
 
 // Reads the text of a form: `form_read::read`.
-#[unsafe(no_mangle)]
-pub extern "C" fn ofb_read_text(text: &[u8], out: &mut [u16]) -> OfbAnswer
+pub fn ofb_read_text(text: &[u8], out: &mut [u16]) -> OfbAnswer
     ensures { handed result out.new ≡ writing_in_c (read_of text.now out.old) }
 {
     let answer = form_read::read(text, out);
@@ -203,8 +193,7 @@ pub extern "C" fn ofb_read_text(text: &[u8], out: &mut [u16]) -> OfbAnswer
 }
 
 // Writes the text of an order: `form_write::write`.
-#[unsafe(no_mangle)]
-pub extern "C" fn ofb_write_text(order: &[u16], out: &mut [u8]) -> OfbAnswer
+pub fn ofb_write_text(order: &[u16], out: &mut [u8]) -> OfbAnswer
     ensures { handed result out.new ≡ writing_in_c (write_of order.now out.old) }
 {
     let answer = form_write::write(order, out);
@@ -212,8 +201,7 @@ pub extern "C" fn ofb_write_text(order: &[u16], out: &mut [u8]) -> OfbAnswer
 }
 
 // The place of the subtree of a line: `order_cuts::subtree`.
-#[unsafe(no_mangle)]
-pub extern "C" fn ofb_subtree(order: &[u16], line: usize) -> OfbPart
+pub fn ofb_subtree(order: &[u16], line: usize) -> OfbPart
     ensures { result ≡ part_in_c (subtree_of order.now line) }
 {
     let words = order_cuts::subtree(order, line).len();
