@@ -11,10 +11,10 @@ enum_told : tie.Need-enum_told-1
 enum_told c = search rules
 
 returns : tie.Need-returns-in-Teach
-returns c = c.teach.ensures ∙ sym (asks-teaching _ _ _ c.in-Teach.is)
+returns c = cc (asks-teaching c.args.letter c.args.book.now c.args.order.now c.in-Teach.is)
 
 returns-2 : tie.Need-returns-in-Withdraw
-returns-2 c = c.withdraw.ensures ∙ sym (asks-withdrawing _ _ _ c.in-Withdraw.is)
+returns-2 c = cc (asks-withdrawing c.args.letter c.args.book.now c.args.order.now c.in-Withdraw.is)
 
 returns-3 : tie.Need-returns-in-Judge
 returns-3 c =
