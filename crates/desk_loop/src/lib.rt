@@ -1,5 +1,5 @@
-// The desk's run on what a reader gives: the input is read, each call is one step, and the line of each is printed before the next. Assumes what the
-// kit assumes of C's functions, and nothing else.
+// The desk's run on what a reader gives: the input is read, each call is one step, and the line of each is printed before the next. Assumes what
+// std does of the C functions below it, and nothing else.
 #![tactic(auto)]
 
 ghost use Rattle.std.specs.Prelude.{◌≤◌, length, IfOk};

@@ -1,9 +1,9 @@
 // The files that are run: an input of the desk as a whole, and any other line by line.
-ghost use Rattle.std.specs.Prelude.{◌≤◌, length, IfOk};
+ghost use Rattle.std.specs.Prelude.{◌≤◌, length, IfOk, IfSome};
 
 use crate::cases;
 use runs_kit::{kept, line, same, say};
-use std::env::Env;
+use std::env::{Env, FillError};
 use std::io::Read;
 use std::rt::Files;
 use std::{fs, io, str};
@@ -97,9 +97,24 @@ fn run(rt: &(impl Files + Print), name: &[u8]) -> io::Result<()> {
     }
 }
 
-// Runs the file that an argument names.
-pub fn argument(rt: &(impl Env + Files + Print), i: usize) -> io::Result<()> {
+// The name that an argument gives, put at the front of the buffer: how many bytes it has, where one that is too long counts as empty; none where
+// there is no such argument.
+fn name_given(rt: &impl Env, i: usize, name: &mut [u8]) -> Option<usize>
+    ensures { IfSome result (λ n. n ≤ length name.new) }
+{
+    match rt.arg(i, name) {
+        Ok(n) => Some(n),
+        Err(FillError::TooLong) => Some(0),
+        Err(FillError::NotPresent) => None,
+    }
+}
+
+// Runs the file that an argument names, and answers whether there is such an argument.
+pub fn argument(rt: &(impl Env + Files + Print), i: usize) -> io::Result<bool> {
     let mut name = [0u8; NAME];
-    let n = rt.arg(i, &mut name).unwrap_or(0);
-    run(rt, &name[..n])
+    let Some(n) = name_given(rt, i, &mut name) else {
+        return Ok(false);
+    };
+    run(rt, &name[..n])?;
+    Ok(true)
 }
