@@ -19,7 +19,7 @@ SYNTAX = set("abbrev pub unfoldable mutual data record axiom let in where module
 
 
 # Lemmas and local facts that have the name a definition is to get: they get `_lem`.
-AHEAD = ["all_are", "all_known", "by_first", "by_form", "first_leaf", "is_digit", "near_of", "place_at"]
+AHEAD = ["all_are", "all_known", "first_kind", "listed_in", "by_first", "by_form", "first_leaf", "is_digit", "near_of", "place_at"]
 
 
 def files(pattern):

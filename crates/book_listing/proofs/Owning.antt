@@ -72,15 +72,15 @@ unfolding live total book_of taught add
 own_live k n t = omega arith
 
 -- What is listed in a section of it: one entry for the order, one for its top, and the entries of its parts of either kind.
-abbrev pub listed_in_lem : Section → ℕ → ℕ → List ℕ → List Entry
-listed_in_lem Taught k n os = counted (cut_of os 0 greatest_depth) n ∷ []
-listed_in_lem Tops k n os = counted (cut_of os 0 (k - 2)) n ∷ []
-listed_in_lem Lows k n os = list_of true k n os
-listed_in_lem Middles k n os = list_of false k n os
+abbrev pub listed_in : Section → ℕ → ℕ → List ℕ → List Entry
+listed_in Taught k n os = counted (cut_of os 0 greatest_depth) n ∷ []
+listed_in Tops k n os = counted (cut_of os 0 (k - 2)) n ∷ []
+listed_in Lows k n os = list_of true k n os
+listed_in Middles k n os = list_of false k n os
 
 -- The book of the four.
 abbrev book_listed : ℕ → ℕ → List ℕ → Book
-book_listed k n os = record { k = k; T = listed_in_lem Taught k n os; R = listed_in_lem Tops k n os; L = listed_in_lem Lows k n os; P = listed_in_lem Middles k n os }
+book_listed k n os = record { k = k; T = listed_in Taught k n os; R = listed_in Tops k n os; L = listed_in Lows k n os; P = listed_in Middles k n os }
 
 -- An order within the limits, and what it says of its own book.
 module _ (os : List ℕ) (is : cause_of os ≡ done) where
@@ -117,11 +117,11 @@ module _ (os : List ℕ) (is : cause_of os ≡ done) where
         rw (x.passes.is, ← all, ← some)
 
     -- So a section that is asked for has what is listed in it.
-    pub section-is : (s asked : Section) → asked ≡ s → listed_in_lem s k n os ≡ section_of asked (own_of k n os)
+    pub section-is : (s asked : Section) → asked ≡ s → listed_in s k n os ≡ section_of asked (own_of k n os)
     unfolding section_of
     section-is s asked told = here s ∙ sym (ap₂ section_of told own_is)
       where
-        here : (s : Section) → listed_in_lem s k n os ≡ section_of s (book_listed k n os)
+        here : (s : Section) → listed_in s k n os ≡ section_of s (book_listed k n os)
         here Taught = refl
         here Tops = refl
         here Lows = refl
@@ -150,7 +150,7 @@ module _ (os : List ℕ) (is : cause_of os ≡ done) where
       unfolding section_of
       section-short s = rw (← section-is s s refl) (short s)
         where
-          short : (s : Section) → length (section_words (listed_in_lem s k n os)) ≤ room_for s k os
+          short : (s : Section) → length (section_words (listed_in s k n os)) ≤ room_for s k os
           short Taught = omega (arith, one-long (cut_of os 0 greatest_depth) n, whole-short greatest_depth)
           short Tops = omega (arith, one-long (cut_of os 0 (k - 2)) n)
           short Lows = list_short true

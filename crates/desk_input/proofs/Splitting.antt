@@ -20,9 +20,9 @@ use Rattle.desk_input.specs.declared.LineKind.TheVariants.{Asks, Other}
 -- ---- the first line
 
 -- What the first of lines asks for.
-abbrev pub first_kind_lem : List (List ℕ) → LineKind
-first_kind_lem [] = Other
-first_kind_lem (l ∷ ls) = kind_of l
+abbrev pub first_kind : List (List ℕ) → LineKind
+first_kind [] = Other
+first_kind (l ∷ ls) = kind_of l
 
 -- LF is no letter.
 pub feed_asks-nothing : (b : ℕ) → eqb b line_feed ≡ true → letter_of b ≡ Other
@@ -30,20 +30,20 @@ unfolding letter_of when◌then◌else◌
 feed_asks-nothing b p = rw (eqb-true b line_feed p)
 
 -- The first line of bytes asks for what the bytes at their front do.
-first_kind : (bs : List ℕ) → first_kind_lem (input_lines bs) ≡ letter_at bs
+first_kind_lem : (bs : List ℕ) → first_kind (input_lines bs) ≡ letter_at bs
 unfolding input_lines with_byte kind_of letter_at when◌then◌else◌
-first_kind [] = refl
-first_kind (b ∷ []) = one (eqb b line_feed)
+first_kind_lem [] = refl
+first_kind_lem (b ∷ []) = one (eqb b line_feed)
   where
     -- A line of one byte asks for nothing.
-    one : (t : Bool) → first_kind_lem (with_byte t b []) ≡ Other
+    one : (t : Bool) → first_kind (with_byte t b []) ≡ Other
     one true = refl
     one false = refl
-first_kind (b ∷ e ∷ rest) = go (eqb b line_feed) refl (eqb e line_feed) refl (input_lines rest)
+first_kind_lem (b ∷ e ∷ rest) = go (eqb b line_feed) refl (eqb e line_feed) refl (input_lines rest)
   where
     -- By whether the first byte is LF, whether the second is, and the lines behind them.
     go : (t : Bool) → eqb b line_feed ≡ t → (u : Bool) → eqb e line_feed ≡ u → (ls : List (List ℕ))
-        → first_kind_lem (with_byte t b (with_byte u e ls)) ≡ (when u then letter_of b else Other)
+        → first_kind (with_byte t b (with_byte u e ls)) ≡ (when u then letter_of b else Other)
     go true p true q ls = sym (feed_asks-nothing b p)
     go true p false q ls = refl
     go false p true q ls = rw q
@@ -73,7 +73,7 @@ unfolding sheet_of calls_of input_lines
 empty-sheet = refl
 
 -- Lines of which the first is no letter line ask for what they ask for behind a line's beginning.
-calls-on : (ls : List (List ℕ)) → first_kind_lem ls ≡ Other → calls_of ls ≡ going_on ls
+calls-on : (ls : List (List ℕ)) → first_kind ls ≡ Other → calls_of ls ≡ going_on ls
 unfolding calls_of
 calls-on [] e = refl
 calls-on (l ∷ ls) e = rw e
@@ -96,7 +96,7 @@ byte_on b bs = go (eqb b line_feed)
 -- So does a byte at a line's beginning, if no letter line starts there.
 pub byte_other : (b : ℕ) (bs : List ℕ) → letter_at (b ∷ bs) ≡ Other → sheet_from true (b ∷ bs) ≡ with_front b (sheet_from (eqb b line_feed) bs)
 unfolding sheet_of
-byte_other b bs e = calls-on (input_lines (b ∷ bs)) (first_kind (b ∷ bs) ∙ e) ∙ byte_on b bs
+byte_other b bs e = calls-on (input_lines (b ∷ bs)) (first_kind_lem (b ∷ bs) ∙ e) ∙ byte_on b bs
 
 -- Bytes that begin with a letter line ask for a call, whose text is what stands before the next.
 pub letter-sheet : (bs : List ℕ) (x : Letter) → letter_at bs ≡ Asks x

@@ -35,7 +35,7 @@ use Rattle.order_cuts.specs.contracts.cut_into as cut-into
 use Rattle.order_parts.specs.contracts.part_into as part-into
 use Rattle.form_read.specs.contracts.read
 use Rattle.form_write.specs.contracts.write
-use Rattle.book_form.specs.contracts.in_form as in_form_lem
+use Rattle.book_form.specs.contracts.in_form
 use Rattle.book.specs.contracts.open as book-open
 use Rattle.book_judge.specs.contracts.judge
 use Rattle.book_choose.specs.contracts.choose
@@ -246,8 +246,8 @@ module _ {M : Type 1} {𝓤 : Ura.Ura M} (𝓛 : Logic 𝓤) (mem : Memory.Memor
   write-says κs args g r = (refl, refl, refl)
 
   -- `book_form::in_form`
-  pub in_form-says : (κs args g r : _) → let c = in_form_lem.spec 𝓛 mem run κs args in
-      (c.ghost ≡ Unit {0}) × (c.requires g ≡ ⊤ₛ) × (c.ensures g r ≡ exits 𝓛 in_form_lem.signature (in_form_lem.ended).kept κs args (λ end. ⌜ r ≡ book_form_of args.0.now ⌝))
+  pub in_form-says : (κs args g r : _) → let c = in_form.spec 𝓛 mem run κs args in
+      (c.ghost ≡ Unit {0}) × (c.requires g ≡ ⊤ₛ) × (c.ensures g r ≡ exits 𝓛 in_form.signature (in_form.ended).kept κs args (λ end. ⌜ r ≡ book_form_of args.0.now ⌝))
   in_form-says κs args g r = (refl, refl, refl)
 
   -- `book::open`

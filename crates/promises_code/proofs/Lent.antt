@@ -14,7 +14,7 @@ use Rattle.order_cuts.specs.contracts.cut_into as cut-into
 use Rattle.order_parts.specs.contracts.part_into as part-into
 use Rattle.form_read.specs.contracts.read
 use Rattle.form_write.specs.contracts.write
-use Rattle.book_form.specs.contracts.in_form as in_form_lem
+use Rattle.book_form.specs.contracts.in_form
 use Rattle.book.specs.contracts.open as book-open
 use Rattle.book_judge.specs.contracts.judge
 use Rattle.book_choose.specs.contracts.choose
@@ -91,7 +91,7 @@ pub write-lent : (write.signature).params ≡ words-read 0 tt ∷ bytes-written 
 write-lent = refl
 
 -- `book_form::in_form`
-pub in_form-lent : (in_form_lem.signature).params ≡ words-read 0 tt ∷ []
+pub in_form-lent : (in_form.signature).params ≡ words-read 0 tt ∷ []
 in_form-lent = refl
 
 -- `book::open`

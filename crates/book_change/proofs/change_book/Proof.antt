@@ -65,21 +65,23 @@ stage3 v =
 
 change-section-requires : tie.Need-change_section-p-requires
 change-section-requires c κs =
-    let g = stage0 c.before.before.before in (
+    let e = c.before.before.before in
+    let g = stage0 e in (
       stage_stands _ _ _ g Middles c.args.places.middles c.args.places.used (starts _ c.args.places c.requires.0 Middles) (uses _ c.args.places c.requires.0),
       (
         held_stands _ c.args.others c.requires.1.0 Middles,
         (
-          stage_ready _ _ _ g c.args.change Middles (other c.before.before.before) c.requires.1.1.0.middles,
-          stage_lacks _ _ _ g c.args.change Middles (other c.before.before.before) _ (middles-lack c.args.change c.args.lacks (other c.before.before.before) (first c.before.before.before) c.requires.1.1.1),
+          stage_ready _ _ _ g c.args.change Middles (other e) c.requires.1.1.0.middles,
+          stage_lacks _ _ _ g c.args.change Middles (other e) _ (middles-lack c.args.change c.args.lacks (other e) (first e) c.requires.1.1.1),
         ),
       ),
     )
 
 change-section-requires-2 : tie.Need-change_section-l-requires
 change-section-requires-2 c κs =
-    let s = start c.before.before.before in
-    let g = stage1 c.before.before.before in (
+    let e = c.before.before.before in
+    let s = start e in
+    let g = stage1 e in (
       stage_stands _ _ _ g Lows s.args.places.lows c.change_section-p.result
           (starts _ s.args.places s.requires.0 Lows ∙ sym (lows-start s.args.change (other s) (first s)))
           (next-used _ _ _ (stage0 s) s.args.change Middles (other s) s.requires.1.1.0.middles _ c.change_section-p.ensures.0),
@@ -94,9 +96,10 @@ change-section-requires-2 c κs =
 
 change-section-requires-3 : tie.Need-change_section-r-requires
 change-section-requires-3 c κs =
-    let v = one c.before.before.before in
+    let e = c.before.before.before in
+    let v = one e in
     let s = start v in
-    let g = stage2 c.before.before.before in (
+    let g = stage2 e in (
       stage_stands _ _ _ g Tops s.args.places.tops c.change_section-l.result
           (starts _ s.args.places s.requires.0 Tops ∙ sym (tops_start s.args.change (other s) (first s)))
           (next-used _ _ _ (stage1 v) s.args.change Lows (other s) s.requires.1.1.0.lows _ c.change_section-l.ensures.0),
@@ -111,9 +114,10 @@ change-section-requires-3 c κs =
 
 change-section-requires-4 : tie.Need-change_section-requires
 change-section-requires-4 c κs =
-    let w = two c.before.before.before in
+    let e = c.before.before.before in
+    let w = two e in
     let s = start (one w) in
-    let g = stage3 c.before.before.before in (
+    let g = stage3 e in (
       stage_stands _ _ _ g Taught _ c.change_section-r.result
           refl
           (next-used _ _ _ (stage2 w) s.args.change Tops (other s) s.requires.1.1.0.tops _ c.change_section-r.ensures.0),
@@ -129,8 +133,9 @@ change-section-requires-4 c κs =
 returns : tie.Need-returns
 unfolding changed_book
 returns c =
-    let s = start (one (two c.before.before.before.before.before.before)) in
-    (next-stage _ (fourth s) _ (stage3 c.before.before.before.before.before.before) s.args.change Taught (other s) s.requires.1.1.0.taught c.change_section.new.book c.change_section.ensures.1).is
+    let e = c.before.before.before.before.before.before in
+    let s = start (one (two e)) in
+    (next-stage _ (fourth s) _ (stage3 e) s.args.change Taught (other s) s.requires.1.1.0.taught c.change_section.new.book c.change_section.ensures.1).is
 
 pub change_book_spec : {M : Type 1} → statement M
 change_book_spec =

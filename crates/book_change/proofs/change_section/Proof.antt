@@ -141,13 +141,15 @@ change-entries-requires c κs =
 
 add-end : tie.Need-overflow_add-end
 add-end c =
-    let s = start (slotted (lived c.before.before.before)) in
-    omega (arith, few c.before.before.before, s.requires.0.short)
+    let e = c.before.before.before in
+    let s = start (slotted (lived e)) in
+    omega (arith, few e, s.requires.0.short)
 
 cast-book : tie.Need-overflow_cast-book
 cast-book c =
-    let s = start (slotted (lived c.before.before.before)) in
-    omega (arith, few c.before.before.before, s.requires.0.short)
+    let e = c.before.before.before in
+    let s = start (slotted (lived e)) in
+    omega (arith, few e, s.requires.0.short)
 
 slice-write-book : tie.Need-bounds-book-1
 slice-write-book c = let s = start (slotted (lived c.before.before.before)) in omega (arith, c.book-1.given.1, s.requires.0.long)
@@ -157,8 +159,9 @@ slice-write-book-2 c = let s = start (slotted (lived c.before.before.before)) in
 
 cast-book-2 : tie.Need-overflow_cast-book-2
 cast-book-2 c =
-    let s = start (slotted (lived c.before.before.before.before)) in
-    omega (arith, few c.before.before.before.before, s.requires.0.short)
+    let e = c.before.before.before.before in
+    let s = start (slotted (lived e)) in
+    omega (arith, few e, s.requires.0.short)
 
 mul-book : tie.Need-offset_bounds-book-word-2
 mul-book c =
@@ -173,13 +176,14 @@ same_length c = simp length-set c.book-1.given.1
 
 returns : tie.Need-returns
 returns c =
-    let v = slotted (lived c.before.before.before.before) in
+    let e = c.before.before.before.before in
+    let v = slotted (lived e) in
     let s = start v in
     let x = s.args in
     let other = take (length x.other.now - x.from) (drop x.from x.other.now) in
     let part = take (length x.book.now - x.at) (drop x.at x.book.now) in (
-      ends c.before.before.before.before,
-      words-then x.book.now x.other.now x.change x.section x.at x.uses x.from _ s.requires.0 s.requires.1.0 s.requires.1.1.0 v.slot-word.result v.slot-word.ensures part other c.change_entries-size.new.part c.change_entries-size.result (lent s) (lent_other s) c.change_entries-size.ensures (lived c.before.before.before.before).lives-live.result (lived c.before.before.before.before).lives-live.ensures,
+      ends e,
+      words-then x.book.now x.other.now x.change x.section x.at x.uses x.from _ s.requires.0 s.requires.1.0 s.requires.1.1.0 v.slot-word.result v.slot-word.ensures part other c.change_entries-size.new.part c.change_entries-size.result (lent s) (lent_other s) c.change_entries-size.ensures (lived e).lives-live.result (lived e).lives-live.ensures,
     )
 
 pub change_section_spec : {M : Type 1} → statement M

@@ -55,7 +55,9 @@ part-weigh-start : tie.Need-slice_bounds-weigh-start
 part-weigh-start c = book-start c.before.before
 
 mul-weigh-2 : tie.Need-offset_bounds-other-from
-mul-weigh-2 c = omega (arith, other-start c.before.before.before, (called c.before.before.before).requires.1.short)
+mul-weigh-2 c =
+    let e = c.before.before.before in
+    omega (arith, other-start e, (called e).requires.1.short)
 
 sub-weigh-2 : tie.Need-slice_bounds-weigh-count-2
 sub-weigh-2 c = other-start c.before.before.before

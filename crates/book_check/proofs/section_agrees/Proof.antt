@@ -309,8 +309,9 @@ part-tally-taught-end-3 c =
 
 tally-taught-requires : tie.Need-tally_taught-requires
 tally-taught-requires c κs =
-    let b = called (slotted (begun c.before.before.before.before.before)) in
-    (b.requires.0, (indexed c.before.before.before.before.before, ((long c.before.before.before.before.before, few c.before.before.before.before.before), no-marks c.before.before.before.before.before)))
+    let e = c.before.before.before.before.before in
+    let b = called (slotted (begun e)) in
+    (b.requires.0, (indexed e, ((long e, few e), no-marks e)))
 
 returns : tie.Need-returns-then-not-tally_taught
 returns c =
@@ -327,26 +328,30 @@ part-same-counts-end-2 c = counts-room c.before.before.before.before.before.befo
 
 same-counts-requires : tie.Need-same_counts-requires
 same-counts-requires c κs =
-    (indexed (listing c.before.before.before.before.before.before.before), ap length (counts-lent c.before.before.before.before.before.before.before) ∙ c.tally_taught.auto.counts ∙ long (listing c.before.before.before.before.before.before.before))
+    let e = c.before.before.before.before.before.before.before in
+    (indexed (listing e), ap length (counts-lent e) ∙ c.tally_taught.auto.counts ∙ long (listing e))
 
 same-length-5 : tie.Need-shape_of-counts
 same-length-5 c =
-    let z = clean (listing c.before.before.before.before.before.before.before.before) in
-    zeros-kept (told (worded z)) (called (worded z)).args.counts.now _ (counts-fit (worded z)) z.clear.ensures (counts c.before.before.before.before.before.before.before.before) (counted c.before.before.before.before.before.before.before.before)
+    let e = c.before.before.before.before.before.before.before.before in
+    let z = clean (listing e) in
+    zeros-kept (told (worded z)) (called (worded z)).args.counts.now _ (counts-fit (worded z)) z.clear.ensures (counts e) (counted e)
 
 same-length-6 : tie.Need-shape_of-marks
 same-length-6 c =
-    let y = cleaner (listing c.before.before.before.before.before.before.before.before) in
+    let e = c.before.before.before.before.before.before.before.before in
+    let y = cleaner (listing e) in
     let w = worded (first-clean y) in
-    zeros-kept (told w) (called w).args.marks.now _ (marks-fit w) y.clear-2.ensures (marks c.before.before.before.before.before.before.before.before) (marked c.before.before.before.before.before.before.before.before)
+    zeros-kept (told w) (called w).args.marks.now _ (marks-fit w) y.clear-2.ensures (marks e) (marked e)
 
 returns-2 : tie.Need-returns
 returns-2 c =
-    let i = listing c.before.before.before.before.before.before.before.before in
+    let e = c.before.before.before.before.before.before.before.before in
+    let i = listing e in
     let a = begun i in
     let known = c.if-not-tally_taught.false in
     known-agrees _ _ (called (slotted a)).requires.0 (called (slotted a)).args.section _ _ a.start.ensures (slotted a).slot.ensures (starts i) _ i.index.ensures
-    (zeros (clean i)) (zeroed (clean i)) _ _ (sym c.tally_taught.ensures.0 ∙ known) (counts-lent c.before.before.before.before.before.before.before.before ∙ c.tally_taught.ensures.1.0 known) c.same_counts.ensures
+    (zeros (clean i)) (zeroed (clean i)) _ _ (sym c.tally_taught.ensures.0 ∙ known) (counts-lent e ∙ c.tally_taught.ensures.1.0 known) c.same_counts.ensures
 
 pub section_agrees_spec : {M : Type 1} → statement M
 section_agrees_spec =

@@ -66,9 +66,10 @@ returns-2 c =
 
 section-agrees-requires-3 : tie.Need-section_agrees-requires-3
 section-agrees-requires-3 c κs =
-    let k₁ = (at-tops c.before.before.before.before.before.before.before.before.before.before).section_agrees.auto in
+    let e = c.before.before.before.before.before.before.before.before.before.before in
+    let k₁ = (at-tops e).section_agrees.auto in
     let k₂ = c.section_agrees-2.auto in
-    let s = (called (at-tops c.before.before.before.before.before.before.before.before.before.before)).requires in
+    let s = (called (at-tops e)).requires in
     (s.0, (omega (arith, k₂.starts, k₁.starts, s.1.0 Middles), (omega (arith, k₂.counts, k₁.counts, s.1.1.0 Middles), omega (arith, k₂.marks, k₁.marks, s.1.1.1 Middles))))
 
 returns-3 : tie.Need-returns

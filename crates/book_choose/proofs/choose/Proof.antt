@@ -26,7 +26,9 @@ number : (c : tie.After-judge-judged) → let a = c.args in c.judge-judged.resul
 number c = ap (λ (a : Answer). a.number) (judged c)
 
 returns : tie.Need-returns-then-answer-ne-DONE
-returns c = ap refused_by (judged c.before.before.before) ∙ sym (choose_judges _ _ _ (λ e. c.if-answer-ne-DONE.true (number c.before.before.before ∙ e)))
+returns c =
+    let p = c.before.before.before in
+    ap refused_by (judged p) ∙ sym (choose_judges _ _ _ (λ e. c.if-answer-ne-DONE.true (number p ∙ e)))
 
 -- Past the first test the order passes.
 passes : (c : tie.Else-answer-ne-DONE) → let a = c.args in Passed a.book.now a.order.now a.rules.now

@@ -55,10 +55,11 @@ part-read-rest-start c = omega (arith, long c.before.before)
 
 returns-4 : tie.Need-returns
 returns-4 c =
+    let e = c.before.before.before.before.before.before.before in
     let x = c.args in
     c.read_rest.ensures
-    ∙ ap (λ (bytes : List ℕ). read_rest_of bytes x.book.now) (tail_all front_bytes x.file.now (long c.before.before.before.before.before.before.before))
-    ∙ sym (read-rest x.file.now x.book.now (right c.before.before.before.before.before.before.before.before.before) (marked c.before.before.before.before.before.before.before) (eq-eqb _ _ (sym c.word_at.ensures ∙ c.if-word_at-ne-VERSION.false)))
+    ∙ ap (λ (bytes : List ℕ). read_rest_of bytes x.book.now) (tail_all front_bytes x.file.now (long e))
+    ∙ sym (read-rest x.file.now x.book.now (right c.before.before.before.before.before.before.before.before.before) (marked e) (eq-eqb _ _ (sym c.word_at.ensures ∙ c.if-word_at-ne-VERSION.false)))
 
 pub read_spec : {M : Type 1} → statement M
 read_spec =

@@ -56,9 +56,10 @@ part-read-words-end c =
 
 returns-3 : tie.Need-returns
 returns-3 c =
+    let e = c.before.before.before.before.before.before in
     let x = c.args in
     let rest = x.rest.now in
-    let words = front (length rest / 2) (replicate most_book_words 0) c.take_words.new.out (half c.before.before.before.before.before.before) ∙ taken c.before.before.before.before.before.before in
+    let words = front (length rest / 2) (replicate most_book_words 0) c.take_words.new.out (half e) ∙ taken e in
     let bytes : bytes_of (words_of rest) ≡ rest =
     bytes-of_words rest (λ i. omega (arith, c.shared_slice_known-1.given i)) c.if-rest-ne0.false in
     c.read_words.ensures ∙ ap (λ (l : List ℕ). read_rest_of l x.book.now) (ap bytes_of words ∙ bytes)

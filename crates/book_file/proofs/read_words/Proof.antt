@@ -44,18 +44,21 @@ stored-number-requires c κs = holds _ _ (formed c)
 
 returns-2 : tie.Need-returns-then-number-ne-DONE
 returns-2 c =
-    ap (λ (r : Answer). outcome r (slice c.before.before.before)) (c.answered-then-number-ne-DONE.ensures ∙ ap answered c.stored_number-number.ensures)
-    ∙ sym (restore_numbered (words c.before.before.before) (slice c.before.before.before) (places c.before.before.before) (formed c.before.before.before) (λ d. c.if-number-ne-DONE.true (c.stored_number-number.ensures ∙ d)))
+    let e = c.before.before.before in
+    ap (λ (r : Answer). outcome r (slice e)) (c.answered-then-number-ne-DONE.ensures ∙ ap answered c.stored_number-number.ensures)
+    ∙ sym (restore_numbered (words e) (slice e) (places e) (formed e) (λ d. c.if-number-ne-DONE.true (c.stored_number-number.ensures ∙ d)))
 
 returns-3 : tie.Need-returns-then-book-words
 returns-3 c =
-    ap (λ (r : Answer). outcome r (slice c.before.before.before.before)) c.answered-then-book-words.ensures
-    ∙ sym (restore_short (words c.before.before.before.before) (slice c.before.before.before.before) (places c.before.before.before.before) (formed c.before.before.before.before) (sym c.stored_number-number.ensures ∙ c.if-number-ne-DONE.false) c.if-book-words.true)
+    let e = c.before.before.before.before in
+    ap (λ (r : Answer). outcome r (slice e)) c.answered-then-book-words.ensures
+    ∙ sym (restore_short (words e) (slice e) (places e) (formed e) (sym c.stored_number-number.ensures ∙ c.if-number-ne-DONE.false) c.if-book-words.true)
 
 returns-4 : tie.Need-returns
 returns-4 c =
+    let e = c.before.before.before.before.before.before.before.before in
     ap₂ outcome c.answered-2.ensures c.put_book.ensures
-    ∙ sym (restore_written (words c.before.before.before.before.before.before.before.before) (slice c.before.before.before.before.before.before.before.before) (places c.before.before.before.before.before.before.before.before) (formed c.before.before.before.before.before.before.before.before) (sym c.stored_number-number.ensures ∙ c.if-number-ne-DONE.false) c.if-book-words.false)
+    ∙ sym (restore_written (words e) (slice e) (places e) (formed e) (sym c.stored_number-number.ensures ∙ c.if-number-ne-DONE.false) c.if-book-words.false)
 
 pub read_words_spec : {M : Type 1} → statement M
 read_words_spec =

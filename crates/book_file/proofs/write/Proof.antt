@@ -33,15 +33,17 @@ add-count c = omega (arith, c.shared_slice_known-2-1.given 1)
 
 returns-2 : tie.Need-returns-then-out-count
 returns-2 c =
-    no_output_room _ _ _ c.wrote-then-out-count.ensures (omega (arith, (told c.before.before.before).size)) ∙ sym (agreed_file _ _ (agreed c.before.before.before))
+    let e = c.before.before.before in
+    no_output_room _ _ _ c.wrote-then-out-count.ensures (omega (arith, (told e).size)) ∙ sym (agreed_file _ _ (agreed e))
 
 part-put-words-end : tie.Need-slice_bounds-put_words-end
 part-put-words-end c = (told c.before.before.before.before.before.before).fits
 
 returns-3 : tie.Need-returns
 returns-3 c =
-    has_room _ _ _ _ _ c.wrote-2.ensures (told c.before.before.before.before.before.before.before.before.before.before.before.before).size c.if-out-count.false (file_over _ _ _ _ _ (told c.before.before.before.before.before.before.before.before.before.before.before.before) c.put_front.ensures c.put_words.ensures)
-    ∙ sym (agreed_file _ _ (agreed c.before.before.before.before.before.before.before.before.before.before.before.before))
+    let e = c.before.before.before.before.before.before.before.before.before.before.before.before in
+    has_room _ _ _ _ _ c.wrote-2.ensures (told e).size c.if-out-count.false (file_over _ _ _ _ _ (told e) c.put_front.ensures c.put_words.ensures)
+    ∙ sym (agreed_file _ _ (agreed e))
 
 pub write_spec : {M : Type 1} → statement M
 write_spec =

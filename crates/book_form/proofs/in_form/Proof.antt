@@ -135,7 +135,8 @@ pass-requires-2 c κs =
 
 returns-4 : tie.Need-returns-in_default-pass-2
 returns-4 c =
-    sym (no_section _ _ (head (to-k c.before.before.before.before.before)) Tops _ _ _ (at-tops c.before.before.before.before.before).next refl c.of_tops-low.ensures _ c.pass-2.ensures.0 c.in_default-pass-2.is)
+    let e = c.before.before.before.before.before in
+    sym (no_section _ _ (head (to-k e)) Tops _ _ _ (at-tops e).next refl c.of_tops-low.ensures _ c.pass-2.ensures.0 c.in_default-pass-2.is)
 
 shared-slice-read-pass-3 : tie.Need-bounds-book-5
 shared-slice-read-pass-3 c = omega (arith, (head (to-k (to-tops c.before))).long)
@@ -147,8 +148,9 @@ pass-requires-3 c κs =
 
 returns-5 : tie.Need-returns-in_default-pass-3
 returns-5 c =
-    let t = to-tops c.before.before.before.before.before in
-    sym (no_section _ _ (head (to-k t)) Lows _ _ _ (at-lows c.before.before.before.before.before).next refl t.of_tops-low.ensures _ c.pass-3.ensures.0 c.in_default-pass-3.is)
+    let e = c.before.before.before.before.before in
+    let t = to-tops e in
+    sym (no_section _ _ (head (to-k t)) Lows _ _ _ (at-lows e).next refl t.of_tops-low.ensures _ c.pass-3.ensures.0 c.in_default-pass-3.is)
 
 shared-slice-read-pass-4 : tie.Need-bounds-book-6
 shared-slice-read-pass-4 c = omega (arith, (head (to-k (to-tops (to-lows c.before)))).long)
@@ -160,8 +162,9 @@ pass-requires-4 c κs =
 
 returns-6 : tie.Need-returns-in_default-pass-4
 returns-6 c =
-    let t = to-tops (to-lows c.before.before.before.before.before) in
-    sym (no_section _ _ (head (to-k t)) Middles _ _ _ (at-middles c.before.before.before.before.before).next t.of_middles-middle.ensures t.of_middles-middle.ensures _ c.pass-4.ensures.0 c.in_default-pass-4.is)
+    let e = c.before.before.before.before.before in
+    let t = to-tops (to-lows e) in
+    sym (no_section _ _ (head (to-k t)) Middles _ _ _ (at-middles e).next t.of_middles-middle.ensures t.of_middles-middle.ensures _ c.pass-4.ensures.0 c.in_default-pass-4.is)
 
 head-right-requires : tie.Need-head_right-requires
 head-right-requires c κs = (head (to-k (to-tops (to-lows (to-middles c))))).long

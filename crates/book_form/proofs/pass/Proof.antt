@@ -72,7 +72,8 @@ enum_told c = search rules
 
 returns : tie.Need-returns-in_default invariant-loop decreases-loop
 returns c =
-    (sym (c.loop-left.invariant.4 ∙ runs_out (book c.before.before.before) (least c.before.before.before) (greatest c.before.before.before) (last-key c.before.before.before) c.loop-left.at c.loop-left.sum c.loop-left.left c.loop-left-test.true (not_told _ _ _ c.whole_at.ensures c.in_default.is)), c.loop-left.invariant.5)
+    let e = c.before.before.before in
+    (sym (c.loop-left.invariant.4 ∙ runs_out (book e) (least e) (greatest e) (last-key e) c.loop-left.at c.loop-left.sum c.loop-left.left c.loop-left-test.true (not_told _ _ _ c.whole_at.ensures c.in_default.is)), c.loop-left.invariant.5)
 
 add_start : tie.Need-overflow_add-start invariant-loop decreases-loop
 add_start c = let i = there c in omega (arith, i.ends, i.fits)
@@ -96,8 +97,9 @@ part-precedes-end-2 c = let i = there c.before.before in omega (arith, i.ends, i
 
 returns-3 : tie.Need-returns-then-not-precedes invariant-loop decreases-loop
 returns-3 c =
-    let k = top c.before.before.before.before.before in
-    (sym (k.loop-left.invariant.4 ∙ unsorted (book k) (least k) (greatest k) (last-key k) k.loop-left.at k.loop-left.sum k.loop-left.left c.loop-left-test.true (end c.before.before.before.before.before) (count c.before.before.before.before.before) (there c.before.before.before.before.before) (sym c.precedes.ensures ∙ c.if-not-precedes.true)), k.loop-left.invariant.5)
+    let e = c.before.before.before.before.before in
+    let k = top e in
+    (sym (k.loop-left.invariant.4 ∙ unsorted (book k) (least k) (greatest k) (last-key k) k.loop-left.at k.loop-left.sum k.loop-left.left c.loop-left-test.true (end e) (count e) (there e) (sym c.precedes.ensures ∙ c.if-not-precedes.true)), k.loop-left.invariant.5)
 
 mul-fits : tie.Need-offset_bounds-book-start-in-loop-left invariant-loop decreases-loop
 mul-fits c = let i = there c.before.before.before.before.before in omega (arith, i.ends, i.fits)
@@ -113,28 +115,31 @@ part-fits-end c = let i = there c.before.before.before.before.before in omega (a
 
 fits-requires : tie.Need-fits-requires invariant-loop decreases-loop
 fits-requires c κs =
-    let k = top c.before.before.before.before.before.before.before in
+    let e = c.before.before.before.before.before.before.before in
+    let k = top e in
     let p = k.requires in
-    (even _ _ _ _ (there c.before.before.before.before.before.before.before), p.0, omega (arith, p.1, k.loop-left.invariant.5))
+    (even _ _ _ _ (there e), p.0, omega (arith, p.1, k.loop-left.invariant.5))
 
 returns-4 : tie.Need-returns-then-not-fits invariant-loop decreases-loop
 returns-4 c =
-    let k = top c.before.before.before.before.before.before.before.before.before.before.before in
-    (sym (k.loop-left.invariant.4 ∙ misfit (book k) (least k) (greatest k) (last-key k) k.loop-left.at k.loop-left.sum k.loop-left.left c.loop-left-test.true (end c.before.before.before.before.before.before.before.before.before.before.before) (count c.before.before.before.before.before.before.before.before.before.before.before) (there c.before.before.before.before.before.before.before.before.before.before.before) c.if-count-lt-LEAST_COUNT.false (small c.before.before.before.before.before.before.before.before.before.before.before) (sym c.fits.ensures.0 ∙ c.if-not-fits.true)), c.fits.ensures.1 ∙ k.loop-left.invariant.5)
+    let e = c.before.before.before.before.before.before.before.before.before.before.before in
+    let k = top e in
+    (sym (k.loop-left.invariant.4 ∙ misfit (book k) (least k) (greatest k) (last-key k) k.loop-left.at k.loop-left.sum k.loop-left.left c.loop-left-test.true (end e) (count e) (there e) c.if-count-lt-LEAST_COUNT.false (small e) (sym c.fits.ensures.0 ∙ c.if-not-fits.true)), c.fits.ensures.1 ∙ k.loop-left.invariant.5)
 
 add-sum : tie.Need-overflow_add-sum invariant-loop decreases-loop
 add-sum c = let s = small c.before.before.before.before.before.before.before.before.before.before.before in omega arith
 
 loop-again : tie.Need-loop-left-preserved invariant-loop decreases-loop
 loop-again c =
-    let k = top c.before.before.before.before.before.before.before.before.before.before.before in
-    let i = there c.before.before.before.before.before.before.before.before.before.before.before in
-    let s = small c.before.before.before.before.before.before.before.before.before.before.before in (
+    let e = c.before.before.before.before.before.before.before.before.before.before.before in
+    let k = top e in
+    let i = there e in
+    let s = small e in (
       omega (arith, i.ends),
       i.fits,
       omega arith,
       omega arith,
-      k.loop-left.invariant.4 ∙ goes_on (book k) (least k) (greatest k) (last-key k) k.loop-left.at k.loop-left.sum k.loop-left.left c.loop-left-test.true (end c.before.before.before.before.before.before.before.before.before.before.before) (count c.before.before.before.before.before.before.before.before.before.before.before) i c.if-count-lt-LEAST_COUNT.false s (sym c.fits.ensures.0 ∙ c.if-not-fits.false) (sym c.precedes.ensures ∙ c.if-not-precedes.false),
+      k.loop-left.invariant.4 ∙ goes_on (book k) (least k) (greatest k) (last-key k) k.loop-left.at k.loop-left.sum k.loop-left.left c.loop-left-test.true (end e) (count e) i c.if-count-lt-LEAST_COUNT.false s (sym c.fits.ensures.0 ∙ c.if-not-fits.false) (sym c.precedes.ensures ∙ c.if-not-precedes.false),
       c.fits.ensures.1 ∙ k.loop-left.invariant.5,
     )
 

@@ -33,7 +33,8 @@ key c =
 
 put-cut-requires : tie.Need-put_cut-count-requires
 put-cut-requires c κs =
-    (c.requires.1.0, (c.requires.1.1, (first-line _ (tree c.before.before.before.before.before.before.before).tree (tree c.before.before.before.before.before.before.before).passes, short c.before.before.before.before.before.before.before c.of_tops.result)))
+    let e = c.before.before.before.before.before.before.before in
+    (c.requires.1.0, (c.requires.1.1, (first-line _ (tree e).tree (tree e).passes, short e c.of_tops.result)))
 
 shared-slice-read-many : tie.Need-bounds-book-4
 shared-slice-read-many c = omega (arith, c.requires.0.long)

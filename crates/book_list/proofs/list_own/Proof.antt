@@ -84,7 +84,9 @@ at₂ c = at₁ c.before.before.before.before.before + c.list_section-top.result
 
 -- The slice then.
 abbrev own₂ : tie.After-list_section-top → List ℕ
-own₂ c = put_mid (at₁ c.before.before.before.before.before) (length (own₁ c.before.before.before.before.before) - at₁ c.before.before.before.before.before) (own₁ c.before.before.before.before.before) c.list_section-top.new.out
+own₂ c =
+    let e = c.before.before.before.before.before in
+    put_mid (at₁ e) (length (own₁ e) - at₁ e) (own₁ e) c.list_section-top.new.out
 
 -- The sections that are listed.
 stage₂ : (c : tie.After-list_section-top) → let b = called₂ c in Stage (length b.args.own.now) (ws b Taught ++ ws b Tops) (own₂ c) (at₂ c) (room b Lows + room b Middles)
@@ -100,7 +102,9 @@ at₃ c = at₂ c.before.before.before.before.before + c.list_section-low.result
 
 -- The slice then.
 abbrev own₃ : tie.After-list_section-low → List ℕ
-own₃ c = put_mid (at₂ c.before.before.before.before.before) (length (own₂ c.before.before.before.before.before) - at₂ c.before.before.before.before.before) (own₂ c.before.before.before.before.before) c.list_section-low.new.out
+own₃ c =
+    let e = c.before.before.before.before.before in
+    put_mid (at₂ e) (length (own₂ e) - at₂ e) (own₂ e) c.list_section-low.new.out
 
 -- The sections that are listed.
 stage₃ : (c : tie.After-list_section-low) → let b = called₃ c in Stage (length b.args.own.now) ((ws b Taught ++ ws b Tops) ++ ws b Lows) (own₃ c) (at₃ c) (room b Middles)
@@ -116,7 +120,9 @@ at₄ c = at₃ c.before.before.before.before.before + c.list_section-middle.res
 
 -- The slice then.
 abbrev own₄ : tie.After-list_section-middle → List ℕ
-own₄ c = put_mid (at₃ c.before.before.before.before.before) (length (own₃ c.before.before.before.before.before) - at₃ c.before.before.before.before.before) (own₃ c.before.before.before.before.before) c.list_section-middle.new.out
+own₄ c =
+    let e = c.before.before.before.before.before in
+    put_mid (at₃ e) (length (own₃ e) - at₃ e) (own₃ e) c.list_section-middle.new.out
 
 -- The sections that are listed.
 stage₄ : (c : tie.After-list_section-middle) → let b = called₄ c in Stage (length b.args.own.now) (listed_words (B b)) (own₄ c) (at₄ c) 0
@@ -143,14 +149,19 @@ part-part-start c = stage_within _ _ _ _ _ (stage₀ c.before.before.before.befo
 
 list-section-requires : tie.Need-list_section-whole-requires
 list-section-requires c κs =
-    let s = stage₀ c.before.before.before.before.before in
-    (c.requires.0.0, (c.requires.1.0, (c.requires.1.1.0, (c.requires.1.1.1.0, (stage_zeros _ _ _ _ _ s, stage_fits _ _ _ _ _ s (room c.before.before.before.before.before Taught) (omega arith))))))
+    let e = c.before.before.before.before.before in
+    let s = stage₀ e in
+    (c.requires.0.0, (c.requires.1.0, (c.requires.1.1.0, (c.requires.1.1.1.0, (stage_zeros _ _ _ _ _ s, stage_fits _ _ _ _ _ s (room e Taught) (omega arith))))))
 
 add-tops : tie.Need-overflow_add-tops
-add-tops c = omega (arith, (called₁ c.before.before.before).requires.1.1.1.1.1, (stage₁ c.before.before.before).room)
+add-tops c =
+    let e = c.before.before.before in
+    omega (arith, (called₁ e).requires.1.1.1.1.1, (stage₁ e).room)
 
 mul-part-2 : tie.Need-offset_bounds-own-tops
-mul-part-2 c = omega (arith, (called₁ c.before.before.before).requires.1.1.1.1.1, (stage₁ c.before.before.before).room)
+mul-part-2 c =
+    let e = c.before.before.before in
+    omega (arith, (called₁ e).requires.1.1.1.1.1, (stage₁ e).room)
 
 sub-part-2 : tie.Need-slice_bounds-part-count-2
 sub-part-2 c = stage_within _ _ _ _ _ (stage₁ c.before.before.before)
@@ -160,15 +171,20 @@ part-part-start-2 c = stage_within _ _ _ _ _ (stage₁ c.before.before.before)
 
 list-section-requires-2 : tie.Need-list_section-top-requires
 list-section-requires-2 c κs =
-    let b = called₁ c.before.before.before.before in
-    let s = stage₁ c.before.before.before.before in
+    let e = c.before.before.before.before in
+    let b = called₁ e in
+    let s = stage₁ e in
     (b.requires.0.0, (b.requires.1.0, (b.requires.1.1.0, (b.requires.1.1.1.0, (stage_zeros _ _ _ _ _ s, stage_fits _ _ _ _ _ s (room b Tops) (omega arith))))))
 
 add-lows : tie.Need-overflow_add-lows
-add-lows c = omega (arith, (called₂ c.before.before.before).requires.1.1.1.1.1, (stage₂ c.before.before.before).room)
+add-lows c =
+    let e = c.before.before.before in
+    omega (arith, (called₂ e).requires.1.1.1.1.1, (stage₂ e).room)
 
 mul-part-3 : tie.Need-offset_bounds-own-lows
-mul-part-3 c = omega (arith, (called₂ c.before.before.before).requires.1.1.1.1.1, (stage₂ c.before.before.before).room)
+mul-part-3 c =
+    let e = c.before.before.before in
+    omega (arith, (called₂ e).requires.1.1.1.1.1, (stage₂ e).room)
 
 sub-part-3 : tie.Need-slice_bounds-part-count-3
 sub-part-3 c = stage_within _ _ _ _ _ (stage₂ c.before.before.before)
@@ -178,15 +194,20 @@ part-part-start-3 c = stage_within _ _ _ _ _ (stage₂ c.before.before.before)
 
 list-section-requires-3 : tie.Need-list_section-low-requires
 list-section-requires-3 c κs =
-    let b = called₂ c.before.before.before.before in
-    let s = stage₂ c.before.before.before.before in
+    let e = c.before.before.before.before in
+    let b = called₂ e in
+    let s = stage₂ e in
     (b.requires.0.0, (b.requires.1.0, (b.requires.1.1.0, (b.requires.1.1.1.0, (stage_zeros _ _ _ _ _ s, stage_fits _ _ _ _ _ s (room b Lows) (omega arith))))))
 
 add-middles : tie.Need-overflow_add-middles
-add-middles c = omega (arith, (called₃ c.before.before.before).requires.1.1.1.1.1, (stage₃ c.before.before.before).room)
+add-middles c =
+    let e = c.before.before.before in
+    omega (arith, (called₃ e).requires.1.1.1.1.1, (stage₃ e).room)
 
 mul-part-4 : tie.Need-offset_bounds-own-middles
-mul-part-4 c = omega (arith, (called₃ c.before.before.before).requires.1.1.1.1.1, (stage₃ c.before.before.before).room)
+mul-part-4 c =
+    let e = c.before.before.before in
+    omega (arith, (called₃ e).requires.1.1.1.1.1, (stage₃ e).room)
 
 sub-part-4 : tie.Need-slice_bounds-part-count-4
 sub-part-4 c = stage_within _ _ _ _ _ (stage₃ c.before.before.before)
@@ -196,8 +217,9 @@ part-part-start-4 c = stage_within _ _ _ _ _ (stage₃ c.before.before.before)
 
 list-section-requires-4 : tie.Need-list_section-middle-requires
 list-section-requires-4 c κs =
-    let b = called₃ c.before.before.before.before in
-    let s = stage₃ c.before.before.before.before in
+    let e = c.before.before.before.before in
+    let b = called₃ e in
+    let s = stage₃ e in
     (b.requires.0.0, (b.requires.1.0, (b.requires.1.1.0, (b.requires.1.1.1.0, (stage_zeros _ _ _ _ _ s, stage_fits _ _ _ _ _ s (room b Middles) (omega arith))))))
 
 add-used : tie.Need-overflow_add-used
@@ -244,7 +266,8 @@ same_length c = simp length-set (stage_long _ _ _ _ _ (stage₄ c.before.before.
 
 returns : tie.Need-returns
 returns c =
-    let b = called₄ c.before.before.before.before.before.before.before.before in
+    let e = c.before.before.before.before.before.before.before.before in
+    let b = called₄ e in
     let os = b.args.order.now in
     let sound = b.requires.1.0.sound in
     let k = b.args.k.k in
@@ -255,7 +278,7 @@ returns c =
     let e₃ = c.list_section-low.ensures.0 in
     let e₄ = c.list_section-middle.ensures.0 in (
       listed-places (B b) k _ _ _ _ depth e₁ e₂ e₃ e₄,
-      head_written (B b) _ (own₄ c.before.before.before.before.before.before.before.before) _ 0 (stage₄ c.before.before.before.before.before.before.before.before) _ n _ _ _ _ (c.value.ensures ∙ depth) (listed-live os sound k n) e₁ e₂ e₃ e₄
+      head_written (B b) _ (own₄ e) _ 0 (stage₄ e) _ n _ _ _ _ (c.value.ensures ∙ depth) (listed-live os sound k n) e₁ e₂ e₃ e₄
           ∙ ap (λ (z : ℕ). lay z (B b)) b.requires.1.1.1.1.1,
     )
 

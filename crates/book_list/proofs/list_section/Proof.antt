@@ -14,7 +14,7 @@ use Rattle.book.specs.Book.{section_of}
 use Rattle.book.specs.declared.Section.{Section}
 use Rattle.book.specs.declared.Section.TheVariants.{Taught, Tops, Lows, Middles}
 use Rattle.book_listing.specs.Own.{own_of, room_for}
-use Rattle.book_listing.proofs.Owning.{first-line, whole-short, listed_in_lem, section-is}
+use Rattle.book_listing.proofs.Owning.{first-line, whole-short, listed_in, section-is}
 use Rattle.book_list.proofs.Owning.{Listed, one-listed}
 use Rattle.book_list.proofs.list_section.Statement.{statement}
 use Rattle.book_list.proofs.list_section.Tie as tie
@@ -33,7 +33,7 @@ top-room b d is told = rw is (room b Tops told)
 
 -- What was listed in a section is the section that is asked for.
 asked : (b : tie.Start) (s : Section) → b.args.section ≡ s → (now : List ℕ) (size : Size)
-    → Listed b.args.out.now (listed_in_lem s b.args.k.k b.args.times b.args.order.now) now size
+    → Listed b.args.out.now (listed_in s b.args.k.k b.args.times b.args.order.now) now size
     → Listed b.args.out.now (section_of b.args.section (own_of b.args.k.k b.args.times b.args.order.now)) now size
 asked b s told now size =
     subst (λ (es : List Entry). Listed b.args.out.now es now size) (section-is b.args.order.now b.requires.1.0.sound b.args.k.k b.args.times s b.args.section told)
@@ -67,13 +67,15 @@ list-parts-requires-2 c κs =
 
 returns : tie.Need-returns-in-Taught
 returns c =
+    let e = c.before.before.before.before.before.before.before.before.before in
     let told = c.in-Taught.is in
-    asked c.before.before.before.before.before.before.before.before.before Taught told _ _ (written c.before.before.before.before.before.before.before.before.before greatest_depth _ _ _ refl (whole_room c.before.before.before.before.before.before.before.before.before told) c.write_entry-used.ensures.0 c.write_entry-used.ensures.1)
+    asked e Taught told _ _ (written e greatest_depth _ _ _ refl (whole_room e told) c.write_entry-used.ensures.0 c.write_entry-used.ensures.1)
 
 returns-2 : tie.Need-returns-in-Tops
 returns-2 c =
+    let e = c.before.before.before.before.before.before.before.before.before.before in
     let told = c.in-Tops.is in
-    asked c.before.before.before.before.before.before.before.before.before.before Tops told _ _ (written c.before.before.before.before.before.before.before.before.before.before _ _ _ _ c.of_tops-d.ensures (top-room c.before.before.before.before.before.before.before.before.before.before _ c.of_tops-d.ensures told) c.write_entry-used-in-Tops.ensures.0 c.write_entry-used-in-Tops.ensures.1)
+    asked e Tops told _ _ (written e _ _ _ _ c.of_tops-d.ensures (top-room e _ c.of_tops-d.ensures told) c.write_entry-used-in-Tops.ensures.0 c.write_entry-used-in-Tops.ensures.1)
 
 returns-3 : tie.Need-returns-in-Lows
 returns-3 c =

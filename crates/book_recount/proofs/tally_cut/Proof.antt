@@ -39,21 +39,23 @@ part-tally-once-end c = count_fits c.before.before.before.before
 
 tally-once-requires : tie.Need-tally_once-requires
 tally-once-requires c κs =
-    let b = called c.before.before.before.before.before in
+    let e = c.before.before.before.before.before in
+    let b = called e in
     let x = b.args in
-    let few : Few (tallied_once x.turn.by x.turn.number (sought_in (take (c.put_cut-end.result - 0) (drop 0 (scratch c.before.before.before.before.before))) (listed x.starts.now x.book.now)) x.marks.now x.counts.now) =
-    subst (λ (z : List ℕ). Few (tallied_once x.turn.by x.turn.number (sought_in z (listed x.starts.now x.book.now)) x.marks.now x.counts.now)) (sym (lent c.before.before.before.before.before)) b.requires.1.1.1.1.1.1 in
+    let few : Few (tallied_once x.turn.by x.turn.number (sought_in (take (c.put_cut-end.result - 0) (drop 0 (scratch e))) (listed x.starts.now x.book.now)) x.marks.now x.counts.now) =
+    subst (λ (z : List ℕ). Few (tallied_once x.turn.by x.turn.number (sought_in z (listed x.starts.now x.book.now)) x.marks.now x.counts.now)) (sym (lent e)) b.requires.1.1.1.1.1.1 in
     (b.requires.1.1.1.1.0, (b.requires.1.1.1.1.1.0, few))
 
 returns : tie.Need-returns
 returns c =
+    let e = c.before.before.before.before.before.before.before.before.before.before in
     let t = c.tally_once in
-    let x = (called c.before.before.before.before.before.before.before.before.before.before).args in
+    let x = (called e).args in
     let es = listed x.starts.now x.book.now in (
-      t.ensures.0 ∙ ap (λ (z : List ℕ). has z es) (lent c.before.before.before.before.before.before.before.before.before.before),
+      t.ensures.0 ∙ ap (λ (z : List ℕ). has z es) (lent e),
       (
-        t.ensures.1.0 ∙ ap (λ (z : List ℕ). tallied_once x.turn.by x.turn.number (sought_in z es) x.marks.now x.counts.now) (lent c.before.before.before.before.before.before.before.before.before.before),
-        t.ensures.1.1 ∙ ap (λ (z : List ℕ). marked_once x.turn.number (sought_in z es) x.marks.now) (lent c.before.before.before.before.before.before.before.before.before.before),
+        t.ensures.1.0 ∙ ap (λ (z : List ℕ). tallied_once x.turn.by x.turn.number (sought_in z es) x.marks.now x.counts.now) (lent e),
+        t.ensures.1.1 ∙ ap (λ (z : List ℕ). marked_once x.turn.number (sought_in z es) x.marks.now) (lent e),
       ),
     )
 

@@ -54,7 +54,8 @@ is-low-requires c κs = omega (arith, c.loop-line-test.true, spans-room _ _ (cal
 
 tally-cut-requires : tie.Need-tally_cut-requires invariant-loop decreases-loop
 tally-cut-requires c κs =
-    let b = called c.before.before.before.before.before.before in
+    let e = c.before.before.before.before.before.before in
+    let b = called e in
     let st = c.loop-line.invariant in (
       b.requires.1.0,
       (
@@ -63,7 +64,7 @@ tally-cut-requires c κs =
           c.loop-line-test.true,
           (
             omega (arith, st.1, b.requires.1.1.1.0),
-            (b.requires.1.1.1.1.0, ((counts-long c.before.before.before.before.before.before, marks-long c.before.before.before.before.before.before), turn_few _ _ _ _ _ _ _ _ _ _ _ st.0 c.loop-line-test.true _ b.requires.0 (tells c.before.before.before.before.before) c.if-is_low-low.true _ c.of_middles-d.ensures b.requires.1.1.1.1.0.sorted b.requires.1.1.1.1.1)),
+            (b.requires.1.1.1.1.0, ((counts-long e, marks-long e), turn_few _ _ _ _ _ _ _ _ _ _ _ st.0 c.loop-line-test.true _ b.requires.0 (tells c.before.before.before.before.before) c.if-is_low-low.true _ c.of_middles-d.ensures b.requires.1.1.1.1.0.sorted b.requires.1.1.1.1.1)),
           ),
         ),
       ),

@@ -13,7 +13,7 @@ use Rattle.book.specs.Book.{section_of}
 use Rattle.book.specs.declared.Section.{Section}
 use Rattle.book.specs.declared.Section.TheVariants.{Taught, Tops, Lows, Middles}
 use Rattle.book_listing.specs.Own.{own_of}
-use Rattle.book_listing.proofs.Owning.{first-line, listed_in_lem, section-is}
+use Rattle.book_listing.proofs.Owning.{first-line, listed_in, section-is}
 use Rattle.book_recount.proofs.Turns.{key-few, key-taken}
 use Rattle.book_recount.proofs.tally_section.Statement.{statement}
 use Rattle.book_recount.proofs.tally_section.Tie as tie
@@ -22,7 +22,7 @@ use Rattle.book_recount.proofs.tally_section.Tie as tie
 
 -- What is counted in a section.
 abbrev counts-in : Section → tie.Start → List Entry
-counts-in s b = listed_in_lem s b.args.k.k 1 b.args.order.now
+counts-in s b = listed_in s b.args.k.k 1 b.args.order.now
 
 -- The section that is asked for has what is counted in it.
 counted_is : (b : tie.Start) (s : Section) → b.args.section ≡ s → counts-in s b ≡ section_of b.args.section (own_of b.args.k.k 1 b.args.order.now)
@@ -62,13 +62,15 @@ enum_told c = search rules
 
 tally-cut-requires : tie.Need-tally_cut-requires
 tally-cut-requires c κs =
-    let few = key-few _ _ _ _ _ _ c.requires.1.1.1.1.0.sorted (ready-in c.before.before.before.before.before.before.before.before.before.before.before.before Taught c.in-Taught.is) in
-    (c.requires.1.0, (c.requires.1.1.0, (first-line _ c.requires.1.0.sound, (c.requires.1.1.1.0, (c.requires.1.1.1.1.0, (long c.before.before.before.before.before.before.before.before.before.before.before.before, few))))))
+    let e = c.before.before.before.before.before.before.before.before.before.before.before.before in
+    let few = key-few _ _ _ _ _ _ c.requires.1.1.1.1.0.sorted (ready-in e Taught c.in-Taught.is) in
+    (c.requires.1.0, (c.requires.1.1.0, (first-line _ c.requires.1.0.sound, (c.requires.1.1.1.0, (c.requires.1.1.1.1.0, (long e, few))))))
 
 tally-cut-requires-2 : tie.Need-tally_cut-requires-in-Tops
 tally-cut-requires-2 c κs =
-    let ready = subst (ReadyFor c.before.before.before.before.before.before.before.before.before.before.before.before.before) (sym (top-is c.before.before.before.before.before.before.before.before.before.before.before.before.before _ c.of_tops-d.ensures)) (ready-in c.before.before.before.before.before.before.before.before.before.before.before.before.before Tops c.in-Tops.is) in
-    (c.requires.1.0, (c.requires.1.1.0, (first-line _ c.requires.1.0.sound, (c.requires.1.1.1.0, (c.requires.1.1.1.1.0, (long c.before.before.before.before.before.before.before.before.before.before.before.before.before, key-few _ _ _ _ _ _ c.requires.1.1.1.1.0.sorted ready))))))
+    let e = c.before.before.before.before.before.before.before.before.before.before.before.before.before in
+    let ready = subst (ReadyFor e) (sym (top-is e _ c.of_tops-d.ensures)) (ready-in e Tops c.in-Tops.is) in
+    (c.requires.1.0, (c.requires.1.1.0, (first-line _ c.requires.1.0.sound, (c.requires.1.1.1.0, (c.requires.1.1.1.1.0, (long e, key-few _ _ _ _ _ _ c.requires.1.1.1.1.0.sorted ready))))))
 
 tally-parts-requires : tie.Need-tally_parts-requires
 tally-parts-requires c κs =
@@ -80,26 +82,30 @@ tally-parts-requires-2 c κs =
 
 returns : tie.Need-returns-in-Taught
 returns c =
+    let e = c.before.before.before.before.before.before.before.before.before.before.before.before.before.before.before.before.before.before.before in
     let told = c.in-Taught.is in
     let a = c.tally_cut.ensures in
-    subst (TakenFor c.before.before.before.before.before.before.before.before.before.before.before.before.before.before.before.before.before.before.before _ _ _) (counted_is c.before.before.before.before.before.before.before.before.before.before.before.before.before.before.before.before.before.before.before Taught told)
-    (key-taken _ _ _ _ _ _ c.requires.1.1.1.1.0.sorted (ready-in c.before.before.before.before.before.before.before.before.before.before.before.before.before.before.before.before.before.before.before Taught told) _ _ _ a.0 a.1.0 a.1.1)
+    subst (TakenFor e _ _ _) (counted_is e Taught told)
+    (key-taken _ _ _ _ _ _ c.requires.1.1.1.1.0.sorted (ready-in e Taught told) _ _ _ a.0 a.1.0 a.1.1)
 
 returns-2 : tie.Need-returns-in-Tops
 returns-2 c =
+    let e = c.before.before.before.before.before.before.before.before.before.before.before.before.before.before.before.before.before.before.before.before in
     let told = c.in-Tops.is in
-    let one = top-is c.before.before.before.before.before.before.before.before.before.before.before.before.before.before.before.before.before.before.before.before _ c.of_tops-d.ensures in
+    let one = top-is e _ c.of_tops-d.ensures in
     let a = c.tally_cut-in-Tops.ensures in
-    subst (TakenFor c.before.before.before.before.before.before.before.before.before.before.before.before.before.before.before.before.before.before.before.before _ _ _) (one ∙ counted_is c.before.before.before.before.before.before.before.before.before.before.before.before.before.before.before.before.before.before.before.before Tops told)
-    (key-taken _ _ _ _ _ _ c.requires.1.1.1.1.0.sorted (subst (ReadyFor c.before.before.before.before.before.before.before.before.before.before.before.before.before.before.before.before.before.before.before.before) (sym one) (ready-in c.before.before.before.before.before.before.before.before.before.before.before.before.before.before.before.before.before.before.before.before Tops told)) _ _ _ a.0 a.1.0 a.1.1)
+    subst (TakenFor e _ _ _) (one ∙ counted_is e Tops told)
+    (key-taken _ _ _ _ _ _ c.requires.1.1.1.1.0.sorted (subst (ReadyFor e) (sym one) (ready-in e Tops told)) _ _ _ a.0 a.1.0 a.1.1)
 
 returns-3 : tie.Need-returns-in-Lows
 returns-3 c =
-    subst (TakenFor c.before.before.before.before.before.before.before.before.before.before.before.before.before.before.before.before.before.before.before _ _ _) (counted_is c.before.before.before.before.before.before.before.before.before.before.before.before.before.before.before.before.before.before.before Lows c.in-Lows.is) c.tally_parts.ensures
+    let e = c.before.before.before.before.before.before.before.before.before.before.before.before.before.before.before.before.before.before.before in
+    subst (TakenFor e _ _ _) (counted_is e Lows c.in-Lows.is) c.tally_parts.ensures
 
 returns-4 : tie.Need-returns-in-Middles
 returns-4 c =
-    subst (TakenFor c.before.before.before.before.before.before.before.before.before.before.before.before.before.before.before.before.before.before.before _ _ _) (counted_is c.before.before.before.before.before.before.before.before.before.before.before.before.before.before.before.before.before.before.before Middles c.in-Middles.is) c.tally_parts-in-Middles.ensures
+    let e = c.before.before.before.before.before.before.before.before.before.before.before.before.before.before.before.before.before.before.before in
+    subst (TakenFor e _ _ _) (counted_is e Middles c.in-Middles.is) c.tally_parts-in-Middles.ensures
 
 pub tally_section_spec : {M : Type 1} → statement M
 tally_section_spec =

@@ -223,9 +223,10 @@ loop-holds c =
 
 tally-order-requires : tie.Need-tally_order-requires invariant-loop decreases-loop
 tally-order-requires c κs =
+    let e = c.before.before.before.before.before.before in
     let i = c.loop-left.invariant in
     let b = called c.before.before.before.before.before.before.before in
-    ((turn-within c.before.before.before.before.before.before, turn-order c.before.before.before.before.before.before), ((allowed _ _ b.requires.0).0, ((omega (arith, i.1), omega (arith, i.2), omega (arith, i.3)), (b.requires.1.0, turn-ready c.before.before.before.before.before.before))))
+    ((turn-within e, turn-order e), ((allowed _ _ b.requires.0).0, ((omega (arith, i.1), omega (arith, i.2), omega (arith, i.3)), (b.requires.1.0, turn-ready e))))
 
 same_length : tie.Need-shape_of-counts-then-not-tally_order invariant-loop decreases-loop
 same_length c =

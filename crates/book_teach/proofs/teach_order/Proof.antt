@@ -38,7 +38,9 @@ returns-2 c =
     told _ _ _ c.answered-then-book.ensures ∙ teach-full _ _ _ c.requires (ordered c.before.before.before) c.if-book.true
 
 level-lines-requires : tie.Need-level_lines-requires
-level-lines-requires c κs = (gone c.before.before.before.before, omega (arith, passed-short _ (ordered c.before.before.before.before)))
+level-lines-requires c κs =
+    let e = c.before.before.before.before in
+    (gone e, omega (arith, passed-short _ (ordered e)))
 
 list-own-requires : tie.Need-list_own-owns-requires
 list-own-requires c κs =

@@ -60,18 +60,22 @@ part-put-short-line-start c = let t = found c.before.before in omega (arith, t.r
 
 put-short-line-requires : tie.Need-put_short_line-requires invariant-loop decreases-loop
 put-short-line-requires c κs =
+    let e = c.before.before.before in
     let l = c.loop-line in
-    (short c.before.before.before, omega (arith, (found c.before.before.before).room, short-size (this c.before.before.before) (short c.before.before.before), part-size l.at l.out))
+    (short e, omega (arith, (found e).room, short-size (this e) (short e), part-size l.at l.out))
 
 add-at-2 : tie.Need-overflow_add-at-in-loop-line invariant-loop decreases-loop
-add-at-2 c = omega (arith, (found c.before.before.before.before.before.before).room, short-size (this c.before.before.before.before.before.before) (short c.before.before.before.before.before.before), c.well_formed)
+add-at-2 c =
+    let e = c.before.before.before.before.before.before in
+    omega (arith, (found e).room, short-size (this e) (short e), c.well_formed)
 
 add-line : tie.Need-overflow_add-line invariant-loop decreases-loop
 add-line c = let k = lines c.before.before.before.before.before.before in omega arith
 
 loop-again : tie.Need-loop-line-preserved invariant-loop decreases-loop
 loop-again c =
-    (c.out-1.given.1 ∙ c.loop-line.invariant.0, (found c.before.before.before.before.before.before).turn _ _ (short-size (this c.before.before.before.before.before.before) (short c.before.before.before.before.before.before)) c.put_short_line.ensures)
+    let e = c.before.before.before.before.before.before in
+    (c.out-1.given.1 ∙ c.loop-line.invariant.0, (found e).turn _ _ (short-size (this e) (short e)) c.put_short_line.ensures)
 
 same_length : tie.Need-shape_of-out invariant-loop decreases-loop
 same_length c = c.loop-line.invariant.0

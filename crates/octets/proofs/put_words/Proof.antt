@@ -22,9 +22,8 @@ loop-holds c = (omega arith, c.requires, unfold bytes_of in refl)
 
 loop-again : tie.Need-loop-i-preserved invariant-loop decreases-loop
 loop-again c =
-    let k = c in
-    let ws = k.args.words.now in
-    let t = bytes-turn ws k.loop-i.out _ k.loop-i.i (omega arith) k.loop-i.invariant.1 k.loop-i.invariant.2 c.put_word.ensures in
+    let ws = c.args.words.now in
+    let t = bytes-turn ws c.loop-i.out _ c.loop-i.i (omega arith) c.loop-i.invariant.1 c.loop-i.invariant.2 c.put_word.ensures in
     (omega arith, t.0, t.1)
 
 returns : tie.Need-returns invariant-loop decreases-loop

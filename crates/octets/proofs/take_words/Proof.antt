@@ -30,24 +30,20 @@ loop-holds c = (search rules, fronted_none (words_of c.args.bytes.now) c.args.ou
 
 loop-again : tie.Need-loop-i-preserved invariant-loop decreases-loop
 loop-again c =
-    let k = c in
-    let x = k in
-    let bytes = x.args.bytes.now in
-    let d = x.args.out.now in
-    let i = k.loop-i.i in
+    let bytes = c.args.bytes.now in
+    let d = c.args.out.now in
+    let i = c.loop-i.i in
     let h : i < length d = omega arith in
-    let n : length (words_of bytes) ≡ length d = words_long bytes (length d) x.requires in
-    let at : 2 * i + 1 < length bytes = omega (arith, x.requires) in
-    (omega arith, fronted_turn (words_of bytes) d k.loop-i.out i _ k.loop-i.invariant.1 (omega arith) h (c.word_at.ensures ∙ sym (word_is bytes i at)), simp length-set (omega arith))
+    let n : length (words_of bytes) ≡ length d = words_long bytes (length d) c.requires in
+    let at : 2 * i + 1 < length bytes = omega (arith, c.requires) in
+    (omega arith, fronted_turn (words_of bytes) d c.loop-i.out i _ c.loop-i.invariant.1 (omega arith) h (c.word_at.ensures ∙ sym (word_is bytes i at)), simp length-set (omega arith))
 
 returns : tie.Need-returns invariant-loop decreases-loop
 returns c =
-    let k = c in
-    let x = k in
-    let bytes = x.args.bytes.now in
-    let d = x.args.out.now in
-    let n : length (words_of bytes) ≡ length d = words_long bytes (length d) x.requires in
-    fronted_done (words_of bytes) d k.loop-i.out k.loop-i.i k.loop-i.invariant.1 (omega arith) (omega arith) ∙ all-over (words_of bytes) d n
+    let bytes = c.args.bytes.now in
+    let d = c.args.out.now in
+    let n : length (words_of bytes) ≡ length d = words_long bytes (length d) c.requires in
+    fronted_done (words_of bytes) d c.loop-i.out c.loop-i.i c.loop-i.invariant.1 (omega arith) (omega arith) ∙ all-over (words_of bytes) d n
 
 pub take_words_spec : {M : Type 1} → statement M
 take_words_spec =

@@ -35,11 +35,12 @@ returns-2 c = ap (λ (r : Written). writing r c.args.out.now) c.wrote-in-Lacking
 
 returns-3 : tie.Need-returns-in-At
 returns-3 c =
+    let e = c.before.before.before.before.before in
     let x = c.args in
-    let over = c.find_line.ensures.1.0 (stands c.before.before.before.before.before).passes in
+    let over = c.find_line.ensures.1.0 (stands e).passes in
     c.cut_line.ensures
-    ∙ ap (λ (at : ℕ). write (cut_of x.order.now at x.d) x.out.now) (stands-span _ _ over _ _ (has c.before.before.before.before.before) (stands c.before.before.before.before.before)).1
-    ∙ sym (cut_has _ _ _ (has c.before.before.before.before.before) _ _)
+    ∙ ap (λ (at : ℕ). write (cut_of x.order.now at x.d) x.out.now) (stands-span _ _ over _ _ (has e) (stands e)).1
+    ∙ sym (cut_has _ _ _ (has e) _ _)
 
 pub cut_into_spec : {M : Type 1} → statement M
 cut_into_spec =

@@ -62,7 +62,8 @@ returns-2 c = ap (piece_at c.args.order.ref_ptr) (sym (subtree_lacks _ _ (placed
 
 returns-3 : tie.Need-returns-in-At
 returns-3 c =
-    ap (piece_at c.args.order.ref_ptr) (sym (subtree-has _ _ _ (has c.before.before.before) (stands c.before.before.before).word _ (ends c.before)))
+    let e = c.before.before.before in
+    ap (piece_at c.args.order.ref_ptr) (sym (subtree-has _ _ _ (has e) (stands e).word _ (ends c.before)))
 
 pub subtree_spec : {M : Type 1} → statement M
 subtree_spec =

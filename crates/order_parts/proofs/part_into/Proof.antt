@@ -35,8 +35,9 @@ is-low-requires c κs =
 
 cut-line-requires : tie.Need-cut_line-written-requires
 cut-line-requires c κs =
-    let over = c.find_line.ensures.1.0 (stands c.before.before.before.before.before.before).passes in
-    (over, (stands-span _ _ over _ _ (has c.before.before.before.before.before.before) (stands c.before.before.before.before.before.before)).0)
+    let e = c.before.before.before.before.before.before in
+    let over = c.find_line.ensures.1.0 (stands e).passes in
+    (over, (stands-span _ _ over _ _ (has e) (stands e)).0)
 
 returns : tie.Need-returns-in-Refused
 returns c = ap (λ (r : PartWritten). part_writing r c.args.out.now) c.no_part.ensures ∙ sym (part-refused _ _ _ (placed _ _ _ _ c.find_line.ensures.0 c.in-Refused.is) _ _)
@@ -47,14 +48,15 @@ returns-2 c = ap (λ (r : PartWritten). part_writing r c.args.out.now) c.no_part
 returns-3 : tie.Need-returns-in-At
 unfolding is_low
 returns-3 c =
+    let e = c.before.before.before.before.before.before.before.before.before in
     let x = c.args in
-    let over = c.find_line.ensures.1.0 (stands c.before.before.before.before.before.before.before.before.before).passes in
-    let s = stands-span _ _ over _ _ (has c.before.before.before.before.before.before.before.before.before) (stands c.before.before.before.before.before.before.before.before.before) in
-    let low : c.is_low.result ≡ is_low x.k.k (has c.before.before.before.before.before.before.before.before.before).spot.tree = c.is_low.ensures ∙ ap (λ (n : ℕ). leb n (x.k.k - 2)) s.3 in
+    let over = c.find_line.ensures.1.0 (stands e).passes in
+    let s = stands-span _ _ over _ _ (has e) (stands e) in
+    let low : c.is_low.result ≡ is_low x.k.k (has e).spot.tree = c.is_low.ensures ∙ ap (λ (n : ℕ). leb n (x.k.k - 2)) s.3 in
     ap₂ of_kind
     (c.kind_of-kind.ensures ∙ ap (λ (b : Bool). when b then Low else Middle) low)
     (c.cut_line-written.ensures ∙ ap₂ (λ (n d : ℕ). write (cut_of x.order.now n d) x.out.now) s.1 c.of_middles.ensures)
-    ∙ sym (part-has _ _ _ (has c.before.before.before.before.before.before.before.before.before) _ _)
+    ∙ sym (part-has _ _ _ (has e) _ _)
 
 pub part_into_spec : {M : Type 1} → statement M
 part_into_spec =

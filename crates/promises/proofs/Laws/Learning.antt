@@ -106,10 +106,10 @@ module _ (b : Book) (sound : SoundBook b) where
 -- ---- by the book's own three sets
 
 -- A tree among those of a section is in the section,
-listed_in : (es : List Entry) (u : Tree) → u ∈ trees_of es → In es u
+listed_in_lem : (es : List Entry) (u : Tree) → u ∈ trees_of es → In es u
 unfolding trees_of by_found
-listed_in [] u m = absurd (Memᴰ.not-nil m)
-listed_in (e ∷ es) u m = go (tree_of e.key) refl m (listed_in es u)
+listed_in_lem [] u m = absurd (Memᴰ.not-nil m)
+listed_in_lem (e ∷ es) u m = go (tree_of e.key) refl m (listed_in_lem es u)
   where
     -- By what the first entry's words are read as.
     go : (x : TreeFound) → tree_of e.key ≡ x → u ∈ by_found x (trees_of es) (λ t. t ∷ trees_of es) → (u ∈ trees_of es → In es u) → In (e ∷ es) u
@@ -132,7 +132,7 @@ in_listed (f ∷ es) u g e m q = go (tree_of f.key) refl m (λ i. in_listed es u
 
 -- So the trees of a sound section are just those that are in it.
 listed-exactly : {least greatest : ℕ} (es : List Entry) → SoundSection least greatest es → (u : Tree) → In es u exactly_when (u ∈ trees_of es)
-listed-exactly es sound u = (λ i. in_listed es u (good i) i.entry i.there i.spelt, listed_in es u)
+listed-exactly es sound u = (λ i. in_listed es u (good i) i.entry i.there i.spelt, listed_in_lem es u)
   where
     -- A tree in it is good.
     good : In es u → Good u

@@ -38,9 +38,8 @@ part-compare-end c = omega (arith, c.past-end.ensures, room c.before)
 
 size-requires : tie.Need-size-requires
 size-requires c κs =
-    let s = c in
     let end = c.past-end.result in
-    omega (arith, sized c, size-most (take (end - (s.args.at + 2)) (drop (s.args.at + 2) s.args.book.now)) s.args.key.now, s.well_formed.1.1.1.0.1)
+    omega (arith, sized c, size-most (take (end - (c.args.at + 2)) (drop (c.args.at + 2) c.args.book.now)) c.args.key.now, c.well_formed.1.1.1.0.1)
 
 returns-2 : tie.Need-returns
 returns-2 c =

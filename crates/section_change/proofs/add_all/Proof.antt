@@ -154,8 +154,9 @@ raise-requires c κs =
 
 past-requires-3 : tie.Need-past-at-requires-in-Equal invariant-loop decreases-loop
 past-requires-3 c κs =
-    let a = adds_raised _ _ _ _ _ _ _ _ _ _ _ _ _ _ (reached c.before.before.before.before.before.before.before.before.before.before) c.past-end.result c.loop-rest-test.true c.past-end.ensures c.raise.new.part c.raise.ensures (some-equal c.before.before.before.before.before) in
-    omega (arith, a.0, a.1, equal-here c.before.before.before.before.before)
+    let e = c.before.before.before.before.before in
+    let a = adds_raised _ _ _ _ _ _ _ _ _ _ _ _ _ _ (reached c.before.before.before.before.before.before.before.before.before.before) c.past-end.result c.loop-rest-test.true c.past-end.ensures c.raise.new.part c.raise.ensures (some-equal e) in
+    omega (arith, a.0, a.1, equal-here e)
 
 sub-left-2 : tie.Need-overflow_sub-left-in-Equal invariant-loop decreases-loop
 sub-left-2 c = some-equal c.before.before.before.before.before.before
@@ -168,7 +169,8 @@ loop-less-2 c = omega (arith, some-equal c.before.before.before.before.before.be
 
 loop-again-2 : tie.Need-loop-rest-preserved-in-Equal invariant-loop decreases-loop
 loop-again-2 c =
-    λ ws ready now. adds_equal ws _ _ _ _ _ _ _ _ _ _ _ _ _ (c.loop-rest.invariant ws ready now) c.past-end.result c.loop-rest-test.true c.past-end.ensures c.raise.new.part c.raise.ensures (is-equal c.before.before.before.before.before.before) (some-equal c.before.before.before.before.before.before) c.past-at-in-Equal.result c.past-at-in-Equal.ensures
+    let e = c.before.before.before.before.before.before in
+    λ ws ready now. adds_equal ws _ _ _ _ _ _ _ _ _ _ _ _ _ (c.loop-rest.invariant ws ready now) c.past-end.result c.loop-rest-test.true c.past-end.ensures c.raise.new.part c.raise.ensures (is-equal e) (some-equal e) c.past-at-in-Equal.result c.past-at-in-Equal.ensures
 
 mul-enter-behind : tie.Need-offset_bounds-other-from-in-Higher invariant-loop decreases-loop
 mul-enter-behind c = omega (arith, room c.before.before.before.before.before, c.well_formed)
@@ -178,12 +180,15 @@ part-enter-behind-end c = omega (arith, room c.before.before.before.before.befor
 
 enter-behind-requires : tie.Need-enter_behind-to-requires invariant-loop decreases-loop
 enter-behind-requires c κs =
-    let g = (reached c.before.before.before.before.before.before.before).gap in
-    let fits = adds_room _ _ _ _ _ _ _ _ _ _ _ _ _ _ (reached c.before.before.before.before.before.before.before) c.past-end.result c.loop-rest-test.true c.past-end.ensures (is-higher c.before.before) in
+    let e = c.before.before.before.before.before.before.before in
+    let g = (reached e).gap in
+    let fits = adds_room _ _ _ _ _ _ _ _ _ _ _ _ _ _ (reached e) c.past-end.result c.loop-rest-test.true c.past-end.ensures (is-higher c.before.before) in
     (simp (length-take, length-drop) (omega (arith, fits, room c.before.before.before.before.before.before)), g.mid, g.high)
 
 add-count : tie.Need-overflow_add-count invariant-loop decreases-loop
-add-count c = omega (arith, within c.before.before.before.before.before.before.before.before.before.before, (reached c.before.before.before.before.before.before.before.before.before.before).gap.long, c.well_formed)
+add-count c =
+    let e = c.before.before.before.before.before.before.before.before.before.before in
+    omega (arith, within e, (reached e).gap.long, c.well_formed)
 
 sub-rest-2 : tie.Need-overflow_sub-rest-in-Higher invariant-loop decreases-loop
 sub-rest-2 c = c.loop-rest-test.true

@@ -63,11 +63,12 @@ same-length-2 c = search rules
 
 returns-2 : tie.Need-returns
 returns-2 c =
+    let e = c.before.before.before.before in
     let part = c.args.part.now in
     let at = c.search-stop.result.at in
-    let entered = rw (tail_all at part (inside c.before.before.before.before)) at c.enter.ensures in
-    once_entered part c.args.many c.args.used c.requires.0.0 (first_entry c.args.entry.now) c.requires.0.1 at _ _ _ c.args.entry.now _ (gap c.before.before.before.before) (spelt-entry c.args.entry.now c.requires.1.0) c.requires.1.1
-    (tail_back at part (inside c.before.before.before.before) c.enter.new.part ∙ ap (λ (l : List ℕ). take at part ++ l) entered)
+    let entered = rw (tail_all at part (inside e)) at c.enter.ensures in
+    once_entered part c.args.many c.args.used c.requires.0.0 (first_entry c.args.entry.now) c.requires.0.1 at _ _ _ c.args.entry.now _ (gap e) (spelt-entry c.args.entry.now c.requires.1.0) c.requires.1.1
+    (tail_back at part (inside e) c.enter.new.part ∙ ap (λ (l : List ℕ). take at part ++ l) entered)
     (same-length-2 c)
 
 pub enter_once_spec : {M : Type 1} → statement M

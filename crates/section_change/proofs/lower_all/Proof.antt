@@ -88,7 +88,8 @@ enum_told c = search rules
 
 past-requires-2 : tie.Need-past-at-requires invariant-loop decreases-loop
 past-requires-2 c κs =
-    omega (arith, within c.before.before.before.before.before, first c.before.before.before.before.before (some-lower c))
+    let e = c.before.before.before.before.before in
+    omega (arith, within e, first e (some-lower c))
 
 sub-left : tie.Need-overflow_sub-left invariant-loop decreases-loop
 sub-left c = some-lower c.before
@@ -102,8 +103,9 @@ loop-again c =
 
 lessen-requires : tie.Need-lessen-less-requires invariant-loop decreases-loop
 lessen-requires c κs =
+    let e = c.before.before.before.before.before.before in
     let g = c.loop-rest.invariant.gap in
-    (g.low, g.mid, omega (arith, within c.before.before.before.before.before.before, first c.before.before.before.before.before.before (some-equal c.before)))
+    (g.low, g.mid, omega (arith, within e, first e (some-equal c.before)))
 
 sub-count : tie.Need-overflow_sub-count invariant-loop decreases-loop
 sub-count c =
@@ -120,7 +122,8 @@ loop-less-2 c = omega (arith, some-equal c.before.before.before.before.before, c
 
 loop-again-2 : tie.Need-loop-rest-preserved-in-Equal invariant-loop decreases-loop
 loop-again-2 c =
-    lowers_equal _ _ _ _ _ _ _ _ _ _ _ _ _ c.loop-rest.invariant c.past-end.result c.loop-rest-test.true c.past-end.ensures (is-equal c.before.before.before.before.before) (some-equal c.before.before.before.before.before) c.lessen-less.new.book c.lessen-less.result c.lessen-less.ensures.0 c.lessen-less.ensures.1 c.lessen-less.auto.book
+    let e = c.before.before.before.before.before in
+    lowers_equal _ _ _ _ _ _ _ _ _ _ _ _ _ c.loop-rest.invariant c.past-end.result c.loop-rest-test.true c.past-end.ensures (is-equal e) (some-equal e) c.lessen-less.new.book c.lessen-less.result c.lessen-less.ensures.0 c.lessen-less.ensures.1 c.lessen-less.auto.book
 
 sub-rest-2 : tie.Need-overflow_sub-rest-in-Higher invariant-loop decreases-loop
 sub-rest-2 c = c.loop-rest-test.true

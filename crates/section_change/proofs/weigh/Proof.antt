@@ -213,7 +213,8 @@ fits c = omega (arith, c.shared_slice_known-in-Equal-1.given (c.loop-rest.from +
 
 loop-again-2 : tie.Need-loop-rest-preserved-in-Equal invariant-loop decreases-loop
 loop-again-2 c =
-    past_equal _ _ _ _ _ _ _ _ _ _ c.past-end.result c.loop-rest.invariant c.loop-rest-test.true c.past-end.ensures c.past-at-in-Equal.result (equal-left c.before.before.before.before) c.past-at-in-Equal.ensures (is-equal c.before.before.before.before) c.if-other-from.overfull
+    let e = c.before.before.before.before in
+    past_equal _ _ _ _ _ _ _ _ _ _ c.past-end.result c.loop-rest.invariant c.loop-rest-test.true c.past-end.ensures c.past-at-in-Equal.result (equal-left e) c.past-at-in-Equal.ensures (is-equal e) c.if-other-from.overfull
     (⊎_elim (λ w. told_over _ _ _ _ (fits c.before) w.if-other-from.true w.overfull-is) (λ w. told_under _ _ _ _ (fits c.before) w.if-other-from.false w.overfull-is) c.if-other-from.branch-raw)
 
 add-lacking : tie.Need-overflow_add-lacking invariant-loop decreases-loop

@@ -20,22 +20,22 @@ unfolding signed_of
 loop-holds c = (omega arith, omega arith, refl)
 
 returns : tie.Need-returns-then-b-i invariant-loop decreases-loop
-returns c = let k = c in side_told k.args.a.now k.args.b.now k.loop-i.i _ k.loop-i.invariant.2 (place-longer k.args.a.now k.args.b.now k.loop-i.i (omega arith) (omega arith))
+returns c = side_told c.args.a.now c.args.b.now c.loop-i.i _ c.loop-i.invariant.2 (place-longer c.args.a.now c.args.b.now c.loop-i.i (omega arith) (omega arith))
 
 returns-2 : tie.Need-returns-then-x-y invariant-loop decreases-loop
-returns-2 c = let k = c in side_told k.args.a.now k.args.b.now k.loop-i.i _ k.loop-i.invariant.2 (place-lower k.args.a.now k.args.b.now k.loop-i.i (omega arith) (omega arith) (omega arith))
+returns-2 c = side_told c.args.a.now c.args.b.now c.loop-i.i _ c.loop-i.invariant.2 (place-lower c.args.a.now c.args.b.now c.loop-i.i (omega arith) (omega arith) (omega arith))
 
 returns-3 : tie.Need-returns-then-y-x invariant-loop decreases-loop
-returns-3 c = let k = c in side_told k.args.a.now k.args.b.now k.loop-i.i _ k.loop-i.invariant.2 (place-higher k.args.a.now k.args.b.now k.loop-i.i (omega arith) (omega arith) (omega arith))
+returns-3 c = side_told c.args.a.now c.args.b.now c.loop-i.i _ c.loop-i.invariant.2 (place-higher c.args.a.now c.args.b.now c.loop-i.i (omega arith) (omega arith) (omega arith))
 
 loop-again : tie.Need-loop-i-preserved invariant-loop decreases-loop
-loop-again c = let k = c in (omega arith, omega arith, k.loop-i.invariant.2 ∙ place_same k.args.a.now k.args.b.now k.loop-i.i (omega arith) (omega arith) (omega arith) (omega arith))
+loop-again c = (omega arith, omega arith, c.loop-i.invariant.2 ∙ place_same c.args.a.now c.args.b.now c.loop-i.i (omega arith) (omega arith) (omega arith) (omega arith))
 
 returns-4 : tie.Need-returns-then-i-b invariant-loop decreases-loop
-returns-4 c = let k = c in side_told k.args.a.now k.args.b.now k.loop-i.i _ k.loop-i.invariant.2 (place-shorter k.args.a.now k.args.b.now k.loop-i.i (omega arith) (omega arith))
+returns-4 c = side_told c.args.a.now c.args.b.now c.loop-i.i _ c.loop-i.invariant.2 (place-shorter c.args.a.now c.args.b.now c.loop-i.i (omega arith) (omega arith))
 
 returns-5 : tie.Need-returns invariant-loop decreases-loop
-returns-5 c = let k = c in side_told k.args.a.now k.args.b.now k.loop-i.i _ k.loop-i.invariant.2 (place_end k.args.a.now k.args.b.now k.loop-i.i (omega arith) (omega arith))
+returns-5 c = side_told c.args.a.now c.args.b.now c.loop-i.i _ c.loop-i.invariant.2 (place_end c.args.a.now c.args.b.now c.loop-i.i (omega arith) (omega arith))
 
 pub standing_spec : {M : Type 1} → statement M
 standing_spec =
