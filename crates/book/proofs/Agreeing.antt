@@ -1,5 +1,7 @@
 -- A book that agrees with itself is the book of the teachings that its T counts, and still is once an order is taught (01, "The book").
 -- Assumes nothing.
+use Rattle.std.specs.declared.cmp.Ordering.{Ordering}
+use Rattle.std.specs.declared.cmp.Ordering.TheVariants.{Less, Equal, Greater}
 use Prim.Native.Nat.{ℕ, ◌+◌, ◌≤◌}
 use mathlib.Core.Path.{◌≡◌, refl, sym, ap, ap₂, ◌∙◌}
 use mathlib.Core.Bool.{true}
@@ -9,8 +11,6 @@ use mathlib.Core.List.Memᴰ.{tail as there}
 use mathlib.Core.List.{List, [], ◌∷◌}
 use Rattle.words.specs.Base.{◌∈◌}
 use Rattle.words.specs.Compare.{compare_of}
-use Rattle.words.specs.declared.Compared.{Compared}
-use Rattle.words.specs.declared.Compared.TheVariants.{Lower, Equal, Higher}
 use Rattle.words.proofs.Ordered.{compare_equal}
 use Rattle.words.proofs.Tests.{and_left, and_right, and_both}
 use Rattle.figures.specs.Limits.{greatest_depth}
@@ -135,9 +135,9 @@ more_taught k n t (e ∷ es) p l o = go (compare_of e.key (words t)) refl (more_
     some : 1 ≤ e.count
     some = unfold Sorted in o.sorted.0
 
-    go : (x : Compared) → compare_of e.key (words t) ≡ x → book_of k (teachings_in (add n (words t) es)) ≡ taught n t B
+    go : (x : Ordering) → compare_of e.key (words t) ≡ x → book_of k (teachings_in (add n (words t) es)) ≡ taught n t B
         → book_of k (teachings_in (by_compared x (e ∷ add n (words t) es) (counted e.key (e.count + n) ∷ es) (counted (words t) n ∷ e ∷ es))) ≡ taught n t (book_of k (teachings_in (e ∷ es)))
-    go Lower c ih =
+    go Less c ih =
         ap (book_of k) (read-entry e (add n (words t) es) f.tree f.spelt (o.limits e (here refl)))
         ∙ ap (taught e.count f.tree) ih ∙ commute B sorted e.count n f.tree t some p
         ∙ sym (ap (λ (os : List Teaching). taught n t (book_of k os)) f.reads)
@@ -146,7 +146,7 @@ more_taught k n t (e ∷ es) p l o = go (compare_of e.key (words t)) refl (more_
         ap (book_of k) (read-entry (counted e.key (e.count + n)) es t q (o.limits e (here refl)))
         ∙ taught-twice e.count n t B some p sorted
         ∙ sym (ap (λ (os : List Teaching). taught n t (book_of k os)) (read-entry e es t q (o.limits e (here refl))))
-    go Higher c ih = ap (book_of k) (read-entry (counted (words t) n) (e ∷ es) t refl l)
+    go Greater c ih = ap (book_of k) (read-entry (counted (words t) n) (e ∷ es) t refl l)
 
 -- A book that agrees with itself agrees once an order is taught n times.
 pub taught-agrees : (n : ℕ) (t : Tree) (b : Book) → 1 ≤ n → in_form b ≡ true → Fits 0 greatest_depth (words t) → agreeing b ≡ true → agreeing (taught n t b) ≡ true

@@ -1,9 +1,9 @@
 -- What being in form means: words are decoded to a book just where they are a book in form and are its words and then zeros. Assumes nothing.
+use Rattle.std.specs.Prelude.{None, Some}
 use Prim.Native.Nat.{ℕ, zero, suc, ◌+◌, ◌-◌, ◌≤◌, zero-le}
 use mathlib.Core.Path.{◌≡◌, refl, sym, ap, ◌∙◌}
 use mathlib.Core.Bool.{Bool, true, false}
 use mathlib.Core.List.{List, [], ◌∷◌, ◌++◌, append_assoc}
-use mathlib.Core.Option.{none, some}
 use native.Mathlib.Omega.{arith}
 use lib.Dec.{leb, eqb}
 use borrow.Author.Tests.{le-leb, leb-true, eq-eqb, eqb-true}
@@ -372,22 +372,22 @@ formed-passed ws e = passed ws (sym (formed-passes ws) ∙ e)
 -- ---- what it means to decode
 
 -- Words that are decoded to a book are its words and then zeros, and it is in form.
-pub decoded : (ws : List ℕ) (b : Book) → decode ws ≡ some b → (lay (length ws) b ≡ ws) × (in_form b ≡ true)
+pub decoded : (ws : List ℕ) (b : Book) → decode ws ≡ Some b → (lay (length ws) b ≡ ws) × (in_form b ≡ true)
 unfolding decode when◌then◌else◌
 decoded ws b e = go (formed ws) refl e
   where
-    go : (t : Bool) → formed ws ≡ t → (when t then some (book_in ws) else none) ≡ some b → (lay (length ws) b ≡ ws) × (in_form b ≡ true)
+    go : (t : Bool) → formed ws ≡ t → (when t then Some (book_in ws) else None) ≡ Some b → (lay (length ws) b ≡ ws) × (in_form b ≡ true)
     go true f g = let q : book_in ws ≡ b = cc in let p = formed-passed ws f in rw (← q) (is-laid ws p, is-formed ws p)
     go false f g = never cc
 
 -- A book in form is what its words are decoded to.
-pub read_back : (n : ℕ) (b : Book) → in_form b ≡ true → decode (lay n b) ≡ some b
+pub read_back : (n : ℕ) (b : Book) → in_form b ≡ true → decode (lay n b) ≡ Some b
 unfolding decode when◌then◌else◌
 read_back n b f = rw (formed-passes (lay n b) ∙ laid-passes n b f, laid-read n b f)
 
 module _ (ws : List ℕ) where
   -- Words that are those of a book in form and then zeros are decoded to it.
-  pub laid-decoded : (b : Book) → in_form b ≡ true → lay (length ws) b ≡ ws → decode ws ≡ some b
+  pub laid-decoded : (b : Book) → in_form b ≡ true → lay (length ws) b ≡ ws → decode ws ≡ Some b
   laid-decoded b f e = ap decode (sym e) ∙ read_back (length ws) b f
 
   -- Words are those of one book in form at most.
@@ -395,7 +395,7 @@ module _ (ws : List ℕ) where
   one-book b c f g d e = cc (laid-decoded b f d, laid-decoded c g e)
 
   -- Words that are decoded to none are those of no book in form.
-  pub no_book : decode ws ≡ none → (b : Book) → in_form b ≡ true → lay (length ws) b ≡ ws → ⊥
+  pub no_book : decode ws ≡ None → (b : Book) → in_form b ≡ true → lay (length ws) b ≡ ws → ⊥
   no_book n b f e = never (cc (laid-decoded b f e))
 
 -- ---- how long it is

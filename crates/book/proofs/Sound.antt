@@ -1,12 +1,12 @@
 -- The definitions of specs/Sound.antt say the same as the tests of `in_form`, `decode` and `book_form_of`; and what a book's words say, one by one.
 -- Assumes nothing.
+use Rattle.std.specs.Prelude.{None, Some}
 use Prim.Native.Nat.{ℕ, ◌+◌, ◌-◌, ◌/◌, ◌≤◌, ◌<◌}
 use mathlib.Core.Path.{◌≡◌, refl, sym, ap, ap₂, ◌∙◌, subst}
 use mathlib.Core.Bool.{Bool, true, false}
 use mathlib.Core.List.Memᴰ.{head as here}
 use mathlib.Core.List.Memᴰ.{tail as there}
 use mathlib.Core.List.{List, [], ◌∷◌, ◌++◌}
-use mathlib.Core.Option.{none, some}
 use native.Mathlib.Decide.{dec_lt}
 use native.Mathlib.Omega.{arith}
 use borrow.Author.Tests.{le-leb, leb-true}
@@ -43,7 +43,7 @@ module _ (least greatest : ℕ) (e : Entry) where
   entry-sound f =
       let c = and_left (within least_count greatest_count e.count) _ f in
       record {
-        some = leb-true _ _ (and_left _ _ c);
+        Some = leb-true _ _ (and_left _ _ c);
         few = leb-true _ _ (and_right _ _ c);
         tree = fits-tree least greatest e.key (and_right _ _ f);
       }
@@ -135,11 +135,11 @@ module _ (b : Book) where
 
 module _ (ws : List ℕ) where
   -- Words of a size for a book that are decoded to a book are its words.
-  pub decode-book : (b : Book) → head_words ≤ length ws → length ws ≤ most_book_words → decode ws ≡ some b → IsBook ws b
+  pub decode-book : (b : Book) → head_words ≤ length ws → length ws ≤ most_book_words → decode ws ≡ Some b → IsBook ws b
   decode-book b l s e = let d = decoded ws b e in record { long = l; short = s; sound = form-sound b d.1; laid = d.0 }
 
   -- The words of a book are decoded to it.
-  pub book-decode : (b : Book) → IsBook ws b → decode ws ≡ some b
+  pub book-decode : (b : Book) → IsBook ws b → decode ws ≡ Some b
   book-decode b i = laid-decoded ws b (sound-form b i.sound) i.laid
 
   -- A slice has one book at most.
@@ -154,12 +154,12 @@ module _ (ws : List ℕ) where
 -- ---- what a look at the form gives
 
 -- Words that are not in form are decoded to none.
-unformed_none : (ws : List ℕ) → formed ws ≡ false → decode ws ≡ none
+unformed_none : (ws : List ℕ) → formed ws ≡ false → decode ws ≡ None
 unfolding decode when◌then◌else◌
 unformed_none ws e = rw e
 
 -- Words in form are decoded to the book that they hold.
-formed-some : (ws : List ℕ) → formed ws ≡ true → decode ws ≡ some (book_in ws)
+formed-some : (ws : List ℕ) → formed ws ≡ true → decode ws ≡ Some (book_in ws)
 unfolding decode when◌then◌else◌
 formed-some ws e = rw e
 

@@ -1,7 +1,6 @@
 -- The book that words hold, whatever they are; which words are a book in form, and where its sections start. Assumes nothing: these are
 -- definitions.
-use Rattle.std.specs.Prelude.{ℕ, ◌+◌, Bool, not, List, length, get_or, drop}
-use Rattle.std.proofs.Math.Option.{Option, none, some}
+use Rattle.std.specs.Prelude.{ℕ, ◌+◌, Bool, not, List, length, get_or, drop, Option, None, Some}
 use Rattle.words.specs.Base.{◌and◌, when◌then◌else◌, within, same_words}
 use Rattle.figures.specs.Limits.{head_words, k_word, taught_word, tops_word, lows_word, middles_word, most_book_words}
 use Rattle.figures.specs.Numbers.{done, book_size, not_in_form}
@@ -52,12 +51,12 @@ formed ws = in_form (book_in ws) and same_words (lay (length ws) (book_in ws)) w
 
 -- The book in form that the words are, if they are one.
 unfoldable pub decode : List ℕ → Option Book
-decode ws = when formed ws then some (book_in ws) else none
+decode ws = when formed ws then Some (book_in ws) else None
 
 -- What follows a book, and what stands where there is none.
 unfoldable pub by_book {ℓ} : {A : Type ℓ} → Option Book → A → (Book → A) → A
-by_book none a f = a
-by_book (some b) a f = f b
+by_book None a f = a
+by_book (Some b) a f = f b
 
 -- "A lent slice of 7 to 16,384 words."
 unfoldable pub sized : List ℕ → Bool
@@ -97,5 +96,5 @@ book_form_of ws = on_book Refused ws (λ b. InForm (places_of b))
 
 -- 01's number and line for each case of it, and the places of a book in form.
 abbrev pub form_told : BookForm → Answer × Option Places
-form_told (Refused n) = (answered n, none)
-form_told (InForm p) = (answered done, some p)
+form_told (Refused n) = (answered n, None)
+form_told (InForm p) = (answered done, Some p)

@@ -1,7 +1,6 @@
 -- Inner: no promise rests on these definitions.
 -- What a call has where the words are a book in form: its sections, and where they stand. Assumes nothing: these are definitions.
-use Rattle.std.specs.Prelude.{ℕ, ◌+◌, ◌≤◌, ◌≡◌, true, List, length, get_or, drop}
-use Rattle.std.proofs.Math.Option.{some}
+use Rattle.std.specs.Prelude.{ℕ, ◌+◌, ◌≤◌, ◌≡◌, true, List, length, get_or, drop, Some}
 use Rattle.figures.specs.Limits.{head_words, most_book_words, least_k, greatest_k}
 use Rattle.section.specs.Entries.{Entry, entries, span, Sorted}
 use Rattle.book.specs.Book.{section_of, lay, in_form}
@@ -21,7 +20,7 @@ pub record Holds (ws : List ℕ) (p : Places) : Type 0 where
   pub short : length ws ≤ most_book_words
   pub form : in_form (book_in ws) ≡ true
   pub laid : lay (length ws) (book_in ws) ≡ ws
-  pub decoded : decode ws ≡ some (book_in ws)
+  pub decoded : decode ws ≡ Some (book_in ws)
   pub places : p ≡ places_of (book_in ws)
   pub depth : p.k.k ≡ (book_in ws).k
   pub least : least_k ≤ (book_in ws).k

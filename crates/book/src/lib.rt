@@ -8,7 +8,7 @@ ghost use Rattle.figures.specs.Limits.{head_words, most_book_words};
 ghost use Rattle.book.specs.Decoding.{start_of, slot_of};
 ghost use Rattle.book.specs.Opening.{outcome, open_of};
 
-use figures::{Answer, Asked, Depth, answered, limits, numbers};
+use figures::{Answer, Depth, answered, limits, numbers};
 
 // A section of the book.
 #[derive(Clone, Copy)]
@@ -91,7 +91,7 @@ pub fn open(book: &mut [u16], k: u16) -> Answer
     if !is_book_size(book.len()) {
         return answered(numbers::BOOK_SIZE);
     }
-    let Asked::Allowed(depth) = Depth::new(k) else {
+    let Some(depth) = Depth::new(k) else {
         return answered(numbers::K_OUTSIDE);
     };
     words::clear(book);

@@ -11,9 +11,9 @@ ghost use Rattle.order.specs.Spans.{GoneOver};
 ghost use Rattle.book_choosing.specs.Choosing.{unchosen, choose_of};
 ghost use Rattle.book_choosing.specs.Walking.{told_of, chosen_for};
 
-use book_choosing::{Chosen, Named, RuleAt};
+use book_choosing::{Chosen, Named};
 use book_rules::{rule_at, with_rule};
-use figures::{Asked, Depth, limits, numbers};
+use figures::{Depth, limits, numbers};
 
 // A refusal by a number: no line, and no image.
 fn unchosen(number: u16) -> Chosen
@@ -61,7 +61,7 @@ fn by_rules(order: &[u16], spans: &[u16], levels: &[u8], k: Depth, rules: &[u16]
     let mut at: usize = 1;
     let mut named = Named::Nothing;
     while 0 < left {
-        let RuleAt::Ends(end) = rule_at(rules, at, k, &mut stack) else {
+        let Some(end) = rule_at(rules, at, k, &mut stack) else {
             return unchosen(numbers::NO_RULES);
         };
         let image = rules[at];
@@ -103,7 +103,7 @@ pub fn choose(book: &[u16], order: &[u16], rules: &[u16]) -> Chosen
         };
     }
     // The k of a book by which an order passes is 2 to 6: the refusal is never met.
-    let Asked::Allowed(k) = Depth::new(book[limits::K_WORD]) else {
+    let Some(k) = Depth::new(book[limits::K_WORD]) else {
         return unchosen(numbers::NOT_IN_FORM);
     };
     image_for(order, k, rules)

@@ -1,10 +1,10 @@
 -- Choosing answers exactly by the rows of 02, "Choose the firmware image": "judge's own checks and verdict first", and then by the rules. Assumes
 -- nothing.
+use Rattle.std.specs.Prelude.{Option, None, Some}
 use Prim.Native.Nat.{ℕ, ◌^◌, ◌≤◌, ◌<◌}
 use mathlib.Core.Path.{◌≡◌, refl, ap, sym, subst, ◌∙◌}
 use mathlib.Core.List.Memᴰ
 use mathlib.Core.List.{List}
-use mathlib.Core.Option.{Option, none, some}
 use native.Mathlib.Omega.{arith}
 use borrow.Author.Tests.{eqb-true, eqb-false, eq-eqb, ne_eqb}
 use lib.Dec.{eqb}
@@ -116,12 +116,12 @@ passed ws os rs e =
 
 module _ (k : ℕ) (t : Tree) (rs : List ℕ) where
   -- Words that are no rule list are refused by 32.
-  chosen_none : rules_of k rs ≡ none → chosen_by k t rs ≡ unchosen no_rules
+  chosen_none : rules_of k rs ≡ None → chosen_by k t rs ≡ unchosen no_rules
   unfolding chosen_by by_rules
   chosen_none e = rw e
 
   -- The rules of a list choose by the images of those that fit.
-  chosen-some : (l : List ImageRule) → rules_of k rs ≡ some l → chosen_by k t rs ≡ one_image (images_for k t l)
+  chosen-some : (l : List ImageRule) → rules_of k rs ≡ Some l → chosen_by k t rs ≡ one_image (images_for k t l)
   unfolding chosen_by by_rules
   chosen-some l e = rw e
 
@@ -135,7 +135,7 @@ module _ (k : ℕ) (t : Tree) (rs : List ℕ) where
     choice_is = by_list (rules_of k rs) refl
       where
         -- By the images of the rules that fit.
-        by_images : (l : List ImageRule) → rules_of k rs ≡ some l → ByImages (images_for k t l) (one_image (images_for k t l)) → Choice k t rs (chosen_by k t rs)
+        by_images : (l : List ImageRule) → rules_of k rs ≡ Some l → ByImages (images_for k t l) (one_image (images_for k t l)) → Choice k t rs (chosen_by k t rs)
         by_images l e (none_named q f) =
             none_fits l (chosen-some l e ∙ q) (rules-is k rs l e) (λ r m b. f r.image (named_image k t m (is-fits k t r two b)))
         by_images l e (two_named i j q m n d) =
@@ -150,8 +150,8 @@ module _ (k : ℕ) (t : Tree) (rs : List ℕ) where
 
         -- By whether the words are a list.
         by_list : (o : Option (List ImageRule)) → rules_of k rs ≡ o → Choice k t rs (chosen_by k t rs)
-        by_list none e = no_list (chosen_none e) (no_rules-is k rs e)
-        by_list (some l) e = by_images l e (images_is (images_for k t l))
+        by_list None e = no_list (chosen_none e) (no_rules-is k rs e)
+        by_list (Some l) e = by_images l e (images_is (images_for k t l))
 
     -- and by no other.
     choice_only : (c : Chosen) → Choice k t rs c → chosen_by k t rs ≡ c
@@ -159,8 +159,8 @@ module _ (k : ℕ) (t : Tree) (rs : List ℕ) where
       where
         -- By whether the words are a list.
         by_list : (o : Option (List ImageRule)) → rules_of k rs ≡ o → chosen_by k t rs ≡ c
-        by_list none q = chosen_none q ∙ sym e
-        by_list (some l) q = absurd (n l (rules-is k rs l q))
+        by_list None q = chosen_none q ∙ sym e
+        by_list (Some l) q = absurd (n l (rules-is k rs l q))
     choice_only c (none_fits l e i f) =
         by_rules-of c l i (none_named e (λ j m. let a = image-named k t l m in f a.rule a.there (fits-is k t a.rule two a.fits)))
     choice_only c (two_differ l r s e i m n a b d) =

@@ -1,5 +1,6 @@
 -- Rule lists and their words: what is read from words is a list of sound rules that has these words, and every such list is read from its own.
 -- Assumes nothing.
+use Rattle.std.specs.Prelude.{Option, None, Some}
 use Prim.Native.Nat.{ℕ, zero, suc, ◌*◌, ◌-◌, ◌/◌, ◌≤◌}
 use mathlib.Core.Path.{◌≡◌, refl, ap, ap₂, sym, subst, ◌∙◌}
 use mathlib.Core.Bool.{Bool, true, false}
@@ -7,7 +8,6 @@ use mathlib.Core.List.Memᴰ
 use mathlib.Core.List.Memᴰ.{head as here}
 use mathlib.Core.List.Memᴰ.{tail as there}
 use mathlib.Core.List.{List, [], ◌∷◌, ◌++◌}
-use mathlib.Core.Option.{Option, none, some}
 use native.Mathlib.Omega.{arith}
 use borrow.Author.Tests.{leb-true, le-leb}
 use lib.Dec.{leb}
@@ -42,22 +42,22 @@ is-sound k r i =
 -- ---- from words
 
 -- No list is not some list.
-no_list : {A : Type 0} {l : List ImageRule} → none ≡ some l → A
+no_list : {A : Type 0} {l : List ImageRule} → None ≡ Some l → A
 no_list e = never cc
 
 -- A list that begins with a rule: the rule's test has passed, and the others are there.
 record Begins (test : Bool) (r : ImageRule) (o : Option (List ImageRule)) (l : List ImageRule) : Type 0 where
   passes : test ≡ true
   others : List ImageRule
-  are : o ≡ some others
+  are : o ≡ Some others
   is : l ≡ r ∷ others
 
 -- What is read with a rule first begins with it.
-begins : (test : Bool) (r : ImageRule) (o : Option (List ImageRule)) (l : List ImageRule) → rule_before test r o ≡ some l → Begins test r o l
+begins : (test : Bool) (r : ImageRule) (o : Option (List ImageRule)) (l : List ImageRule) → rule_before test r o ≡ Some l → Begins test r o l
 unfolding rule_before
 begins false r o l e = no_list e
-begins true r none l e = no_list e
-begins true r (some m) l e = record { passes = refl; others = m; are = refl; is = cc }
+begins true r None l e = no_list e
+begins true r (Some m) l e = record { passes = refl; others = m; are = refl; is = cc }
 
 -- The words are those of the rules, which are n and sound.
 record AreRules (k n : ℕ) (ws : List ℕ) (l : List ImageRule) : Type 0 where
@@ -71,7 +71,7 @@ each_more {k} i f s (here e) = subst (IsRule k) (sym e) i
 each_more i f s (there m) = f s m
 
 -- What is read as n rules is n sound rules that have these words.
-from_words : (k n : ℕ) (ws : List ℕ) (l : List ImageRule) → rules_from k n ws ≡ some l → AreRules k n ws l
+from_words : (k n : ℕ) (ws : List ℕ) (l : List ImageRule) → rules_from k n ws ≡ Some l → AreRules k n ws l
 unfolding rules_from rules_words
 from_words k zero [] l e = let z : l ≡ [] = cc in rw z (record { many = refl; each = λ r m. absurd (Memᴰ.not-nil m); spelt = refl })
 from_words k zero (w ∷ ws) l e = no_list e
@@ -92,7 +92,7 @@ from_words k (suc n) (image ∷ nodes ∷ ws) l e =
 -- ---- and back
 
 -- Sound rules are read from their words.
-to_words : (k : ℕ) (l : List ImageRule) → ((r : ImageRule) → r ∈ l → IsRule k r) → rules_from k (length l) (rules_words l) ≡ some l
+to_words : (k : ℕ) (l : List ImageRule) → ((r : ImageRule) → r ∈ l → IsRule k r) → rules_from k (length l) (rules_words l) ≡ Some l
 unfolding rules_from rules_words rule_before
 to_words k [] each = refl
 to_words k (r ∷ l) each =
@@ -106,7 +106,7 @@ to_words k (r ∷ l) each =
 -- ---- the whole list
 
 -- What is read as a list of rules is one,
-pub rules-is : (k : ℕ) (rs : List ℕ) (l : List ImageRule) → rules_of k rs ≡ some l → IsRules k rs l
+pub rules-is : (k : ℕ) (rs : List ℕ) (l : List ImageRule) → rules_of k rs ≡ Some l → IsRules k rs l
 unfolding rules_of when◌then◌else◌
 rules-is k [] l e = no_list e
 rules-is k (n ∷ ws) l e =
@@ -117,10 +117,10 @@ rules-is k (n ∷ ws) l e =
     (λ h. no_list (rw h at e))
 
 -- a list of rules is read as it,
-pub rules-only : (k : ℕ) (rs : List ℕ) (l : List ImageRule) → IsRules k rs l → rules_of k rs ≡ some l
+pub rules-only : (k : ℕ) (rs : List ℕ) (l : List ImageRule) → IsRules k rs l → rules_of k rs ≡ Some l
 unfolding rules_of when◌then◌else◌
 rules-only k rs l i = ap (rules_of k) i.spelt ∙ rw (le-leb (length l) most_rules i.few) (to_words k l i.each)
 
 -- and what is read as none is none.
-pub no_rules-is : (k : ℕ) (rs : List ℕ) → rules_of k rs ≡ none → (l : List ImageRule) → IsRules k rs l → ⊥
+pub no_rules-is : (k : ℕ) (rs : List ℕ) → rules_of k rs ≡ None → (l : List ImageRule) → IsRules k rs l → ⊥
 no_rules-is k rs e l i = no_list (sym e ∙ rules-only k rs l i)

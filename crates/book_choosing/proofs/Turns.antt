@@ -1,9 +1,9 @@
 -- The pass over a rule list: what stands at a word of it, and that the rules left and what is named so far decide what is chosen. Assumes nothing.
+use Rattle.std.specs.Prelude.{None, Option, Some}
 use Prim.Native.Nat.{ℕ, suc, ◌+◌, ◌*◌, ◌-◌, ◌/◌, ◌≤◌, ◌<◌}
 use mathlib.Core.Path.{◌≡◌, refl, ap, ap₂, sym, subst, ◌∙◌}
 use mathlib.Core.Bool.{Bool, true, false, not}
 use mathlib.Core.List.{List, [], ◌∷◌}
-use mathlib.Core.Option.{Option, none, some}
 use native.Mathlib.Omega.{arith}
 use borrow.Author.Tests.{leb-true, leb-false, le-leb, lt-leb}
 use lib.Dec.{leb, eqb}
@@ -22,8 +22,6 @@ use Rattle.book_choosing.specs.Rules.{ImageRule, sound_rule, rule_before, rules_
 use Rattle.book_choosing.specs.Choosing.{rule_fits, images_for, unchosen, all_are, one_image, chosen_by}
 use Rattle.book_choosing.specs.Walking.{rule_past, rule_within, rule_at_of, cut_from, also_of, would_change, also_all, told_of, chosen_for, chosen_from}
 use Rattle.book_choosing.specs.declared.Chosen.{Chosen}
-use Rattle.book_choosing.specs.declared.RuleAt.{RuleAt}
-use Rattle.book_choosing.specs.declared.RuleAt.TheVariants.{NoRule, Ends}
 use Rattle.book_choosing.specs.declared.Named.{Named}
 use Rattle.book_choosing.specs.declared.Named.TheVariants.{Nothing, One, Two}
 use Rattle.book_choosing.proofs.Fitting.{cuts_fit}
@@ -37,9 +35,9 @@ pub record OneThere (k : ℕ) (rs : List ℕ) (at end : ℕ) : Type 0 where
   read : (n : ℕ) → rules_from k (suc n) (drop at rs) ≡ rule_before true (rule_within rs at end) (rules_from k n (drop end rs))
 
 -- What each case of what stands there says.
-abbrev pub AtRule : ℕ → List ℕ → ℕ → RuleAt → Type 0
-AtRule k rs at NoRule = (n : ℕ) → rules_from k (suc n) (drop at rs) ≡ none
-AtRule k rs at (Ends end) = OneThere k rs at end
+abbrev pub AtRule : ℕ → List ℕ → ℕ → Option ℕ → Type 0
+AtRule k rs at None = (n : ℕ) → rules_from k (suc n) (drop at rs) ≡ None
+AtRule k rs at (Some end) = OneThere k rs at end
 
 -- A sound rule's tree has words.
 sound-some : (k image : ℕ) (ws : List ℕ) → sound_rule k (record { image = image; tree = ws }) ≡ true → 0 < length ws
@@ -49,11 +47,11 @@ sound-some k image (w ∷ ws) e = omega arith
 
 module _ (k : ℕ) (rs : List ℕ) (at : ℕ) where
   -- Where two words are not there nothing is read.
-  rules-short : (n : ℕ) → length rs < at + 2 → rules_from k (suc n) (drop at rs) ≡ none
+  rules-short : (n : ℕ) → length rs < at + 2 → rules_from k (suc n) (drop at rs) ≡ None
   unfolding rules_from
   rules-short n h = go (drop at rs) (omega (arith, length-drop at rs))
     where
-      go : (ws : List ℕ) → length ws < 2 → rules_from k (suc n) ws ≡ none
+      go : (ws : List ℕ) → length ws < 2 → rules_from k (suc n) ws ≡ None
       go [] l = refl
       go (w ∷ []) l = refl
       go (w ∷ v ∷ ws) l = absurd (omega arith)
@@ -83,7 +81,7 @@ module _ (k : ℕ) (rs : List ℕ) (at : ℕ) where
   rule-there = go (leb (at + 2) (length rs)) refl (leb (rule_past rs at) (length rs)) refl (sound_rule k (rule_within rs at (rule_past rs at))) refl
     where
       go : (a : Bool) → leb (at + 2) (length rs) ≡ a → (b : Bool) → leb (rule_past rs at) (length rs) ≡ b → (c : Bool) → sound_rule k (rule_within rs at (rule_past rs at)) ≡ c
-          → AtRule k rs at (when not a then NoRule else (when not b then NoRule else (when not c then NoRule else Ends (rule_past rs at))))
+          → AtRule k rs at (when not a then None else (when not b then None else (when not c then None else Some (rule_past rs at))))
       go false e b f c g = λ n. rules-short n (leb-false (at + 2) (length rs) e)
       go true e false f c g = λ n. rules-next n (leb-true (at + 2) (length rs) e) ∙ rw f
       go true e true f false g = λ n. rules-next n (leb-true (at + 2) (length rs) e) ∙ rw (f, g)
@@ -97,31 +95,31 @@ module _ (k : ℕ) (rs : List ℕ) (at : ℕ) where
           }
 
   -- So it is of what is found there.
-  pub rule_found : (w v : RuleAt) → w ≡ rule_at_of k rs at → w ≡ v → AtRule k rs at v
+  pub rule_found : (w v : Option ℕ) → w ≡ rule_at_of k rs at → w ≡ v → AtRule k rs at v
   rule_found w v e f = subst (AtRule k rs at) (sym e ∙ f) rule-there
 
 -- ---- what the tests of a word tell
 
 module _ (k : ℕ) (rs : List ℕ) (at : ℕ) where
   -- Two words are not there.
-  pub told-short : length rs - at < 2 → NoRule ≡ rule_at_of k rs at
+  pub told-short : length rs - at < 2 → None ≡ rule_at_of k rs at
   unfolding rule_at_of when◌then◌else◌
   told-short h = rw (lt-leb (at + 2) (length rs) (omega arith)) refl
 
   module _ (two-there : at + 2 ≤ length rs) where
     -- The tree does not end within the list.
-    pub told-cut_off : (length rs - (at + 2)) / 2 < get_or rs (at + 1) 0 → NoRule ≡ rule_at_of k rs at
+    pub told-cut_off : (length rs - (at + 2)) / 2 < get_or rs (at + 1) 0 → None ≡ rule_at_of k rs at
     unfolding rule_at_of when◌then◌else◌
     told-cut_off h = rw (le-leb (at + 2) (length rs) two-there, lt-leb (rule_past rs at) (length rs) (omega arith)) refl
 
     module _ (lies : rule_past rs at ≤ length rs) where
       -- The image or the tree is at fault.
-      pub told-fault : sound_rule k (rule_within rs at (rule_past rs at)) ≡ false → NoRule ≡ rule_at_of k rs at
+      pub told-fault : sound_rule k (rule_within rs at (rule_past rs at)) ≡ false → None ≡ rule_at_of k rs at
       unfolding rule_at_of when◌then◌else◌
       told-fault e = rw (le-leb (at + 2) (length rs) two-there, le-leb (rule_past rs at) (length rs) lies, e) refl
 
       -- Neither is.
-      pub told-rule : sound_rule k (rule_within rs at (rule_past rs at)) ≡ true → Ends (rule_past rs at) ≡ rule_at_of k rs at
+      pub told-rule : sound_rule k (rule_within rs at (rule_past rs at)) ≡ true → Some (rule_past rs at) ≡ rule_at_of k rs at
       unfolding rule_at_of when◌then◌else◌
       told-rule e = rw (le-leb (at + 2) (length rs) two-there, le-leb (rule_past rs at) (length rs) lies, e) refl
 
@@ -176,8 +174,8 @@ named_all (i ∷ is) = named_behind i is ∙ by_test (all_are i is) (λ e. rw e)
 -- A rule put before others is looked at before them.
 rule-first : (x : Option (List ImageRule)) (r : ImageRule) (a : Chosen) (f : List ImageRule → Chosen) → by_rules (rule_before true r x) a f ≡ by_rules x a (λ l. f (r ∷ l))
 unfolding by_rules rule_before
-rule-first none r a f = refl
-rule-first (some l) r a f = refl
+rule-first None r a f = refl
+rule-first (Some l) r a f = refl
 
 -- The images of the rules that fit begin with that of a first one that fits,
 images_fit : (k : ℕ) (t : Tree) (r : ImageRule) (l : List ImageRule) → rule_fits k t r ≡ true → images_for k t (r ∷ l) ≡ r.image ∷ images_for k t l
@@ -230,8 +228,8 @@ module _ (k : ℕ) (os rs : List ℕ) (sound : cause_of os ≡ done) where
     where
       -- By what is read of the rules.
       by : (x : Option (List ImageRule)) → by_rules x (unchosen no_rules) (λ l. one_image (images_for k t l)) ≡ by_rules x (unchosen no_rules) (λ l. told_of (also_all Nothing (images_for k t l)))
-      by none = refl
-      by (some l) = sym (named_all (images_for k t l))
+      by None = refl
+      by (Some l) = sym (named_all (images_for k t l))
 
       go : (ws : List ℕ) → 0 < length ws → get_or ws 0 0 ≤ most_rules
           → chosen_by k t ws ≡ by_rules (rules_from k (get_or ws 0 0) (drop 1 ws)) (unchosen no_rules) (λ l. told_of (also_all Nothing (images_for k t l)))
@@ -258,7 +256,7 @@ module _ (k : ℕ) (os rs : List ℕ) (sound : cause_of os ≡ done) where
     one_more = omega arith
 
     -- Where none stands there is no list.
-    pub no_rule : AtRule k rs at NoRule → chosen_from k os rs named left at ≡ unchosen no_rules
+    pub no_rule : AtRule k rs at None → chosen_from k os rs named left at ≡ unchosen no_rules
     unfolding by_rules
     no_rule x =
         from_tree named left at
@@ -288,8 +286,8 @@ module _ (k : ℕ) (os rs : List ℕ) (sound : cause_of os ≡ done) where
       behind now f = turned ∙ go (rules_from k (left - 1) (drop end rs)) ∙ sym (from_tree now (left - 1) end)
         where
           go : (y : Option (List ImageRule)) → by_rules y (unchosen no_rules) (λ l. told_of (also_all named (images_for k t (rule ∷ l)))) ≡ by_rules y (unchosen no_rules) (λ l. told_of (also_all now (images_for k t l)))
-          go none = refl
-          go (some l) = ap told_of (f l)
+          go None = refl
+          go (Some l) = ap told_of (f l)
 
       -- It is named too if it fits.
       looked_at : chosen_from k os rs named left at

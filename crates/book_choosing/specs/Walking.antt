@@ -1,6 +1,6 @@
 -- Inner: no promise rests on these definitions.
 -- What the functions of `book_rules` and `book_choose` find at each rule and at each line. Assumes nothing: these are definitions.
-use Rattle.std.specs.Prelude.{ℕ, ◌+◌, ◌*◌, ◌-◌, Bool, true, false, not, List, [], ◌∷◌, map, leb, eqb, length, get_or, take, drop}
+use Rattle.std.specs.Prelude.{ℕ, ◌+◌, ◌*◌, ◌-◌, Bool, true, false, not, List, [], ◌∷◌, map, leb, eqb, length, get_or, take, drop, None, Option, Some}
 use Rattle.words.specs.Base.{when◌then◌else◌}
 use Rattle.figures.specs.Numbers.{no_image, two_images, no_rules}
 use Rattle.order.specs.Trees.{cut, subtrees}
@@ -8,8 +8,6 @@ use Rattle.order.specs.Reading.{by_order, order_of}
 use Rattle.book_choosing.specs.Rules.{ImageRule, sound_rule, rules_from, by_rules}
 use Rattle.book_choosing.specs.Choosing.{is_one_of, images_for, chosen, unchosen, chosen_by}
 use Rattle.book_choosing.specs.declared.Chosen.{Chosen}
-use Rattle.book_choosing.specs.declared.RuleAt.{RuleAt}
-use Rattle.book_choosing.specs.declared.RuleAt.TheVariants.{NoRule, Ends}
 use Rattle.book_choosing.specs.declared.Named.{Named}
 use Rattle.book_choosing.specs.declared.Named.TheVariants.{Nothing, One, Two}
 
@@ -22,12 +20,12 @@ abbrev pub rule_within : List ℕ → ℕ → ℕ → ImageRule
 rule_within rs at end = record { image = get_or rs at 0; tree = take (end - (at + 2)) (drop (at + 2) rs) }
 
 -- What stands at a word of a rule list.
-unfoldable pub rule_at_of : ℕ → List ℕ → ℕ → RuleAt
+unfoldable pub rule_at_of : ℕ → List ℕ → ℕ → Option ℕ
 rule_at_of k rs at =
-    when not (leb (at + 2) (length rs)) then NoRule else
-    when not (leb (rule_past rs at) (length rs)) then NoRule else
-    when not (sound_rule k (rule_within rs at (rule_past rs at))) then NoRule else
-    Ends (rule_past rs at)
+    when not (leb (at + 2) (length rs)) then None else
+    when not (leb (rule_past rs at) (length rs)) then None else
+    when not (sound_rule k (rule_within rs at (rule_past rs at))) then None else
+    Some (rule_past rs at)
 
 -- Whether the cut at d of one of the order's subtrees has the words of a tree, from a line on, the lines counted from 0.
 unfoldable pub cut_from : List ℕ → ℕ → List ℕ → ℕ → Bool

@@ -11,13 +11,6 @@ pub struct Chosen {
     pub image: u16,
 }
 
-// What stands at a word of a rule list: no rule, or one that ends before a word.
-#[derive(Clone, Copy)]
-pub enum RuleAt {
-    NoRule,
-    Ends(usize),
-}
-
 // What the rules that fit name, of those that were looked at: no image, one, or two that differ.
 #[derive(Clone, Copy)]
 pub enum Named {

@@ -1,9 +1,9 @@
 -- What reading stored words into a slice answers, by what the words are and by what the slice has room for. Assumes nothing.
+use Rattle.std.specs.Prelude.{Option, None, Some}
 use Prim.Native.Nat.{ℕ, ◌*◌, ◌-◌, ◌≤◌, ◌<◌}
 use mathlib.Core.Path.{◌≡◌, refl, sym, ap, ap₂, ◌∙◌}
 use mathlib.Core.Bool.{Bool, true, false, not}
 use mathlib.Core.List.{List, ◌++◌}
-use mathlib.Core.Option.{Option, none, some}
 use native.Mathlib.Omega.{arith}
 use borrow.Author.Tests.{le-leb, lt-leb, eqb-true, eq-eqb}
 use lib.Dec.{eqb}
@@ -142,8 +142,8 @@ module _ (ws : List ℕ) where
 -- Reading the book that was found in a file: line 0.
 book-line : (ws : List ℕ) (o : Option Book) (a : Outcome) → no_line a → no_line (by_book o a (read_book_of ws))
 unfolding by_book read_book_of
-book-line ws none a z = z
-book-line ws (some b) a z = either_way no_line (not (agreeing b)) _ _ refl (either_way no_line _ _ _ refl refl)
+book-line ws None a z = z
+book-line ws (Some b) a z = either_way no_line (not (agreeing b)) _ _ refl (either_way no_line _ _ _ refl refl)
 
 -- Reading a file: line 0.
 pub restored_line : (file ws : List ℕ) → (read_file_of file ws).answer.line ≡ 0

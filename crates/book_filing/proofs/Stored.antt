@@ -1,9 +1,9 @@
 -- What stored bytes are: the used words of a book in form, of one book at most, and when there is none. Assumes nothing.
+use Rattle.std.specs.Prelude.{None, Some}
 use Prim.Native.Nat.{ℕ, ◌+◌, ◌-◌, ◌≤◌}
 use mathlib.Core.Path.{◌≡◌, refl, sym, ap, ◌∙◌}
 use mathlib.Core.Bool.{Bool, true, false}
 use mathlib.Core.List.{List, ◌++◌, append-nil}
-use mathlib.Core.Option.{none, some}
 use native.Mathlib.Omega.{arith}
 use lib.Dec.{leb}
 use borrow.Author.Tests.{le-leb, leb-true}
@@ -68,23 +68,23 @@ module _ (rest : List ℕ) where
       ∙ laid-read (used b) b s.form
 
   -- Where the book that they hold passes the test, it is the one stored.
-  passes-some : stores held ≡ true → stored_in rest ≡ some held
+  passes-some : stores held ≡ true → stored_in rest ≡ Some held
   unfolding stored_in when◌then◌else◌
   passes-some e = rw e
 
   -- Where it fails there is none.
-  fails_none : stores held ≡ false → stored_in rest ≡ none
+  fails_none : stores held ≡ false → stored_in rest ≡ None
   unfolding stored_in when◌then◌else◌
   fails_none e = rw e
 
   -- The book whose used words the bytes are is found in them.
-  pub stored_some : (b : Book) → Stored rest b → stored_in rest ≡ some b
+  pub stored_some : (b : Book) → Stored rest b → stored_in rest ≡ Some b
   stored_some b s =
       let q = stored_held b s in
-      passes-some (ap stores q ∙ stored_passes b s) ∙ ap (λ (c : Book). some c) q
+      passes-some (ap stores q ∙ stored_passes b s) ∙ ap (λ (c : Book). Some c) q
 
   -- The bytes are the used words of the book that is found in them.
-  pub stored_is : (b : Book) → stored_in rest ≡ some b → Stored rest b
+  pub stored_is : (b : Book) → stored_in rest ≡ Some b → Stored rest b
   stored_is b e = go (stores held) refl
     where
       -- By the test.
@@ -93,15 +93,15 @@ module _ (rest : List ℕ) where
       go false p = never (cc (fails_none p))
 
   -- Bytes in which no book is found are the used words of none.
-  pub stored_none : stored_in rest ≡ none → (b : Book) → Stored rest b → ⊥
+  pub stored_none : stored_in rest ≡ None → (b : Book) → Stored rest b → ⊥
   stored_none n b s = never (cc (stored_some b s))
 
   -- In bytes that are the used words of no book none is found.
-  pub none-stored : ((b : Book) → Stored rest b → ⊥) → stored_in rest ≡ none
+  pub none-stored : ((b : Book) → Stored rest b → ⊥) → stored_in rest ≡ None
   none-stored n = go (stores held) refl
     where
       -- By the test.
-      go : (t : Bool) → stores held ≡ t → stored_in rest ≡ none
+      go : (t : Bool) → stores held ≡ t → stored_in rest ≡ None
       go true p = absurd (n held (passes-stored held p))
       go false p = fails_none p
 

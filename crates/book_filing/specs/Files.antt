@@ -1,7 +1,6 @@
 -- The stored book, version 1 (01, "Stored book, version 1"): the bytes of a book, and what writing and reading them answers, for all inputs.
 -- Assumes nothing: these are definitions.
-use Rattle.std.specs.Prelude.{ℕ, Bool, not, List, [], ◌∷◌, ◌++◌, leb, eqb, length, take, drop}
-use Rattle.std.proofs.Math.Option.{Option, none, some}
+use Rattle.std.specs.Prelude.{ℕ, Bool, not, List, [], ◌∷◌, ◌++◌, leb, eqb, length, take, drop, Option, None, Some}
 use Rattle.words.specs.Base.{◌and◌, when◌then◌else◌, same_words}
 use Rattle.figures.specs.Limits.{most_book_words}
 use Rattle.figures.specs.Numbers.{done, book_size, no_room, not_agreeing, no_mark, other_version, no_stored_book}
@@ -54,7 +53,7 @@ is_marked file = leb front_bytes (length file) and same_words (take mark_bytes f
 unfoldable pub stored_in : List ℕ → Option Book
 stored_in rest =
     let b : Book = book_in (words_of rest) in
-    when in_form b and leb (used b) most_book_words and same_words (bytes_of (encode b)) rest then some b else none
+    when in_form b and leb (used b) most_book_words and same_words (bytes_of (encode b)) rest then Some b else None
 
 -- 9 and 6, by the book; and then the whole slice is the book.
 unfoldable pub read_book_of : List ℕ → Book → Outcome

@@ -8,7 +8,7 @@ ghost use Rattle.book.specs.Decoding.{book_form_of};
 ghost use Rattle.book.specs.Passes.{whole_at, stretch_of, zeros, head_of};
 
 use book::{BookForm, Places, Stretch, Whole, is_book_size};
-use figures::{Asked, Depth, limits, numbers};
+use figures::{Depth, limits, numbers};
 
 // The entry at word `at`, if all its words are there.
 fn whole_at(book: &[u16], at: usize) -> Whole
@@ -111,7 +111,7 @@ pub fn in_form(book: &[u16]) -> BookForm
     if !is_book_size(book.len()) {
         return BookForm::Refused(numbers::BOOK_SIZE);
     }
-    let Asked::Allowed(k) = Depth::new(book[limits::K_WORD]) else {
+    let Some(k) = Depth::new(book[limits::K_WORD]) else {
         return BookForm::Refused(numbers::NOT_IN_FORM);
     };
     let low = k.of_tops();

@@ -1,9 +1,9 @@
 -- Joining in words: what two slices meet, the words then, either way round, however three are grouped, and with an empty book. Assumes nothing.
+use Rattle.std.specs.Prelude.{Some}
 use Prim.Native.Nat.{ℕ, ◌+◌, ◌≤◌, ◌<◌}
 use mathlib.Core.Path.{◌≡◌, refl, sym, ap, ap₂, ◌∙◌}
 use mathlib.Core.Bool.{Bool, true, false, not}
 use mathlib.Core.List.{List, []}
-use mathlib.Core.Option.{some}
 use native.Mathlib.Omega.{arith}
 use lib.Dec.{leb, eqb}
 use lib.ListN.{length}
@@ -248,11 +248,11 @@ joined-long : (ws vs : List ℕ) → Done ws vs → length (join_of ws vs).words
 joined-long ws vs d = ap length (words_are (done-joins ws vs d)) ∙ lay-long (length ws) (joined d.first d.second) d.room
 
 -- A book in form that agrees with itself agrees with itself after a join, whatever the answer.
-pub join-agrees : (ws vs : List ℕ) (b : Book) → decode ws ≡ some b → agreeing b ≡ true → (c : Book) × (decode (join_of ws vs).words ≡ some c) × (agreeing c ≡ true)
+pub join-agrees : (ws vs : List ℕ) (b : Book) → decode ws ≡ Some b → agreeing b ≡ true → (c : Book) × (decode (join_of ws vs).words ≡ Some c) × (agreeing c ≡ true)
 join-agrees ws vs b is a = go (eqb (join_of ws vs).answer.number done) refl
   where
     -- By whether the answer is 0.
-    go : (x : Bool) → eqb (join_of ws vs).answer.number done ≡ x → (c : Book) × (decode (join_of ws vs).words ≡ some c) × (agreeing c ≡ true)
+    go : (x : Bool) → eqb (join_of ws vs).answer.number done ≡ x → (c : Book) × (decode (join_of ws vs).words ≡ Some c) × (agreeing c ≡ true)
     go true e =
         let d : Done ws vs = was_joined ws vs (eqb-true (join_of ws vs).answer.number done e) in
         let j : Book = joined d.first d.second in
@@ -287,15 +287,15 @@ join-empty ws vs b i a long short =
     let o : IsBook (open_of vs b.k).words c = opened-book vs b.k long short i.sound.least i.sound.greatest in
     let e : Grown c = grown c (sound-form c o.sound) (taken_agrees b.k [] none-taken) in
     let same : b.k ≡ c.k = unfold book_of in refl in
-    let none : joined b c ≡ b = joined-empty b g in
+    let None : joined b c ≡ b = joined-empty b g in
     let d : Done ws (open_of vs b.k).words = record {
       first = b;
       second = c;
       both = record { is_first = i; is_second = o; same = same; grown_first = g; grown_second = e };
-      few = omega (arith, joined-live b c g e same, ap live none, i.sound.few);
-      room = omega (arith, ap used none, used-fits ws b i.laid);
+      few = omega (arith, joined-live b c g e same, ap live None, i.sound.few);
+      room = omega (arith, ap used None, used-fits ws b i.laid);
     } in
-    done-joins ws (open_of vs b.k).words d ∙ ap (outcome (answered done)) (ap (lay (length ws)) none ∙ i.laid)
+    done-joins ws (open_of vs b.k).words d ∙ ap (outcome (answered done)) (ap (lay (length ws)) None ∙ i.laid)
 
 -- ---- three books
 

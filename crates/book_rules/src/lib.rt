@@ -9,32 +9,32 @@ ghost use Rattle.order.specs.Levels.{LinesLevelled};
 ghost use Rattle.order.specs.Spans.{GoneOver};
 ghost use Rattle.book_choosing.specs.Walking.{rule_at_of, cut_from, also_of, would_change};
 
-use book_choosing::{Named, RuleAt};
+use book_choosing::{Named};
 use figures::{Depth, limits};
 
 // What stands at a word of a rule list: a rule, if all its words are there, its image is one, and its tree is an order of a depth of at most
 // k-1, by a lent stack of depths.
-pub fn rule_at(rules: &[u16], at: usize, k: Depth, stack: &mut [u16]) -> RuleAt
+pub fn rule_at(rules: &[u16], at: usize, k: Depth, stack: &mut [u16]) -> Option<usize>
     requires { (at ≤ length rules.now) × (k.k ≤ greatest_k) × (most_nodes ≤ length stack.old) }
     ensures came { result ≡ rule_at_of k.k rules.now at }
     ensures kept { length stack.new ≡ length stack.old }
 {
     if rules.len() - at < 2 {
-        return RuleAt::NoRule;
+        return None;
     }
     let start = at + 2;
     let nodes = rules[at + 1] as usize;
     if (rules.len() - start) / 2 < nodes {
-        return RuleAt::NoRule;
+        return None;
     }
     if rules[at] < limits::LEAST_IMAGE {
-        return RuleAt::NoRule;
+        return None;
     }
     let end = start + 2 * nodes;
     if !order_fit::fits(&rules[start..end], 0, k.of_middles(), stack) {
-        return RuleAt::NoRule;
+        return None;
     }
-    RuleAt::Ends(end)
+    Some(end)
 }
 
 // Whether one of the order's lines has a subtree whose cut at d has the words of a tree: most lines differ from it in their code.

@@ -16,7 +16,7 @@ use book::Places;
 use book_judging::{Judgement, Sought};
 use figures::{Answer, limits, numbers};
 use section::{Neighbours, place_at};
-use words::Compared;
+use std::cmp::Ordering;
 
 // The part that a line stands for, the lines counted from 0; the words of a middle part are written to `cut`.
 fn seek(
@@ -59,7 +59,7 @@ fn seek(
 }
 
 // How an entry's tree stands to the part that is sought: a low part is compared where it lies in the order.
-fn against(tree: &[u16], part: Sought, order: &[u16], cut: &[u16]) -> Compared
+fn against(tree: &[u16], part: Sought, order: &[u16], cut: &[u16]) -> Ordering
     requires { (part.from ≤ part.to) × (part.to ≤ length (spelt_in part.low order.now cut.now)) }
     ensures { result ≡ compare_of tree.now (key_of part order.now cut.now) }
 {
@@ -174,13 +174,13 @@ pub fn first_unknown(
             let start = at + 2;
             let end = section::past(book, at);
             match against(&book[start..end], part, order, &cut) {
-                Compared::Lower => {
+                Ordering::Less => {
                     last = at;
                     at = end;
                     left -= 1;
                 }
-                Compared::Equal => continue 'lines,
-                Compared::Higher => {
+                Ordering::Equal => continue 'lines,
+                Ordering::Greater => {
                     break 'lines unknown(book, part, order, &cut, line, last, at, left);
                 }
             }

@@ -1,10 +1,10 @@
 -- The exact conditions of 7, 6 and 0 in teaching and of 8, 9 and 0 in withdrawing, and what is written; a refusal leaves the words as they
 -- came (01, "Numbers the desk hears"). Assumes nothing.
+use Rattle.std.specs.Prelude.{Some}
 use Prim.Native.Nat.{ℕ, ◌≤◌, ◌<◌}
 use mathlib.Core.Path.{◌≡◌, sym, ap, ◌∙◌}
 use mathlib.Core.Bool.{true, false}
 use mathlib.Core.List.{List}
-use mathlib.Core.Option.{some}
 use native.Mathlib.Omega.{arith}
 use lib.ListN.{length}
 use Rattle.words.specs.Base.{◌exactly_when◌}
@@ -71,10 +71,10 @@ module _ (ws os : List ℕ) (b : Book) (t : Tree) (g : BookAndOrder ws os b t) w
 
   -- "Success writes the book": the words are those of the book with one teaching more, and are decoded to it.
   pub teach-writes : (teach_of ws os).answer.number ≡ done
-      → ((teach_of ws os).words ≡ lay (length ws) (taught 1 t b)) × (decode (teach_of ws os).words ≡ some (taught 1 t b))
+      → ((teach_of ws os).words ≡ lay (length ws) (taught 1 t b)) × (decode (teach_of ws os).words ≡ Some (taught 1 t b))
   teach-writes e = go (teach-case ws os b t g)
     where
-      go : TeachCase ws os (taught 1 t b) → ((teach_of ws os).words ≡ lay (length ws) (taught 1 t b)) × (decode (teach_of ws os).words ≡ some (taught 1 t b))
+      go : TeachCase ws os (taught 1 t b) → ((teach_of ws os).words ≡ lay (length ws) (taught 1 t b)) × (decode (teach_of ws os).words ≡ Some (taught 1 t b))
       go (passing w r) = absurd (omega (arith, one_number r e))
       go (crowded w h r) = absurd (omega (arith, one_number r e))
       go (teaches w h r) =
@@ -128,10 +128,10 @@ module _ (ws os : List ℕ) (b : Book) (t : Tree) (g : BookAndOrder ws os b t) w
 
   -- "Success writes the book": the words are those of the book with one teaching less, and are decoded to it.
   pub withdraw-writes : (withdraw_of ws os).answer.number ≡ done
-      → ((withdraw_of ws os).words ≡ lay (length ws) (withdrawn t b)) × (decode (withdraw_of ws os).words ≡ some (withdrawn t b))
+      → ((withdraw_of ws os).words ≡ lay (length ws) (withdrawn t b)) × (decode (withdraw_of ws os).words ≡ Some (withdrawn t b))
   withdraw-writes e = go (withdraw-case ws os b t g)
     where
-      go : WithdrawCase ws os b t → ((withdraw_of ws os).words ≡ lay (length ws) (withdrawn t b)) × (decode (withdraw_of ws os).words ≡ some (withdrawn t b))
+      go : WithdrawCase ws os b t → ((withdraw_of ws os).words ≡ lay (length ws) (withdrawn t b)) × (decode (withdraw_of ws os).words ≡ Some (withdrawn t b))
       go (untaught h r) = absurd (omega (arith, one_number r e))
       go (lacks h p r) = absurd (omega (arith, one_number r e))
       go (withdraws h p r) =

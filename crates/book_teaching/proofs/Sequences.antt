@@ -1,10 +1,10 @@
 -- Calls that follow one another, in every word: withdrawing undoes a teaching, and two teachings may come in any order; and a book stays in
 -- form, and agreeing if it was. Assumes nothing.
+use Rattle.std.specs.Prelude.{Some}
 use Prim.Native.Nat.{ℕ, ◌≤◌}
 use mathlib.Core.Path.{◌≡◌, sym, ap, ap₂, ◌∙◌}
 use mathlib.Core.Bool.{true}
 use mathlib.Core.List.{List}
-use mathlib.Core.Option.{some}
 use native.Mathlib.Omega.{arith}
 use lib.ListN.{length}
 use Rattle.figures.specs.Limits.{greatest_depth, greatest_count}
@@ -160,56 +160,56 @@ two_teachings ws os ps e f =
 
 -- What is kept, whatever the answer: of a book in form with a property that each change keeps the words are, after the call, a book in form
 -- with the property.
-module _ (Q : Book → Type 0) (ws os : List ℕ) (b : Book) (is : decode ws ≡ some b) (q : Q b) where
+module _ (Q : Book → Type 0) (ws os : List ℕ) (b : Book) (is : decode ws ≡ Some b) (q : Q b) where
   -- By teaching.
-  teach-keeps : ((t : Tree) → Fits 0 greatest_depth (words t) → Q (taught 1 t b)) → (c : Book) × (decode (teach_of ws os).words ≡ some c) × Q c
+  teach-keeps : ((t : Tree) → Fits 0 greatest_depth (words t) → Q (taught 1 t b)) → (c : Book) × (decode (teach_of ws os).words ≡ Some c) × Q c
   unfolding teach_of
   teach-keeps h = go (met ws os)
     where
-      left : (n : ℕ) → teach_of ws os ≡ leave ws n → (c : Book) × (decode (teach_of ws os).words ≡ some c) × Q c
+      left : (n : ℕ) → teach_of ws os ≡ leave ws n → (c : Book) × (decode (teach_of ws os).words ≡ Some c) × Q c
       left n r = (b, ap decode (words_are r) ∙ is, q)
 
-      by_case : (t : Tree) → BookAndOrder ws os b t → TeachCase ws os (taught 1 t b) → (c : Book) × (decode (teach_of ws os).words ≡ some c) × Q c
+      by_case : (t : Tree) → BookAndOrder ws os b t → TeachCase ws os (taught 1 t b) → (c : Book) × (decode (teach_of ws os).words ≡ Some c) × Q c
       by_case t g (passing w r) = left _ r
       by_case t g (crowded w m r) = left _ r
       by_case t g (teaches w m r) = (taught 1 t b, (teach-writes ws os b t g (number_is r)).1, h t (its_limits ws os b t g))
 
-      go : Met ws os → (c : Book) × (decode (teach_of ws os).words ≡ some c) × Q c
+      go : Met ws os → (c : Book) × (decode (teach_of ws os).words ≡ Some c) × Q c
       go (refuses n k r) = left n (r _)
       go (goes d t g) = let i : BookAndOrder ws os b t = record { size = g.size; is_book = is; is_order = g.is_order } in by_case t i (teach-case ws os b t i)
 
   -- By withdrawing.
-  withdraw-keeps : ((t : Tree) → Fits 0 greatest_depth (words t) → has (words t) b.T ≡ true → Q (withdrawn t b)) → (c : Book) × (decode (withdraw_of ws os).words ≡ some c) × Q c
+  withdraw-keeps : ((t : Tree) → Fits 0 greatest_depth (words t) → has (words t) b.T ≡ true → Q (withdrawn t b)) → (c : Book) × (decode (withdraw_of ws os).words ≡ Some c) × Q c
   unfolding withdraw_of
   withdraw-keeps h = go (met ws os)
     where
-      left : (n : ℕ) → withdraw_of ws os ≡ leave ws n → (c : Book) × (decode (withdraw_of ws os).words ≡ some c) × Q c
+      left : (n : ℕ) → withdraw_of ws os ≡ leave ws n → (c : Book) × (decode (withdraw_of ws os).words ≡ Some c) × Q c
       left n r = (b, ap decode (words_are r) ∙ is, q)
 
-      by_case : (t : Tree) → BookAndOrder ws os b t → WithdrawCase ws os b t → (c : Book) × (decode (withdraw_of ws os).words ≡ some c) × Q c
+      by_case : (t : Tree) → BookAndOrder ws os b t → WithdrawCase ws os b t → (c : Book) × (decode (withdraw_of ws os).words ≡ Some c) × Q c
       by_case t g (untaught m r) = left _ r
       by_case t g (lacks m p r) = left _ r
       by_case t g (withdraws m p r) = (withdrawn t b, (withdraw-writes ws os b t g (number_is r)).1, h t (its_limits ws os b t g) m)
 
-      go : Met ws os → (c : Book) × (decode (withdraw_of ws os).words ≡ some c) × Q c
+      go : Met ws os → (c : Book) × (decode (withdraw_of ws os).words ≡ Some c) × Q c
       go (refuses n k r) = left n (r _)
       go (goes d t g) = let i : BookAndOrder ws os b t = record { size = g.size; is_book = is; is_order = g.is_order } in by_case t i (withdraw-case ws os b t i)
 
-module _ (ws os : List ℕ) (b : Book) (is : decode ws ≡ some b) where
+module _ (ws os : List ℕ) (b : Book) (is : decode ws ≡ Some b) where
   -- A book in form stays in form by teaching, whatever the answer.
-  pub teach-in_form : (c : Book) × (decode (teach_of ws os).words ≡ some c)
+  pub teach-in_form : (c : Book) × (decode (teach_of ws os).words ≡ Some c)
   teach-in_form = let k = teach-keeps (λ c. Unit {0}) ws os b is tt (λ t l. tt) in (k.0, k.1)
 
   -- A book in form stays in form by withdrawing, whatever the answer.
-  pub withdraw-in_form : (c : Book) × (decode (withdraw_of ws os).words ≡ some c)
+  pub withdraw-in_form : (c : Book) × (decode (withdraw_of ws os).words ≡ Some c)
   withdraw-in_form = let k = withdraw-keeps (λ c. Unit {0}) ws os b is tt (λ t l h. tt) in (k.0, k.1)
 
   -- A book in form that "agrees with itself" agrees with itself after a teaching, whatever the answer.
-  pub teach-agrees : agreeing b ≡ true → (c : Book) × (decode (teach_of ws os).words ≡ some c) × (agreeing c ≡ true)
+  pub teach-agrees : agreeing b ≡ true → (c : Book) × (decode (teach_of ws os).words ≡ Some c) × (agreeing c ≡ true)
   teach-agrees a = teach-keeps (λ c. agreeing c ≡ true) ws os b is a (λ t l. taught-agrees 1 t b (omega arith) (decoded ws b is).1 l a)
 
   -- So it does after a withdrawal.
-  pub withdraw-agrees : agreeing b ≡ true → (c : Book) × (decode (withdraw_of ws os).words ≡ some c) × (agreeing c ≡ true)
+  pub withdraw-agrees : agreeing b ≡ true → (c : Book) × (decode (withdraw_of ws os).words ≡ Some c) × (agreeing c ≡ true)
   withdraw-agrees a = withdraw-keeps (λ c. agreeing c ≡ true) ws os b is a (λ t l h. withdrawn-agrees t b (decoded ws b is).1 l h a)
 
 -- From a book that "agrees with itself" an order that has an entry in T is withdrawn: the answer is 0.

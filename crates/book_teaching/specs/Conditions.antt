@@ -1,7 +1,6 @@
 -- When teaching and withdrawing are refused by 7 and by 9, in the words of 01 ("Numbers the desk hears"), apart from the tests of `teach_of`
 -- and `withdraw_of`; proofs/Conditions.antt shows that they say the same. Assumes nothing: these are definitions.
-use Rattle.std.specs.Prelude.{ℕ, ◌≡◌, true, false, List}
-use Rattle.std.proofs.Math.Option.{some}
+use Rattle.std.specs.Prelude.{ℕ, ◌≡◌, true, false, List, Some}
 use Rattle.words.specs.Base.{◌∈◌}
 use Rattle.figures.specs.Limits.{greatest_count}
 use Rattle.section.specs.Entries.{has, count_of}
@@ -16,7 +15,7 @@ use Rattle.book.specs.Taught.{trees_in}
 -- None of "4, 5, 1, 2": the words have the size of a book and are the book b in form, and the other words are the order t.
 pub record BookAndOrder (ws os : List ℕ) (b : Book) (t : Tree) : Type 0 where
   pub size : sized ws ≡ true
-  pub is_book : decode ws ≡ some b
+  pub is_book : decode ws ≡ Some b
   pub is_order : order_of os ≡ order t
 
 -- 7: "live teachings or a touched count would pass 65,535". One more would.

@@ -1,4 +1,5 @@
 -- What stands at a place of the input, by the tests that the code makes of its bytes. Assumes nothing.
+use Rattle.std.specs.Prelude.{None, Some}
 use Prim.Native.Nat.{ℕ, suc, ◌+◌, ◌-◌, ◌≤◌, ◌<◌}
 use mathlib.Core.Path.{◌≡◌, refl, ap, sym, ◌∙◌}
 use mathlib.Core.Bool.{Bool, true, false}
@@ -16,33 +17,31 @@ use Rattle.figures.specs.Limits.{least_k, greatest_k, most_input}
 use Rattle.figures.specs.Numbers.{too_large, k_outside, no_form}
 use Rattle.figures.specs.Answers.{answered, depth_of}
 use Rattle.figures.specs.declared.depths.Depth.{Depth}
-use Rattle.figures.specs.declared.depths.Asked.TheVariants.{Allowed, Outside}
 use Rattle.form.specs.Text.{digit_0, digit_9, space, line_feed}
 use Rattle.form.specs.Reading.{is_digit, figure}
 use Rattle.desk_input.specs.Sheets.{letter_K, letter_byte, letter_of, FirstLine, otherwise, asks, first_line, FormCall, handed_by, by_first, handed_in, opening_by, opening_of, sheet_of}
 use Rattle.desk_input.specs.Places.{letter_at, size_to, depth_by, depth_on}
 use Rattle.desk_input.specs.declared.Letter.{Letter}
 use Rattle.desk_input.specs.declared.Letter.TheVariants.{Teach, Withdraw, Judge}
-use Rattle.desk_input.specs.declared.LineKind.TheVariants.{Asks, Other}
 use Rattle.desk_input.specs.declared.Front.TheVariants.{Fault, Opens}
 use Rattle.desk_input.proofs.Splitting.{letter-sheet, other_before, empty-sheet, size-on, size-other, size-letter}
 
 -- ---- letters
 
 -- The byte of a letter asks for what the letter does.
-pub letter-asks : (x : Letter) (b : ℕ) → b ≡ letter_byte x → letter_of b ≡ Asks x
+pub letter-asks : (x : Letter) (b : ℕ) → b ≡ letter_byte x → letter_of b ≡ Some x
 unfolding letter_of when◌then◌else◌
 letter-asks Teach b e = rw e
 letter-asks Withdraw b e = rw e
 letter-asks Judge b e = rw e
 
 -- Any other byte asks for nothing.
-pub other_asks : (b : ℕ) → (b ≡ letter_byte Teach → ⊥) → (b ≡ letter_byte Withdraw → ⊥) → (b ≡ letter_byte Judge → ⊥) → letter_of b ≡ Other
+pub other_asks : (b : ℕ) → (b ≡ letter_byte Teach → ⊥) → (b ≡ letter_byte Withdraw → ⊥) → (b ≡ letter_byte Judge → ⊥) → letter_of b ≡ None
 unfolding letter_of when◌then◌else◌
 other_asks b t w j = rw (ne_eqb b 84 t, ne_eqb b 87 w, ne_eqb b 74 j)
 
 -- Fewer than two bytes are no letter line.
-pub too_short : (bs : List ℕ) → length bs < 2 → letter_at bs ≡ Other
+pub too_short : (bs : List ℕ) → length bs < 2 → letter_at bs ≡ None
 unfolding letter_at
 too_short [] h = refl
 too_short (b ∷ []) h = refl
@@ -50,7 +49,7 @@ too_short (b ∷ e ∷ bs) h = absurd (omega arith)
 
 module _ (text : List ℕ) (p : ℕ) where
   -- Where fewer than two bytes are left there is no letter line.
-  pub none_left : p ≤ length text → length text - p < 2 → letter_at (drop p text) ≡ Other
+  pub none_left : p ≤ length text → length text - p < 2 → letter_at (drop p text) ≡ None
   none_left h k = too_short (drop p text) (omega (arith, length-drop p text))
 
   -- Two bytes and what follows them.
@@ -60,7 +59,7 @@ module _ (text : List ℕ) (p : ℕ) where
       rw (drop-cons text p 0 (omega arith), add-one, drop-cons text (suc p) 0 (omega arith), ← z)
 
   -- Two bytes decide, and LF has to be the second.
-  pub second-other : p + 1 < length text → (get_or text (p + 1) 0 ≡ line_feed → ⊥) → letter_at (drop p text) ≡ Other
+  pub second-other : p + 1 < length text → (get_or text (p + 1) 0 ≡ line_feed → ⊥) → letter_at (drop p text) ≡ None
   unfolding letter_at when◌then◌else◌
   second-other h n = rw (two_bytes h, ne_eqb (get_or text (p + 1) 0) line_feed n)
 
@@ -82,14 +81,14 @@ module _ (text : List ℕ) (p : ℕ) where
   pass_inside starts s h = rw (s, drop-cons text p 0 h, add-one, size-on (get_or text p 0) (drop (suc p) text)) (omega arith)
 
   -- So it is at the start of a line that is no letter line.
-  pub pass_other : (starts : Bool) → starts ≡ true → p < length text → letter_at (drop p text) ≡ Other
+  pub pass_other : (starts : Bool) → starts ≡ true → p < length text → letter_at (drop p text) ≡ None
       → p + size_to starts (drop p text) ≡ p + 1 + size_to (eqb (get_or text p 0) line_feed) (drop (p + 1) text)
   pass_other starts s h e =
-      let f : letter_at (get_or text p 0 ∷ drop (suc p) text) ≡ Other = ap letter_at (sym (drop-cons text p 0 h)) ∙ e in
+      let f : letter_at (get_or text p 0 ∷ drop (suc p) text) ≡ None = ap letter_at (sym (drop-cons text p 0 h)) ∙ e in
       rw (s, drop-cons text p 0 h, add-one, size-other (get_or text p 0) (drop (suc p) text) f) (omega arith)
 
   -- At a letter line the count ends.
-  pub stops : (starts : Bool) (x : Letter) → starts ≡ true → letter_at (drop p text) ≡ Asks x → p + size_to starts (drop p text) ≡ p
+  pub stops : (starts : Bool) (x : Letter) → starts ≡ true → letter_at (drop p text) ≡ Some x → p + size_to starts (drop p text) ≡ p
   stops starts x s e = rw (s, size-letter (drop p text) x e) (omega arith)
 
 -- ---- line 1
@@ -99,7 +98,7 @@ abbrev pub is_first : ℕ → ℕ → ℕ → ℕ → Bool
 is_first a b c d = eqb a letter_K and eqb b space and is_digit c and eqb d line_feed and within least_k greatest_k (figure c)
 
 -- Fewer bytes than line 1 takes have no k.
-pub short-first : (input : List ℕ) → length input < 4 → depth_on input ≡ Outside
+pub short-first : (input : List ℕ) → length input < 4 → depth_on input ≡ None
 unfolding depth_on first_line
 short-first [] h = refl
 short-first (a ∷ []) h = refl
@@ -119,39 +118,39 @@ first-tests (a ∷ b ∷ c ∷ []) h = absurd (omega arith)
 first-tests (a ∷ b ∷ c ∷ d ∷ rest) h = refl
 
 -- The k of a line whose last test is left is picked by it.
-k-picked : (t : Bool) (k : ℕ) (rest : List ℕ) → depth_by (when t then asks k rest else otherwise) ≡ (when t then Allowed (record { k = k }) else Outside)
+k-picked : (t : Bool) (k : ℕ) (rest : List ℕ) → depth_by (when t then asks k rest else otherwise) ≡ (when t then Some (record { k = k }) else None)
 unfolding when◌then◌else◌
 k-picked true k rest = refl
 k-picked false k rest = refl
 
 module _ (input : List ℕ) (h : 4 ≤ length input) where
   -- A test that fails leaves no k.
-  no_first : is_first (get_or input 0 0) (get_or input 1 0) (get_or input 2 0) (get_or input 3 0) ≡ false → depth_on input ≡ Outside
+  no_first : is_first (get_or input 0 0) (get_or input 1 0) (get_or input 2 0) (get_or input 3 0) ≡ false → depth_on input ≡ None
   unfolding depth_on when◌then◌else◌
   no_first e = rw (first-tests input h, e)
 
   -- Another first byte than K leaves no k.
-  pub no_K : (get_or input 0 0 ≡ letter_K → ⊥) → depth_on input ≡ Outside
+  pub no_K : (get_or input 0 0 ≡ letter_K → ⊥) → depth_on input ≡ None
   no_K n = no_first (fails_left _ _ (ne_eqb _ _ n))
 
   -- Another second byte than a space leaves no k.
-  pub no_space : (get_or input 1 0 ≡ space → ⊥) → depth_on input ≡ Outside
+  pub no_space : (get_or input 1 0 ≡ space → ⊥) → depth_on input ≡ None
   no_space n = no_first (fails_right _ _ (fails_left _ _ (ne_eqb _ _ n)))
 
   -- A third byte that is no digit leaves no k.
-  no_digit : is_digit (get_or input 2 0) ≡ false → depth_on input ≡ Outside
+  no_digit : is_digit (get_or input 2 0) ≡ false → depth_on input ≡ None
   no_digit e = no_first (fails_right _ _ (fails_right _ _ (fails_left _ _ e)))
 
   -- A third byte below 0 leaves no k.
-  pub under-0 : get_or input 2 0 < digit_0 → depth_on input ≡ Outside
+  pub under-0 : get_or input 2 0 < digit_0 → depth_on input ≡ None
   under-0 l = no_digit (unfold is_digit in fails_left _ _ (lt-leb _ _ l))
 
   -- A third byte above 9 leaves no k.
-  pub over-9 : digit_9 < get_or input 2 0 → depth_on input ≡ Outside
+  pub over-9 : digit_9 < get_or input 2 0 → depth_on input ≡ None
   over-9 l = no_digit (unfold is_digit in fails_right _ _ (lt-leb _ _ l))
 
   -- Another fourth byte than LF leaves no k.
-  pub no_feed : (get_or input 3 0 ≡ line_feed → ⊥) → depth_on input ≡ Outside
+  pub no_feed : (get_or input 3 0 ≡ line_feed → ⊥) → depth_on input ≡ None
   no_feed n = no_first (fails_right _ _ (fails_right _ _ (fails_right _ _ (fails_left _ _ (ne_eqb _ _ n)))))
 
   -- A first line that is spelt so has the k of its digit, if that is 2 to 6.
@@ -170,11 +169,11 @@ pub record Begins (input : List ℕ) (k : ℕ) : Type 0 where
   pub first : first_line input ≡ asks k (drop 4 input)
 
 -- A k that is allowed is the one that was asked for.
-allowed-k : (k : ℕ) (d : Depth) → Allowed (record { k = k }) ≡ Allowed d → k ≡ d.k
+allowed-k : (k : ℕ) (d : Depth) → Some (record { k = k }) ≡ Some d → k ≡ d.k
 allowed-k k d e = let z : record { k = k } ≡ d = cc in ap (λ (x : Depth). x.k) z
 
 -- An input whose line 1 has a k begins so.
-pub begins : (input : List ℕ) (d : Depth) → depth_on input ≡ Allowed d → Begins input d.k
+pub begins : (input : List ℕ) (d : Depth) → depth_on input ≡ Some d → Begins input d.k
 unfolding depth_on when◌then◌else◌
 begins input d e = go (dec_le 4 (length input))
   where
@@ -182,7 +181,7 @@ begins input d e = go (dec_le 4 (length input))
     tested : 4 ≤ length input → (t : Bool)
         → first_line input ≡ (when t then asks (figure (get_or input 2 0)) (drop 4 input) else otherwise) → Begins input d.k
     tested h true q = record { enough = h; first = q ∙ ap (λ (k : ℕ). asks k (drop 4 input)) (allowed-k _ d (ap depth_by (sym q) ∙ e)) }
-    tested h false q = absurd (let o : depth_by otherwise ≡ Allowed d = ap depth_by (sym q) ∙ e in never cc)
+    tested h false q = absurd (let o : depth_by otherwise ≡ Some d = ap depth_by (sym q) ∙ e in never cc)
 
     -- By whether there are four.
     go : Dec (4 ≤ length input) → Begins input d.k
@@ -190,7 +189,7 @@ begins input d e = go (dec_le 4 (length input))
     go (no n) = let o = short-first input (omega arith) in never cc
 
 -- A first line with no k is otherwise.
-no_k : (f : FirstLine) → depth_by f ≡ Outside → f ≡ otherwise
+no_k : (f : FirstLine) → depth_by f ≡ None → f ≡ otherwise
 no_k otherwise e = refl
 no_k (asks k rest) e = never cc
 
@@ -213,30 +212,30 @@ module _ (input : List ℕ) where
     by_first_lem = rw (le-ltb most_input (length input) h)
 
     -- A first line with no k is the second fault.
-    pub front-outside : depth_on input ≡ Outside → opening_of input ≡ Fault (answered k_outside)
+    pub front-outside : depth_on input ≡ None → opening_of input ≡ Fault (answered k_outside)
     unfolding depth_on by_first
     front-outside e = by_first_lem ∙ ap (λ (f : FirstLine). opening_by (by_first f)) (no_k (first_line input) e)
 
     -- Behind it the bytes before the first letter decide.
-    behind-first : (d : Depth) → depth_on input ≡ Allowed d
+    behind-first : (d : Depth) → depth_on input ≡ Some d
         → opening_of input ≡ opening_by (handed_by d.k (sheet_of (drop 4 input)).before (sheet_of (drop 4 input)).calls)
     unfolding by_first
     behind-first d e = by_first_lem ∙ rw (begins input d e).first
 
     -- Nothing behind line 1 opens a book.
-    pub front-alone : (d : Depth) → depth_on input ≡ Allowed d → length input ≡ 4 → opening_of input ≡ Opens d.k
+    pub front-alone : (d : Depth) → depth_on input ≡ Some d → length input ≡ 4 → opening_of input ≡ Opens d.k
     unfolding handed_by
     front-alone d e l =
         let z : length input ≤ 4 = omega arith in
         behind-first d e ∙ rw (drop_of_length-le input z, empty-sheet)
 
     -- So does a letter line behind it.
-    pub front-letter : (d : Depth) (x : Letter) → depth_on input ≡ Allowed d → letter_at (drop 4 input) ≡ Asks x → opening_of input ≡ Opens d.k
+    pub front-letter : (d : Depth) (x : Letter) → depth_on input ≡ Some d → letter_at (drop 4 input) ≡ Some x → opening_of input ≡ Opens d.k
     unfolding handed_by
     front-letter d x e a = behind-first d e ∙ rw (letter-sheet (drop 4 input) x a)
 
     -- Other bytes behind it are the third fault.
-    pub front-other : (d : Depth) → depth_on input ≡ Allowed d → (length input ≡ 4 → ⊥) → letter_at (drop 4 input) ≡ Other
+    pub front-other : (d : Depth) → depth_on input ≡ Some d → (length input ≡ 4 → ⊥) → letter_at (drop 4 input) ≡ None
         → opening_of input ≡ Fault (record { number = no_form; line = 2 })
     front-other d e n a =
         behind-first d e

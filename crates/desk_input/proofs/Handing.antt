@@ -1,4 +1,5 @@
 -- What an input hands in: its first fault, or an allowed k and the calls behind line 1, in no more bytes than are allowed. Assumes nothing.
+use Rattle.std.specs.Prelude.{None, Option, Some}
 use Prim.Native.Nat.{ℕ, suc, ◌≤◌}
 use mathlib.Core.Path.{◌≡◌, refl}
 use mathlib.Core.Bool.{Bool, true, false}
@@ -7,6 +8,7 @@ use native.Mathlib.Omega.{arith}
 use borrow.Author.Tests.{ltb-false}
 use lib.Dec.{ltb, eqb}
 use lib.ListN.{length, drop}
+use Rattle.desk_input.specs.declared.Letter.{Letter}
 use Rattle.words.specs.Base.{◌and◌, when◌then◌else◌, within}
 use Rattle.words.proofs.Tests.{and_right}
 use Rattle.figures.specs.Limits.{least_k, greatest_k, most_input}
@@ -18,16 +20,14 @@ use Rattle.form.specs.Reading.{is_digit, figure}
 use Rattle.form.proofs.Faults.{within_both}
 use Rattle.desk_input.specs.Sheets.{first_line_size, letter_K, with_byte, input_lines, kind_of, Sheet, with_line, calls_of, sheet_of}
 use Rattle.desk_input.specs.Sheets.{asks, otherwise, first_line, Handed, faulty, handed, handed_by, by_first, handed_in}
-use Rattle.desk_input.specs.declared.LineKind.{LineKind}
-use Rattle.desk_input.specs.declared.LineKind.TheVariants.{Asks, Other}
 
 -- ---- how many calls
 
 -- A line asks for one call at most.
-line-call : (x : LineKind) (l : List ℕ) (s : Sheet) → length (with_line x l s).calls ≤ suc (length s.calls)
+line-call : (x : Option Letter) (l : List ℕ) (s : Sheet) → length (with_line x l s).calls ≤ suc (length s.calls)
 unfolding with_line
-line-call (Asks x) l s = omega arith
-line-call Other l s = omega arith
+line-call (Some x) l s = omega arith
+line-call None l s = omega arith
 
 -- Lines ask for no more calls than they are.
 lines-calls : (ls : List (List ℕ)) → length (calls_of ls).calls ≤ length ls

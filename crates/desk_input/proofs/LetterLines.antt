@@ -1,5 +1,6 @@
 -- Letter lines among bytes, byte by byte: at the front, and behind other bytes, where whether a line starts at the first of them is told by a test. The
 -- tests are inner, and no promise rests on them: they are shown to say what `StartsLine` and `Plain` say. Assumes nothing.
+use Rattle.std.specs.Prelude.{None, Option, Some}
 use Prim.Native.Nat.{ℕ}
 use mathlib.Core.Path.{◌≡◌, refl, ap, sym, subst, ◌∙◌}
 use mathlib.Core.Bool.{Bool, true, false}
@@ -15,36 +16,34 @@ use Rattle.desk_input.specs.Joined.{StartsLine, nothing_before, behind_feed, Pla
 use Rattle.desk_input.specs.Whys.{LetterFirst}
 use Rattle.desk_input.specs.declared.Letter.{Letter}
 use Rattle.desk_input.specs.declared.Letter.TheVariants.{Teach, Withdraw, Judge}
-use Rattle.desk_input.specs.declared.LineKind.{LineKind}
-use Rattle.desk_input.specs.declared.LineKind.TheVariants.{Asks, Other}
 
 -- ---- letters
 
 -- A byte that asks for something is that letter's.
-asks-letter : (b : ℕ) (x : Letter) → letter_of b ≡ Asks x → b ≡ letter_byte x
+asks-letter : (b : ℕ) (x : Letter) → letter_of b ≡ Some x → b ≡ letter_byte x
 unfolding letter_of when◌then◌else◌
 asks-letter b x e = go (eqb b (letter_byte Teach)) refl (eqb b (letter_byte Withdraw)) refl (eqb b (letter_byte Judge)) refl e
   where
     -- By which of the three it is.
     go : (t : Bool) → eqb b (letter_byte Teach) ≡ t → (w : Bool) → eqb b (letter_byte Withdraw) ≡ w → (j : Bool) → eqb b (letter_byte Judge) ≡ j
-        → (when t then Asks Teach else when w then Asks Withdraw else when j then Asks Judge else Other) ≡ Asks x → b ≡ letter_byte x
+        → (when t then Some Teach else when w then Some Withdraw else when j then Some Judge else None) ≡ Some x → b ≡ letter_byte x
     go true p w q j r f = let z : Teach ≡ x = cc in eqb-true b _ p ∙ ap letter_byte z
     go false p true q j r f = let z : Withdraw ≡ x = cc in eqb-true b _ q ∙ ap letter_byte z
     go false p false q true r f = let z : Judge ≡ x = cc in eqb-true b _ r ∙ ap letter_byte z
     go false p false q false r f = never cc
 
 -- Bytes that begin with a letter line begin with that letter and LF.
-pub letter-front : (b e : ℕ) (rest : List ℕ) (x : Letter) → letter_at (b ∷ e ∷ rest) ≡ Asks x → b ∷ e ∷ rest ≡ letter_byte x ∷ line_feed ∷ rest
+pub letter-front : (b e : ℕ) (rest : List ℕ) (x : Letter) → letter_at (b ∷ e ∷ rest) ≡ Some x → b ∷ e ∷ rest ≡ letter_byte x ∷ line_feed ∷ rest
 unfolding letter_at when◌then◌else◌
 letter-front b e rest x a = go (eqb e line_feed) refl a
   where
     -- By whether the second byte is LF.
-    go : (t : Bool) → eqb e line_feed ≡ t → (when t then letter_of b else Other) ≡ Asks x → b ∷ e ∷ rest ≡ letter_byte x ∷ line_feed ∷ rest
+    go : (t : Bool) → eqb e line_feed ≡ t → (when t then letter_of b else None) ≡ Some x → b ∷ e ∷ rest ≡ letter_byte x ∷ line_feed ∷ rest
     go true p f = rw (asks-letter b x f, eqb-true e line_feed p)
     go false p f = never cc
 
 -- A letter and LF are a letter line, whatever follows.
-pub letter-there : (x : Letter) (rest : List ℕ) → letter_at (letter_byte x ∷ line_feed ∷ rest) ≡ Asks x
+pub letter-there : (x : Letter) (rest : List ℕ) → letter_at (letter_byte x ∷ line_feed ∷ rest) ≡ Some x
 unfolding letter_at letter_of when◌then◌else◌
 letter-there Teach rest = refl
 letter-there Withdraw rest = refl
@@ -53,27 +52,27 @@ letter-there Judge rest = refl
 -- ---- letter lines at the front
 
 -- Bytes that begin with a letter line are spelt so.
-pub letter-is : (bs : List ℕ) (x : Letter) → letter_at bs ≡ Asks x → LetterFirst bs
+pub letter-is : (bs : List ℕ) (x : Letter) → letter_at bs ≡ Some x → LetterFirst bs
 letter-is [] x e = unfold letter_at in never cc
 letter-is (b ∷ []) x e = unfold letter_at in never cc
 letter-is (b ∷ f ∷ rest) x e = record { letter = x; behind = rest; spelt = letter-front b f rest x e }
 
 -- Bytes that are spelt as a letter line at their front begin with one.
-pub letter-only : (bs : List ℕ) (f : LetterFirst bs) → letter_at bs ≡ Asks f.letter
+pub letter-only : (bs : List ℕ) (f : LetterFirst bs) → letter_at bs ≡ Some f.letter
 letter-only bs f = ap letter_at f.spelt ∙ letter-there f.letter f.behind
 
 -- Bytes that begin with another line are not spelt so.
-pub not_letter : (bs : List ℕ) → letter_at bs ≡ Other → LetterFirst bs → ⊥
+pub not_letter : (bs : List ℕ) → letter_at bs ≡ None → LetterFirst bs → ⊥
 not_letter bs e f = let y = letter-only bs f in never cc
 
 -- Bytes that begin with none ask for nothing there.
-pub letter-none : (bs : List ℕ) → (LetterFirst bs → ⊥) → letter_at bs ≡ Other
+pub letter-none : (bs : List ℕ) → (LetterFirst bs → ⊥) → letter_at bs ≡ None
 letter-none bs n = go (letter_at bs) refl
   where
     -- By what the bytes begin with.
-    go : (k : LineKind) → letter_at bs ≡ k → k ≡ Other
-    go (Asks x) e = absurd (n (letter-is bs x e))
-    go Other e = refl
+    go : (k : Option Letter) → letter_at bs ≡ k → k ≡ None
+    go (Some x) e = absurd (n (letter-is bs x e))
+    go None e = refl
 
 -- ---- where a line starts
 
@@ -184,10 +183,10 @@ pub plain_inside : (b : ℕ) (bs : List ℕ) → PlainFrom (eqb b line_feed) bs 
 plain_inside b bs p l = p (letter-split false b bs (λ t f. no_test t) l)
 
 -- At a line's start it starts none, if the bytes begin with none.
-pub plain_start : (b : ℕ) (bs : List ℕ) → letter_at (b ∷ bs) ≡ Other → PlainFrom (eqb b line_feed) bs → PlainFrom true (b ∷ bs)
+pub plain_start : (b : ℕ) (bs : List ℕ) → letter_at (b ∷ bs) ≡ None → PlainFrom (eqb b line_feed) bs → PlainFrom true (b ∷ bs)
 plain_start b bs e p l = p (letter-split true b bs (λ t f. not_letter (b ∷ bs) e f) l)
 
 -- Bytes with none, from a line's start on, begin with none.
-pub plain_first : (bs : List ℕ) → PlainFrom true bs → letter_at bs ≡ Other
+pub plain_first : (bs : List ℕ) → PlainFrom true bs → letter_at bs ≡ None
 unfolding line_behind
 plain_first bs p = letter-none bs (λ f. p (record { front = []; letter = f.letter; rest = f.behind; told = refl; is = f.spelt }))

@@ -1,5 +1,6 @@
 -- Bytes have one sheet: what they are split into gives them again, no letter line is inside a form, and nothing else is so; and where its calls begin.
 -- Assumes nothing.
+use Rattle.std.specs.Prelude.{None, Option, Some}
 use Prim.Native.Nat.{ℕ, zero, suc}
 use mathlib.Core.Path.{◌≡◌, refl, ap, sym, subst, ◌∙◌}
 use mathlib.Core.Bool.{Bool, true, false}
@@ -16,8 +17,6 @@ use Rattle.desk_input.specs.Sheets.{letter_byte, letter_of, input_lines, FormCal
 use Rattle.desk_input.specs.Places.{letter_at, size_to}
 use Rattle.desk_input.specs.Joined.{joined_calls, sheet_bytes, StartsLine, Plain, Parts, last_part, part, IsSheet}
 use Rattle.desk_input.specs.declared.Letter.{Letter}
-use Rattle.desk_input.specs.declared.LineKind.{LineKind}
-use Rattle.desk_input.specs.declared.LineKind.TheVariants.{Asks, Other}
 use Rattle.desk_input.proofs.Splitting.{feed_asks-nothing, sheet_from, with_front, empty-sheet, byte_on, byte_other, letter-sheet, front}
 use Rattle.desk_input.proofs.LetterLines.{letter-front, letter-there, line_behind, start-told, told-start, start-later, start-earlier, PlainFrom, plain_told, told-plain, plain_none, plain_on, plain_inside, plain_start, plain_first}
 
@@ -45,17 +44,17 @@ joined-from : (starts : Bool) (bs : List ℕ) → sheet_bytes (sheet_from starts
 joined-from starts [] = joined-none starts
 joined-from false (b ∷ bs) = ap sheet_bytes (byte_on b bs) ∙ joined-front b _ ∙ ap (λ (r : List ℕ). b ∷ r) (joined-from (eqb b line_feed) bs)
 joined-from true (b ∷ []) =
-    let e : letter_at (b ∷ []) ≡ Other = unfold letter_at in refl in
+    let e : letter_at (b ∷ []) ≡ None = unfold letter_at in refl in
     ap sheet_bytes (byte_other b [] e) ∙ joined-front b _ ∙ ap (λ (r : List ℕ). b ∷ r) (joined-from (eqb b line_feed) [])
 joined-from true (b ∷ e ∷ rest) = go (letter_at (b ∷ e ∷ rest)) refl (joined-from (eqb b line_feed) (e ∷ rest)) (joined-from true rest)
   where
     -- By whether a letter line starts there.
-    go : (k : LineKind) → letter_at (b ∷ e ∷ rest) ≡ k → sheet_bytes (sheet_from (eqb b line_feed) (e ∷ rest)) ≡ e ∷ rest → sheet_bytes (sheet_of rest) ≡ rest
+    go : (k : Option Letter) → letter_at (b ∷ e ∷ rest) ≡ k → sheet_bytes (sheet_from (eqb b line_feed) (e ∷ rest)) ≡ e ∷ rest → sheet_bytes (sheet_of rest) ≡ rest
         → sheet_bytes (sheet_of (b ∷ e ∷ rest)) ≡ b ∷ e ∷ rest
-    go (Asks x) p q r =
+    go (Some x) p q r =
         ap sheet_bytes (letter-sheet (b ∷ e ∷ rest) x p) ∙ joined-letter x (sheet_of rest)
         ∙ ap (λ (s : List ℕ). letter_byte x ∷ line_feed ∷ s) r ∙ sym (letter-front b e rest x p)
-    go Other p q r = ap sheet_bytes (byte_other b (e ∷ rest) p) ∙ joined-front b _ ∙ ap (λ (s : List ℕ). b ∷ s) q
+    go None p q r = ap sheet_bytes (byte_other b (e ∷ rest) p) ∙ joined-front b _ ∙ ap (λ (s : List ℕ). b ∷ s) q
 
 -- What bytes are split into gives them again.
 sheet_joined : (bs : List ℕ) → sheet_bytes (sheet_of bs) ≡ bs
@@ -95,7 +94,7 @@ split-inside : (b : ℕ) (s : Sheet) → Split (eqb b line_feed) s → Split fal
 split-inside b s h = record { plain = plain_inside b s.before h.plain; follow = follow_on false b s.before s.calls h.follow }
 
 -- So does a byte more at a line's start, if no letter line starts there.
-split-start : (b : ℕ) (s : Sheet) → letter_at (b ∷ s.before) ≡ Other → Split (eqb b line_feed) s → Split true (with_front b s)
+split-start : (b : ℕ) (s : Sheet) → letter_at (b ∷ s.before) ≡ None → Split (eqb b line_feed) s → Split true (with_front b s)
 split-start b s e h = record { plain = plain_start b s.before e h.plain; follow = follow_on true b s.before s.calls h.follow }
 
 -- So does a letter line in front of a sheet.
@@ -104,14 +103,14 @@ unfolding line_behind
 split-letter x s h = record { plain = plain_none true; follow = (refl, follow_parts s.before s.calls h.plain h.follow) }
 
 -- Bytes that begin with no letter line begin with none if they are cut.
-cut-other : (n b : ℕ) (bs : List ℕ) → letter_at (b ∷ bs) ≡ Other → letter_at (b ∷ take n bs) ≡ Other
+cut-other : (n b : ℕ) (bs : List ℕ) → letter_at (b ∷ bs) ≡ None → letter_at (b ∷ take n bs) ≡ None
 unfolding letter_at
 cut-other zero b bs e = refl
 cut-other (suc n) b [] e = refl
 cut-other (suc n) b (f ∷ bs) e = e
 
 -- Bytes that begin with no letter line begin with none where the next ends them.
-before-other : (b : ℕ) (bs : List ℕ) → letter_at (b ∷ bs) ≡ Other → letter_at (b ∷ (sheet_from (eqb b line_feed) bs).before) ≡ Other
+before-other : (b : ℕ) (bs : List ℕ) → letter_at (b ∷ bs) ≡ None → letter_at (b ∷ (sheet_from (eqb b line_feed) bs).before) ≡ None
 before-other b bs e = ap (λ (r : List ℕ). letter_at (b ∷ r)) (front (eqb b line_feed) bs) ∙ cut-other (size_to (eqb b line_feed) bs) b bs e
 
 -- All bytes are split so.
@@ -119,15 +118,15 @@ split_from : (starts : Bool) (bs : List ℕ) → Split starts (sheet_from starts
 split_from starts [] = split-none starts
 split_from false (b ∷ bs) = rw (byte_on b bs) (split-inside b _ (split_from (eqb b line_feed) bs))
 split_from true (b ∷ []) =
-    let e : letter_at (b ∷ []) ≡ Other = unfold letter_at in refl in
+    let e : letter_at (b ∷ []) ≡ None = unfold letter_at in refl in
     rw (byte_other b [] e) (split-start b _ (before-other b [] e) (split_from (eqb b line_feed) []))
 split_from true (b ∷ e ∷ rest) = go (letter_at (b ∷ e ∷ rest)) refl (split_from (eqb b line_feed) (e ∷ rest)) (split_from true rest)
   where
     -- By whether a letter line starts there.
-    go : (k : LineKind) → letter_at (b ∷ e ∷ rest) ≡ k → Split (eqb b line_feed) (sheet_from (eqb b line_feed) (e ∷ rest)) → Split true (sheet_of rest)
+    go : (k : Option Letter) → letter_at (b ∷ e ∷ rest) ≡ k → Split (eqb b line_feed) (sheet_from (eqb b line_feed) (e ∷ rest)) → Split true (sheet_of rest)
         → Split true (sheet_of (b ∷ e ∷ rest))
-    go (Asks x) p q r = rw (letter-sheet (b ∷ e ∷ rest) x p) (split-letter x (sheet_of rest) r)
-    go Other p q r = rw (byte_other b (e ∷ rest) p) (split-start b _ (before-other b (e ∷ rest) p) q)
+    go (Some x) p q r = rw (letter-sheet (b ∷ e ∷ rest) x p) (split-letter x (sheet_of rest) r)
+    go None p q r = rw (byte_other b (e ∷ rest) p) (split-start b _ (before-other b (e ∷ rest) p) q)
 
 -- What bytes are split into is their sheet.
 pub sheet_is : (bs : List ℕ) → IsSheet bs (sheet_of bs)
@@ -157,18 +156,18 @@ no_letter-inside bs = parts-plain (sheet_of bs).before (sheet_of bs).calls (shee
 -- ---- there is no other
 
 -- A byte that asks for nothing begins no letter line, whatever follows.
-asks_nothing : (b : ℕ) (bs : List ℕ) → letter_of b ≡ Other → letter_at (b ∷ bs) ≡ Other
+asks_nothing : (b : ℕ) (bs : List ℕ) → letter_of b ≡ None → letter_at (b ∷ bs) ≡ None
 unfolding letter_at when◌then◌else◌
 asks_nothing b [] e = refl
 asks_nothing b (f ∷ bs) e = go (eqb f line_feed)
   where
     -- By whether LF follows.
-    go : (t : Bool) → (when t then letter_of b else Other) ≡ Other
+    go : (t : Bool) → (when t then letter_of b else None) ≡ None
     go true = e
     go false = refl
 
 -- Bytes that begin with no letter line, and behind which a line starts, begin with none whatever follows.
-other_more : (b : ℕ) (a bs : List ℕ) → letter_at (b ∷ a) ≡ Other → line_behind true (b ∷ a) ≡ true → letter_at (b ∷ (a ++ bs)) ≡ Other
+other_more : (b : ℕ) (a bs : List ℕ) → letter_at (b ∷ a) ≡ None → line_behind true (b ∷ a) ≡ true → letter_at (b ∷ (a ++ bs)) ≡ None
 unfolding line_behind
 other_more b [] bs e h = asks_nothing b bs (feed_asks-nothing b h)
 other_more b (f ∷ a) bs e h = unfold letter_at in e
@@ -185,7 +184,7 @@ unfolding line_behind
 sheet_on starts [] bs p e = none-on starts bs e
 sheet_on false (b ∷ a) bs p e = byte_on b (a ++ bs) ∙ ap (with_front b) (sheet_on (eqb b line_feed) a bs (plain_on false b a p) e)
 sheet_on true (b ∷ a) bs p e =
-    let o : letter_at (b ∷ a) ≡ Other = plain_first (b ∷ a) p in
+    let o : letter_at (b ∷ a) ≡ None = plain_first (b ∷ a) p in
     byte_other b (a ++ bs) (other_more b a bs o e) ∙ ap (with_front b) (sheet_on (eqb b line_feed) a bs (plain_on true b a p) e)
 
 -- No bytes have none before, within a line or at its start.
@@ -199,7 +198,7 @@ sheet_end : (starts : Bool) (a : List ℕ) → PlainFrom starts a → sheet_from
 sheet_end starts [] p = end_none starts
 sheet_end false (b ∷ a) p = rw (byte_on b a, sheet_end (eqb b line_feed) a (plain_on false b a p))
 sheet_end true (b ∷ a) p =
-    let e : letter_at (b ∷ a) ≡ Other = plain_first (b ∷ a) p in
+    let e : letter_at (b ∷ a) ≡ None = plain_first (b ∷ a) p in
     rw (byte_other b a e, sheet_end (eqb b line_feed) a (plain_on true b a p))
 
 -- Parts are split where they were joined.

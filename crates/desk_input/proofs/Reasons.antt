@@ -1,4 +1,5 @@
 -- The front of an input is answered for one of the reasons of `Whys`, and for each of them in one way. Assumes nothing.
+use Rattle.std.specs.Prelude.{None, Option, Some}
 use Prim.Native.Nat.{ℕ, ◌+◌, ◌≤◌, ◌<◌}
 use mathlib.Core.Path.{◌≡◌, refl, ap, sym, ◌∙◌}
 use mathlib.Core.Bool.{Bool, true, false}
@@ -8,19 +9,17 @@ use native.Mathlib.Omega.{arith}
 use lib.Dec.{eqb}
 use lib.ListN.{length, drop}
 use borrow.Author.Tests.{eqb-true, leb-true, le-leb}
+use Rattle.desk_input.specs.declared.Letter.{Letter}
 use Rattle.words.specs.Base.{◌and◌, when◌then◌else◌, within}
 use Rattle.words.proofs.Tests.{and_left, and_right, and_both, never}
 use Rattle.figures.specs.Limits.{least_k, greatest_k, most_input}
 use Rattle.figures.specs.Numbers.{k_outside, no_form}
 use Rattle.figures.specs.Answers.{answered}
-use Rattle.figures.specs.declared.depths.Asked.TheVariants.{Allowed, Outside}
 use Rattle.form.specs.Text.{digit_0, digit_9, space, line_feed}
 use Rattle.form.specs.Reading.{is_digit, figure}
 use Rattle.desk_input.specs.Sheets.{letter_K, FirstLine, otherwise, asks, first_line, opening_of}
 use Rattle.desk_input.specs.Places.{letter_at, depth_by, depth_on}
 use Rattle.desk_input.specs.Whys.{OpensWith, LetterFirst, WhyFront, larger, no_opening, no_letter, alone, with_calls}
-use Rattle.desk_input.specs.declared.LineKind.{LineKind}
-use Rattle.desk_input.specs.declared.LineKind.TheVariants.{Asks, Other}
 use Rattle.desk_input.specs.declared.Front.{Front}
 use Rattle.desk_input.specs.declared.Front.TheVariants.{Fault, Opens}
 use Rattle.desk_input.proofs.Found.{is_first, front-large, front-outside, front-alone, front-letter, front-other}
@@ -84,7 +83,7 @@ not_first input e k rest o = let y = first-only input k rest o in never cc
 module _ (input : List ℕ) (h : length input ≤ most_input) where
   module _ (k : ℕ) (rest : List ℕ) (o : OpensWith input k rest) where
     -- Line 1 asks for its k.
-    asked : depth_on input ≡ Allowed (record { k = k })
+    asked : depth_on input ≡ Some (record { k = k })
     unfolding depth_on
     asked = ap depth_by (first-only input k rest o)
 
@@ -116,7 +115,7 @@ module _ (input : List ℕ) (h : length input ≤ most_input) where
   row-outside n = front-outside input h (unfold depth_on in go (first_line input) refl)
     where
       -- By what the first line is.
-      go : (f : FirstLine) → first_line input ≡ f → depth_by f ≡ Outside
+      go : (f : FirstLine) → first_line input ≡ f → depth_by f ≡ None
       go otherwise e = refl
       go (asks k rest) e = absurd (n k rest (first-is input k rest e))
 
@@ -138,11 +137,11 @@ opening-why input = by_size (dec_le (length input) most_input)
     by_rest h k (b ∷ bs) o = by_letter (letter_at (b ∷ bs)) refl
       where
         -- By what it begins with.
-        by_letter : (l : LineKind) → letter_at (b ∷ bs) ≡ l → WhyFront input (opening_of input)
-        by_letter (Asks x) e =
+        by_letter : (l : Option Letter) → letter_at (b ∷ bs) ≡ l → WhyFront input (opening_of input)
+        by_letter (Some x) e =
             let f = letter-is (b ∷ bs) x e in
             with_calls k (b ∷ bs) (row-calls input h k (b ∷ bs) o f) h o f
-        by_letter Other e =
+        by_letter None e =
             let n : LetterFirst (b ∷ bs) → ⊥ = not_letter (b ∷ bs) e in
             no_letter k (b ∷ bs) (row-bytes input h k (b ∷ bs) o (omega arith) n) h o (omega arith) n
 

@@ -1,4 +1,5 @@
 -- Where a sheet's first letter line stands, and what stands before and behind it: by the bytes, as the code finds it. Assumes nothing.
+use Rattle.std.specs.Prelude.{None, Option, Some}
 use Prim.Native.Nat.{ℕ, suc, ◌≤◌, ◌<◌}
 use mathlib.Core.Path.{◌≡◌, refl, ap, sym, ◌∙◌}
 use mathlib.Core.Bool.{Bool, true, false}
@@ -14,18 +15,16 @@ use Rattle.form.specs.Text.{line_feed}
 use Rattle.desk_input.specs.Sheets.{letter_of, with_byte, input_lines, kind_of, Sheet, with_line, calls_of, sheet_of}
 use Rattle.desk_input.specs.Places.{letter_at, is_asking, size_to}
 use Rattle.desk_input.specs.declared.Letter.{Letter}
-use Rattle.desk_input.specs.declared.LineKind.{LineKind}
-use Rattle.desk_input.specs.declared.LineKind.TheVariants.{Asks, Other}
 
 -- ---- the first line
 
 -- What the first of lines asks for.
-abbrev pub first_kind : List (List ℕ) → LineKind
-first_kind [] = Other
+abbrev pub first_kind : List (List ℕ) → Option Letter
+first_kind [] = None
 first_kind (l ∷ ls) = kind_of l
 
 -- LF is no letter.
-pub feed_asks-nothing : (b : ℕ) → eqb b line_feed ≡ true → letter_of b ≡ Other
+pub feed_asks-nothing : (b : ℕ) → eqb b line_feed ≡ true → letter_of b ≡ None
 unfolding letter_of when◌then◌else◌
 feed_asks-nothing b p = rw (eqb-true b line_feed p)
 
@@ -36,14 +35,14 @@ first_kind_lem [] = refl
 first_kind_lem (b ∷ []) = one (eqb b line_feed)
   where
     -- A line of one byte asks for nothing.
-    one : (t : Bool) → first_kind (with_byte t b []) ≡ Other
+    one : (t : Bool) → first_kind (with_byte t b []) ≡ None
     one true = refl
     one false = refl
 first_kind_lem (b ∷ e ∷ rest) = go (eqb b line_feed) refl (eqb e line_feed) refl (input_lines rest)
   where
     -- By whether the first byte is LF, whether the second is, and the lines behind them.
     go : (t : Bool) → eqb b line_feed ≡ t → (u : Bool) → eqb e line_feed ≡ u → (ls : List (List ℕ))
-        → first_kind (with_byte t b (with_byte u e ls)) ≡ (when u then letter_of b else Other)
+        → first_kind (with_byte t b (with_byte u e ls)) ≡ (when u then letter_of b else None)
     go true p true q ls = sym (feed_asks-nothing b p)
     go true p false q ls = refl
     go false p true q ls = rw q
@@ -56,7 +55,7 @@ first_kind_lem (b ∷ e ∷ rest) = go (eqb b line_feed) refl (eqb e line_feed) 
 -- What lines ask for, the first of which goes on from before and is no letter line.
 abbrev pub going_on : List (List ℕ) → Sheet
 going_on [] = record { before = []; calls = [] }
-going_on (l ∷ ls) = with_line Other l (calls_of ls)
+going_on (l ∷ ls) = with_line None l (calls_of ls)
 
 -- What bytes ask for; whether a line starts at the first of them is told.
 abbrev pub sheet_from : Bool → List ℕ → Sheet
@@ -73,7 +72,7 @@ unfolding sheet_of calls_of input_lines
 empty-sheet = refl
 
 -- Lines of which the first is no letter line ask for what they ask for behind a line's beginning.
-calls-on : (ls : List (List ℕ)) → first_kind ls ≡ Other → calls_of ls ≡ going_on ls
+calls-on : (ls : List (List ℕ)) → first_kind ls ≡ None → calls_of ls ≡ going_on ls
 unfolding calls_of
 calls-on [] e = refl
 calls-on (l ∷ ls) e = rw e
@@ -94,12 +93,12 @@ byte_on b bs = go (eqb b line_feed)
     go false = inside (input_lines bs)
 
 -- So does a byte at a line's beginning, if no letter line starts there.
-pub byte_other : (b : ℕ) (bs : List ℕ) → letter_at (b ∷ bs) ≡ Other → sheet_from true (b ∷ bs) ≡ with_front b (sheet_from (eqb b line_feed) bs)
+pub byte_other : (b : ℕ) (bs : List ℕ) → letter_at (b ∷ bs) ≡ None → sheet_from true (b ∷ bs) ≡ with_front b (sheet_from (eqb b line_feed) bs)
 unfolding sheet_of
 byte_other b bs e = calls-on (input_lines (b ∷ bs)) (first_kind_lem (b ∷ bs) ∙ e) ∙ byte_on b bs
 
 -- Bytes that begin with a letter line ask for a call, whose text is what stands before the next.
-pub letter-sheet : (bs : List ℕ) (x : Letter) → letter_at bs ≡ Asks x
+pub letter-sheet : (bs : List ℕ) (x : Letter) → letter_at bs ≡ Some x
     → sheet_of bs ≡ record { before = []; calls = record { letter = x; text = (sheet_of (drop 2 bs)).before } ∷ (sheet_of (drop 2 bs)).calls }
 unfolding letter_at sheet_of input_lines calls_of with_byte with_line kind_of when◌then◌else◌
 letter-sheet [] x e = never cc
@@ -107,7 +106,7 @@ letter-sheet (b ∷ []) x e = never cc
 letter-sheet (b ∷ f ∷ rest) x e = go (eqb b line_feed) refl (eqb f line_feed) refl e
   where
     -- By whether the first byte is LF, and whether the second is.
-    go : (t : Bool) → eqb b line_feed ≡ t → (u : Bool) → eqb f line_feed ≡ u → (when u then letter_of b else Other) ≡ Asks x
+    go : (t : Bool) → eqb b line_feed ≡ t → (u : Bool) → eqb f line_feed ≡ u → (when u then letter_of b else None) ≡ Some x
         → calls_of (with_byte t b (with_byte u f (input_lines rest)))
         ≡ record { before = []; calls = record { letter = x; text = (calls_of (input_lines rest)).before } ∷ (calls_of (input_lines rest)).calls }
     go true p true q g = absurd (let n = feed_asks-nothing b p in never cc)
@@ -118,7 +117,7 @@ letter-sheet (b ∷ f ∷ rest) x e = go (eqb b line_feed) refl (eqb f line_feed
 -- ---- the laws
 
 -- Bytes that do not begin with a letter line have bytes before the first.
-pub other_before : (bs : List ℕ) → 0 < length bs → letter_at bs ≡ Other → 0 < length (sheet_of bs).before
+pub other_before : (bs : List ℕ) → 0 < length bs → letter_at bs ≡ None → 0 < length (sheet_of bs).before
 other_before [] h e = absurd (omega arith)
 other_before (b ∷ bs) h e = rw (byte_other b bs e) (omega arith)
 
@@ -139,12 +138,12 @@ unfolding size_to ◌and◌ when◌then◌else◌
 size-on b bs = refl
 
 -- A byte where no letter line starts is one byte more.
-pub size-other : (b : ℕ) (bs : List ℕ) → letter_at (b ∷ bs) ≡ Other → size_to true (b ∷ bs) ≡ suc (size_to (eqb b line_feed) bs)
+pub size-other : (b : ℕ) (bs : List ℕ) → letter_at (b ∷ bs) ≡ None → size_to true (b ∷ bs) ≡ suc (size_to (eqb b line_feed) bs)
 unfolding size_to ◌and◌ when◌then◌else◌
 size-other b bs e = rw e
 
 -- A letter line ends what stands before it.
-pub size-letter : (bs : List ℕ) (x : Letter) → letter_at bs ≡ Asks x → size_to true bs ≡ 0
+pub size-letter : (bs : List ℕ) (x : Letter) → letter_at bs ≡ Some x → size_to true bs ≡ 0
 unfolding size_to ◌and◌ when◌then◌else◌
 size-letter [] x e = refl
 size-letter (b ∷ bs) x e = rw e
@@ -162,10 +161,10 @@ front false (b ∷ bs) = rw (size-on b bs, byte_on b bs, front (eqb b line_feed)
 front true (b ∷ bs) = go (letter_at (b ∷ bs)) refl (front (eqb b line_feed) bs)
   where
     -- By what the bytes begin with.
-    go : (k : LineKind) → letter_at (b ∷ bs) ≡ k → (sheet_from (eqb b line_feed) bs).before ≡ take (size_to (eqb b line_feed) bs) bs
+    go : (k : Option Letter) → letter_at (b ∷ bs) ≡ k → (sheet_from (eqb b line_feed) bs).before ≡ take (size_to (eqb b line_feed) bs) bs
         → (sheet_from true (b ∷ bs)).before ≡ take (size_to true (b ∷ bs)) (b ∷ bs)
-    go (Asks x) p ih = rw (size-letter (b ∷ bs) x p, letter-sheet (b ∷ bs) x p)
-    go Other p ih = rw (size-other b bs p, byte_other b bs p, ih)
+    go (Some x) p ih = rw (size-letter (b ∷ bs) x p, letter-sheet (b ∷ bs) x p)
+    go None p ih = rw (size-other b bs p, byte_other b bs p, ih)
 
 -- Behind no bytes there are no calls.
 behind-none : (starts : Bool) → sheet_of (drop (size_to starts []) []) ≡ record { before = []; calls = (sheet_from starts []).calls }
@@ -180,11 +179,11 @@ behind false (b ∷ bs) = rw (size-on b bs, byte_on b bs) (behind (eqb b line_fe
 behind true (b ∷ bs) = go (letter_at (b ∷ bs)) refl (behind (eqb b line_feed) bs)
   where
     -- By what the bytes begin with.
-    go : (k : LineKind) → letter_at (b ∷ bs) ≡ k
+    go : (k : Option Letter) → letter_at (b ∷ bs) ≡ k
         → sheet_of (drop (size_to (eqb b line_feed) bs) bs) ≡ record { before = []; calls = (sheet_from (eqb b line_feed) bs).calls }
         → sheet_of (drop (size_to true (b ∷ bs)) (b ∷ bs)) ≡ record { before = []; calls = (sheet_from true (b ∷ bs)).calls }
-    go (Asks x) p ih = rw (size-letter (b ∷ bs) x p, letter-sheet (b ∷ bs) x p)
-    go Other p ih = rw (size-other b bs p, byte_other b bs p) ih
+    go (Some x) p ih = rw (size-letter (b ∷ bs) x p, letter-sheet (b ∷ bs) x p)
+    go None p ih = rw (size-other b bs p, byte_other b bs p) ih
 
 -- The bytes before the first letter line are the first bytes, as many as there are to it.
 pub form-front : (bs : List ℕ) → (sheet_of bs).before ≡ take (size_to true bs) bs

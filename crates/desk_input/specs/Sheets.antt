@@ -1,6 +1,6 @@
 -- What is handed in at the desk (01, "Forms on the desk"): the lines of the input, the calls that they ask for, and the three faults. Assumes
 -- nothing: these are definitions.
-use Rattle.std.specs.Prelude.{ℕ, Bool, true, false, List, [], ◌∷◌, ◌++◌, ltb, eqb, length}
+use Rattle.std.specs.Prelude.{ℕ, Bool, true, false, List, [], ◌∷◌, ◌++◌, ltb, eqb, length, None, Option, Some}
 use Rattle.words.specs.Base.{◌and◌, when◌then◌else◌, within}
 use Rattle.figures.specs.Limits.{least_k, greatest_k, most_input}
 use Rattle.figures.specs.Numbers.{done, too_large, k_outside, no_form}
@@ -10,8 +10,6 @@ use Rattle.form.specs.Text.{space, line_feed}
 use Rattle.form.specs.Reading.{is_digit, figure}
 use Rattle.desk_input.specs.declared.Letter.{Letter}
 use Rattle.desk_input.specs.declared.Letter.TheVariants.{Teach, Withdraw, Judge}
-use Rattle.desk_input.specs.declared.LineKind.{LineKind}
-use Rattle.desk_input.specs.declared.LineKind.TheVariants.{Asks, Other}
 use Rattle.desk_input.specs.declared.Front.{Front}
 use Rattle.desk_input.specs.declared.Front.TheVariants.{Fault, Opens}
 
@@ -38,11 +36,11 @@ letter_byte Withdraw = 87
 letter_byte Judge = 74
 
 -- What a byte asks for, if it is one of the three.
-unfoldable pub letter_of : ℕ → LineKind
+unfoldable pub letter_of : ℕ → Option Letter
 letter_of b =
-    when eqb b (letter_byte Teach) then Asks Teach else
-    when eqb b (letter_byte Withdraw) then Asks Withdraw else
-    when eqb b (letter_byte Judge) then Asks Judge else Other
+    when eqb b (letter_byte Teach) then Some Teach else
+    when eqb b (letter_byte Withdraw) then Some Withdraw else
+    when eqb b (letter_byte Judge) then Some Judge else None
 
 -- ---- lines
 
@@ -58,11 +56,11 @@ input_lines [] = []
 input_lines (b ∷ bs) = with_byte (eqb b line_feed) b (input_lines bs)
 
 -- "a line of the one letter T, W or J and LF"
-unfoldable pub kind_of : List ℕ → LineKind
-kind_of (b ∷ e ∷ []) = when eqb e line_feed then letter_of b else Other
-kind_of [] = Other
-kind_of (b ∷ []) = Other
-kind_of (b ∷ e ∷ c ∷ l) = Other
+unfoldable pub kind_of : List ℕ → Option Letter
+kind_of (b ∷ e ∷ []) = when eqb e line_feed then letter_of b else None
+kind_of [] = None
+kind_of (b ∷ []) = None
+kind_of (b ∷ e ∷ c ∷ l) = None
 
 -- ---- calls
 
@@ -77,9 +75,9 @@ pub record Sheet : Type 0 where
   pub calls : List FormCall
 
 -- A line in front of others: "the form runs to the next such line or the end".
-unfoldable pub with_line : LineKind → List ℕ → Sheet → Sheet
-with_line (Asks x) l s = record { before = []; calls = record { letter = x; text = s.before } ∷ s.calls }
-with_line Other l s = record { before = l ++ s.before; calls = s.calls }
+unfoldable pub with_line : Option Letter → List ℕ → Sheet → Sheet
+with_line (Some x) l s = record { before = []; calls = record { letter = x; text = s.before } ∷ s.calls }
+with_line None l s = record { before = l ++ s.before; calls = s.calls }
 
 -- The calls that lines ask for.
 unfoldable pub calls_of : List (List ℕ) → Sheet

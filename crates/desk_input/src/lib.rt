@@ -6,7 +6,7 @@ ghost use Rattle.std.specs.Prelude.{true, ◌≡◌, ◌+◌, ◌≤◌, length,
 ghost use Rattle.desk_input.specs.Sheets.{letter_byte, letter_of, opening_of};
 ghost use Rattle.desk_input.specs.Places.{letter_at, size_to, depth_on};
 
-use figures::{Answer, Asked, Depth, answered, limits, numbers};
+use figures::{Answer, Depth, answered, limits, numbers};
 
 // How many bytes line 1 takes: K, a space, a digit and LF.
 pub const FIRST_LINE: usize = 4;
@@ -38,13 +38,6 @@ impl Letter {
     }
 }
 
-// What a line is: a letter line, or another.
-#[derive(Clone, Copy)]
-pub enum LineKind {
-    Asks(Letter),
-    Other,
-}
-
 // What the front of the input is: the first fault, or a first line that opens a book of that k.
 #[derive(Clone, Copy)]
 pub enum Front {
@@ -53,27 +46,27 @@ pub enum Front {
 }
 
 // What a byte asks for, if it is a letter.
-fn letter_of(b: u8) -> LineKind
+fn letter_of(b: u8) -> Option<Letter>
     ensures { result ≡ letter_of b }
 {
     match b {
-        b'T' => LineKind::Asks(Letter::Teach),
-        b'W' => LineKind::Asks(Letter::Withdraw),
-        b'J' => LineKind::Asks(Letter::Judge),
-        _ => LineKind::Other,
+        b'T' => Some(Letter::Teach),
+        b'W' => Some(Letter::Withdraw),
+        b'J' => Some(Letter::Judge),
+        _ => None,
     }
 }
 
 // What the line at `at` asks for, if it is a letter line; it is read as if a line started there.
-pub fn letter_at(text: &[u8], at: usize) -> LineKind
+pub fn letter_at(text: &[u8], at: usize) -> Option<Letter>
     requires { at ≤ length text.now }
     ensures { result ≡ letter_at (drop at text.now) }
 {
     if text.len() - at < LETTER_LINE {
-        return LineKind::Other;
+        return None;
     }
     if text[at + 1] != b'\n' {
-        return LineKind::Other;
+        return None;
     }
     letter_of(text[at])
 }
@@ -87,7 +80,7 @@ pub fn form_end(text: &[u8], from: usize) -> usize
     let mut starts = true;
     while at < text.len() {
         if starts {
-            if let LineKind::Asks(_) = letter_at(text, at) {
+            if let Some(_) = letter_at(text, at) {
                 return at;
             }
         }
@@ -98,27 +91,27 @@ pub fn form_end(text: &[u8], from: usize) -> usize
 }
 
 // The k that line 1 asks for, if the line is spelt so and k is 2 to 6.
-fn depth_on(input: &[u8]) -> Asked
+fn depth_on(input: &[u8]) -> Option<Depth>
     ensures { result ≡ depth_on input.now }
 {
     if input.len() < FIRST_LINE {
-        return Asked::Outside;
+        return None;
     }
     if input[0] != OPENING_LETTER {
-        return Asked::Outside;
+        return None;
     }
     if input[1] != b' ' {
-        return Asked::Outside;
+        return None;
     }
     let digit = input[2];
     if digit < b'0' {
-        return Asked::Outside;
+        return None;
     }
     if b'9' < digit {
-        return Asked::Outside;
+        return None;
     }
     if input[3] != b'\n' {
-        return Asked::Outside;
+        return None;
     }
     Depth::new((digit - b'0') as u16)
 }
@@ -130,15 +123,15 @@ pub fn opening(input: &[u8]) -> Front
     if limits::MOST_INPUT < input.len() {
         return Front::Fault(answered(numbers::TOO_LARGE));
     }
-    let Asked::Allowed(depth) = depth_on(input) else {
+    let Some(depth) = depth_on(input) else {
         return Front::Fault(answered(numbers::K_OUTSIDE));
     };
     if input.len() == FIRST_LINE {
         return Front::Opens(depth.value());
     }
     match letter_at(input, FIRST_LINE) {
-        LineKind::Asks(_) => Front::Opens(depth.value()),
-        LineKind::Other => Front::Fault(Answer {
+        Some(_) => Front::Opens(depth.value()),
+        None => Front::Fault(Answer {
             number: numbers::NO_FORM,
             line: 2,
         }),

@@ -1,4 +1,5 @@
 -- The steps of a run print what the desk prints for its input, line by line, and every run ends. Assumes nothing.
+use Rattle.std.specs.Prelude.{None, Option, Some}
 use Prim.Native.Nat.{ℕ, zero, suc, ◌+◌, ◌≤◌, ◌<◌}
 use mathlib.Core.Path.{◌≡◌, refl, ap, sym, subst, ◌∙◌}
 use mathlib.Core.Bool.{Bool, true, false}
@@ -22,8 +23,6 @@ use Rattle.desk_line.specs.Replies.{reply, reply_room}
 use Rattle.desk_input.specs.Sheets.{first_line_size, letter_line_size, letter_K, letter_byte, FormCall, sheet_of, Handed, faulty, handed, handed_in}
 use Rattle.desk_input.specs.Places.{letter_at, size_to}
 use Rattle.desk_input.specs.declared.Letter.{Letter}
-use Rattle.desk_input.specs.declared.LineKind.{LineKind}
-use Rattle.desk_input.specs.declared.LineKind.TheVariants.{Asks, Other}
 use Rattle.desk_input.proofs.Handing.{HandsIn, at_fault, opens, hands_in}
 use Rattle.desk_input.proofs.Splitting.{letter-sheet, other_before, form-size, size-within, rest-calls, rest-before, empty-sheet}
 use Rattle.desk_call.specs.Asking.{call_of}
@@ -170,22 +169,22 @@ begin_so_far input book out n e z r =
 -- ---- a later step
 
 -- A letter line has two bytes.
-pub letter-long : (bs : List ℕ) (x : Letter) → letter_at bs ≡ Asks x → letter_line_size ≤ length bs
+pub letter-long : (bs : List ℕ) (x : Letter) → letter_at bs ≡ Some x → letter_line_size ≤ length bs
 unfolding letter_at
 letter-long [] x e = never cc
 letter-long (b ∷ []) x e = never cc
 letter-long (b ∷ f ∷ bs) x e = omega arith
 
 -- Bytes with none before the first letter line begin with one.
-letter-next : (bs : List ℕ) → (sheet_of bs).before ≡ [] → 0 < length bs → (x : Letter) × (letter_at bs ≡ Asks x)
+letter-next : (bs : List ℕ) → (sheet_of bs).before ≡ [] → 0 < length bs → (x : Letter) × (letter_at bs ≡ Some x)
 letter-next bs e h = go (letter_at bs) refl
   where
     -- By what they begin with.
-    go : (k : LineKind) → letter_at bs ≡ k → (x : Letter) × (letter_at bs ≡ Asks x)
-    go (Asks x) q = (x, q)
-    go Other q = let l : length (sheet_of bs).before ≡ 0 = ap length e in absurd (omega (arith, other_before bs h q))
+    go : (k : Option Letter) → letter_at bs ≡ k → (x : Letter) × (letter_at bs ≡ Some x)
+    go (Some x) q = (x, q)
+    go None q = let l : length (sheet_of bs).before ≡ 0 = ap length e in absurd (omega (arith, other_before bs h q))
 
-module _ (left book : List ℕ) (x : Letter) (asked : letter_at left ≡ Asks x) where
+module _ (left book : List ℕ) (x : Letter) (asked : letter_at left ≡ Some x) where
   -- What stands behind the letter line.
   abbrev behind : List ℕ
   behind = drop letter_line_size left
@@ -230,7 +229,7 @@ module _ (left book : List ℕ) (x : Letter) (asked : letter_at left ≡ Asks x)
 
 module _ (input : List ℕ) (n : ℕ) (book out printed : List ℕ) (so : SoFar input n book out printed) (more : n < length input) where
   -- A letter line is next.
-  ahead : (x : Letter) × (letter_at (drop n input) ≡ Asks x)
+  ahead : (x : Letter) × (letter_at (drop n input) ≡ Some x)
   ahead = letter-next (drop n input) so.clear (omega (arith, length-drop n input))
 
   -- A step takes at least a letter line.

@@ -1,4 +1,5 @@
 -- What a step answers, by what its inner calls answered: nothing done, a fault's line, the opening's line, and the line of a call. Assumes nothing.
+use Rattle.std.specs.Prelude.{None, Some}
 use Prim.Native.Nat.{ℕ, ◌+◌, ◌-◌, ◌≤◌, ◌<◌}
 use mathlib.Core.Path.{◌≡◌, refl, ap, sym, ◌∙◌}
 use mathlib.Core.Bool.{true}
@@ -16,7 +17,6 @@ use Rattle.desk_input.specs.Sheets.{first_line_size, letter_line_size, letter_K,
 use Rattle.desk_input.specs.Places.{letter_at, size_to}
 use Rattle.desk_input.specs.declared.Front.TheVariants.{Fault, Opens}
 use Rattle.desk_input.specs.declared.Letter.{Letter}
-use Rattle.desk_input.specs.declared.LineKind.TheVariants.{Asks, Other}
 use Rattle.desk_input.proofs.Splitting.{other_before, empty-sheet, form-front, form-size, size-within}
 use Rattle.desk_call.specs.Asking.{call_of}
 use Rattle.desk_step.specs.Desk.{line_for}
@@ -81,7 +81,7 @@ idle-before [] cs book out h = absurd (omega arith)
 idle-before (b ∷ bs) cs book out h = refl
 
 -- Where no letter line stands in front, nothing is done.
-pub step_other : (left book out : List ℕ) → reply_room ≤ length out → letter_at left ≡ Other → idle book out ≡ step_of left book out
+pub step_other : (left book out : List ℕ) → reply_room ≤ length out → letter_at left ≡ None → idle book out ≡ step_of left book out
 unfolding step_of when◌then◌else◌ stepped_by
 step_other [] book out room e = rw (le-ltb (length out) reply_room room, empty-sheet)
 step_other (b ∷ bs) book out room e =
@@ -89,7 +89,7 @@ step_other (b ∷ bs) book out room e =
 
 module _ (left book out : List ℕ) (room : reply_room ≤ length out) where
   -- The call of the letter line in front is made, with the form up to the next one.
-  pub step-made : (x : Letter) (a : Answer) (ws written text : List ℕ) (b u count end : ℕ) → letter_at left ≡ Asks x
+  pub step-made : (x : Letter) (a : Answer) (ws written text : List ℕ) (b u count end : ℕ) → letter_at left ≡ Some x
       → end ≡ letter_line_size + size_to true (drop letter_line_size left) → text ≡ take (end - letter_line_size) (drop letter_line_size left)
       → outcome a ws ≡ call_of (record { letter = x; text = text }) book → u ≡ get_or ws used_word 0 → b ≡ letter_byte x → count ≡ length (reply b a u)
       → written ≡ over (reply b a u) out → stepping (record { taken = end; count = count }) ws written ≡ step_of left book out
@@ -105,5 +105,5 @@ module _ (left book out : List ℕ) (room : reply_room ≤ length out) where
       ∙ sym (step_is left book x l out room)
 
 -- The form of a letter line ends within the bytes.
-pub end-inside : (left : List ℕ) (x : Letter) (end : ℕ) → letter_at left ≡ Asks x → end ≡ letter_line_size + size_to true (drop letter_line_size left) → end ≤ length left
+pub end-inside : (left : List ℕ) (x : Letter) (end : ℕ) → letter_at left ≡ Some x → end ≡ letter_line_size + size_to true (drop letter_line_size left) → end ≤ length left
 end-inside left x end l e = omega (arith, letter-long left x l, size-within true (drop letter_line_size left), length-drop letter_line_size left)

@@ -5,7 +5,7 @@ ghost use Rattle.std.specs.Prelude.{◌≡◌};
 ghost use Rattle.desk_step.specs.Steps.{stepping, begin_of, step_of};
 
 use desk_call::used_words;
-use desk_input::{Front, LineKind};
+use desk_input::Front;
 use desk_line::REPLY_ROOM;
 
 // What a step took of the input, and how many bytes its line has.
@@ -51,7 +51,7 @@ pub fn step(left: &[u8], book: &mut [u16], out: &mut [u8]) -> Printed
     if out.len() < REPLY_ROOM {
         return Printed { taken: 0, count: 0 };
     }
-    let LineKind::Asks(letter) = desk_input::letter_at(left, 0) else {
+    let Some(letter) = desk_input::letter_at(left, 0) else {
         return Printed { taken: 0, count: 0 };
     };
     let end = desk_input::form_end(left, desk_input::LETTER_LINE);

@@ -10,22 +10,13 @@ pub struct Depth {
     k: u16,
 }
 
-// What asking for a k gives.
-#[derive(Clone, Copy)]
-pub enum Asked {
-    Allowed(Depth),
-    Outside,
-}
-
-impl Asked {
-    // 01's number for what was asked: 0, or 3 for a k outside 2 to 6.
-    pub fn number(self) -> u16
-        ensures { result ≡ number_of self }
-    {
-        match self {
-            Asked::Allowed(_) => numbers::DONE,
-            Asked::Outside => numbers::K_OUTSIDE,
-        }
+// 01's number for a k that was asked for: 0, or 3 for one outside 2 to 6.
+pub fn asked_number(asked: Option<Depth>) -> u16
+    ensures { result ≡ number_of asked }
+{
+    match asked {
+        Some(_) => numbers::DONE,
+        None => numbers::K_OUTSIDE,
     }
 }
 
@@ -36,16 +27,16 @@ impl Depth {
     pub const GREATEST: u16 = 6;
 
     // The depth of that k, if it is 2 to 6.
-    pub fn new(k: u16) -> Asked
+    pub fn new(k: u16) -> Option<Depth>
         ensures { result ≡ depth_of k }
     {
         if k < Self::LEAST {
-            return Asked::Outside;
+            return None;
         }
         if Self::GREATEST < k {
-            return Asked::Outside;
+            return None;
         }
-        Asked::Allowed(Self { k })
+        Some(Self { k })
     }
 
     // k itself.

@@ -9,7 +9,7 @@ pub mod limits;
 pub mod nodes;
 pub mod numbers;
 
-pub use depths::{Asked, Depth};
+pub use depths::{Depth, asked_number};
 
 // An answer: its number by 01's table, and its line.
 #[derive(Clone, Copy)]

@@ -1,5 +1,7 @@
 -- Which words fit (specs/Fits.antt): what the tree of words says of it, that `fits_of` is `Fits`, and that the parts of an order fit.
 -- Assumes nothing.
+use Rattle.std.specs.Prelude.{None, Some}
+use Rattle.std.specs.declared.cmp.Ordering.TheVariants.{Less}
 use Prim.Native.Nat.{ℕ, ◌-◌, ◌*◌, ◌/◌, ◌≤◌, ◌<◌}
 use mathlib.Core.Path.{◌≡◌, refl, ap, sym, subst, ◌∙◌}
 use mathlib.Core.Bool.{Bool, true, false}
@@ -11,14 +13,12 @@ use lib.Dec.{leb}
 use lib.ListN.{length}
 use Rattle.words.specs.Base.{within, keep, ◌∈◌}
 use Rattle.words.specs.Compare.{compare_of}
-use Rattle.words.specs.declared.Compared.TheVariants.{Lower}
 use Rattle.words.proofs.Tests.{no_test, and_left, and_right, and_both, fails_right, never}
 use Rattle.figures.specs.Limits.{most_nodes, most_words, greatest_depth}
 use Rattle.order.specs.Trees.{Tree, node, words, depth, cut, subtrees}
 use Rattle.order.specs.Reading.{TreeFound, missing, found, tree_of, order, by_order, order_of}
 use Rattle.order.specs.Parts.{top, is_low, lows, middle, is_middle, middles, low_parts, middle_parts}
 use Rattle.order.specs.Spans.{measured_of}
-use Rattle.order.specs.declared.Measured.TheVariants.{Broken, Deep}
 use Rattle.order.specs.Fits.{fits_of, IsOrder, Fits}
 use Rattle.order.proofs.Unique.{words-unique}
 use Rattle.order.proofs.Once.{kept_in, once_from}
@@ -41,12 +41,12 @@ found_passed s t l e d =
     order-passed s t (ap order_of r.0 ∙ tree-passes t r.1 n d)
 
 -- What is measured of a tree is its depth.
-depth-told : (x : TreeFound) (t : Tree) (d : ℕ) → measured_of x ≡ Deep d → x ≡ found t → depth t ≡ d
+depth-told : (x : TreeFound) (t : Tree) (d : ℕ) → measured_of x ≡ Some d → x ≡ found t → depth t ≡ d
 unfolding measured_of
-depth-told x t d e f = let same : Deep (depth t) ≡ Deep d = rw f at e in cc
+depth-told x t d e f = let same : Some (depth t) ≡ Some d = rw f at e in cc
 
 -- Nothing is measured of what is no tree.
-no_depth : {A : Type 0} (d : ℕ) → measured_of missing ≡ Deep d → A
+no_depth : {A : Type 0} (d : ℕ) → measured_of missing ≡ Some d → A
 unfolding measured_of
 no_depth d e = never cc
 
@@ -70,12 +70,12 @@ module _ (least greatest : ℕ) (s : List ℕ) where
   fits-long l = fits-none (λ t p. absurd (omega (arith, size t, ap length p.spelt, p.nodes)))
 
   -- Words that are no tree do not fit.
-  pub fits-broken : measured_of (tree_of s) ≡ Broken → fits_of least greatest s ≡ false
+  pub fits-broken : measured_of (tree_of s) ≡ None → fits_of least greatest s ≡ false
   unfolding measured_of
   fits-broken e = fits-none (λ t p. never (cc (rw (passed-found p) at e)))
 
   -- Of a tree of few enough words the depth decides.
-  pub fits-deep : (d : ℕ) → length s ≤ most_words → greatest ≤ greatest_depth → measured_of (tree_of s) ≡ Deep d → fits_of least greatest s ≡ within least greatest d
+  pub fits-deep : (d : ℕ) → length s ≤ most_words → greatest ≤ greatest_depth → measured_of (tree_of s) ≡ Some d → fits_of least greatest s ≡ within least greatest d
   fits-deep d short g e = go (tree_of s) refl (leb d greatest) refl
     where
       go : (x : TreeFound) → tree_of s ≡ x → (y : Bool) → leb d greatest ≡ y → fits_of least greatest s ≡ within least greatest d
@@ -136,12 +136,12 @@ module _ (least greatest : ℕ) (ws : List ℕ) where
   fits-even e = let f = fits-tree e in omega (arith, size f.tree, ap length f.is_order.spelt)
 
 -- The empty key stands below the words of a tree.
-empty-below : (t : Tree) → compare_of [] (words t) ≡ Lower
+empty-below : (t : Tree) → compare_of [] (words t) ≡ Less
 unfolding compare_of words
 empty-below (node c f) = refl
 
 -- The empty key stands below every order.
-pub fits-some : (least greatest : ℕ) (ws : List ℕ) → fits_of least greatest ws ≡ true → compare_of [] ws ≡ Lower
+pub fits-some : (least greatest : ℕ) (ws : List ℕ) → fits_of least greatest ws ≡ true → compare_of [] ws ≡ Less
 fits-some least greatest ws e = let f = fits-tree least greatest ws e in ap (compare_of []) f.is_order.spelt ∙ empty-below f.tree
 
 -- ---- the parts of an order fit

@@ -1,8 +1,8 @@
 -- The depth, the subtrees and the parts of 01 are those of document 000 (sections II and III). Assumes nothing.
+use Rattle.std.specs.Prelude.{Option, None, Some}
 use Prim.Native.Nat.{ℕ, zero, suc, ◌+◌, ◌-◌, ◌≤◌, ◌<◌}
 use mathlib.Core.Path.{◌≡◌, refl, ap, ap₂, sym, ◌∙◌}
 use mathlib.Core.Bool.{not}
-use mathlib.Core.Option.{Option, none, some}
 use mathlib.Core.Logic.{inl, inr}
 use mathlib.Core.List.Memᴰ
 use mathlib.Core.List.Memᴰ.{head as here}
@@ -30,10 +30,10 @@ rooted_in i x f = by_found (child_of i f) missing (rooted_at x)
 
 -- The label there.
 abbrev label_in : ℕ → Position → Forest → Option ℕ
-label_in i x f = by_found (rooted_in i x f) none (λ s. some (code s))
+label_in i x f = by_found (rooted_in i x f) None (λ s. Some (code s))
 
 -- What has no label has none.
-no_label : {A : Type 0} {c : ℕ} → none ≡ some c → A
+no_label : {A : Type 0} {c : ℕ} → None ≡ Some c → A
 no_label e = never cc
 
 -- Children are counted from 1: there is no child 0.
@@ -177,7 +177,7 @@ mutual
 
   same-mapping : (t u : Tree) → ((x : Position) → label_at x t ≡ label_at x u) → t ≡ u
   same-mapping (node c f) (node d g) h =
-      let top : some c ≡ some d = h [] in
+      let top : Some c ≡ Some d = h [] in
       ap₂ node (cc) (same-labels f g (λ i x. h (i ∷ x)))
 
   same-labels : (f g : Forest) → ((i : ℕ) (x : Position) → label_in i x f ≡ label_in i x g) → f ≡ g

@@ -1,4 +1,5 @@
 -- A row of trees gone over by the spans of its subtrees: what is left after each child, and what all lines say of the tree that words are. Assumes nothing.
+use Rattle.std.specs.Prelude.{None, Some}
 use Prim.Native.Nat.{ℕ, zero, suc, ◌+◌, ◌*◌, ◌-◌, ◌/◌, ◌≤◌, ◌<◌, max}
 use mathlib.Core.Path.{◌≡◌, refl, sym, ap, ap₂, ◌∙◌}
 use mathlib.Core.Bool.{Bool, true, false}
@@ -23,7 +24,6 @@ use Rattle.order.proofs.Leaves.{leaves-few, leaves-short, leaves_lines, leaves-d
 use Rattle.order.proofs.Rowing.{node-words, leb_less, subtrees-split, tree-row, row-tree, row-missing, lacks_child, fault-missing}
 use Rattle.order.specs.declared.Spanned.{Spanned}
 use Rattle.order.specs.declared.Spanned.TheVariants.{Lacking, To}
-use Rattle.order.specs.declared.Measured.TheVariants.{Broken, Deep}
 
 -- ---- lines and spans
 
@@ -444,11 +444,11 @@ module _ (os ss : List ℕ) (even : 2 * (length os / 2) ≡ length os) (room : l
   whole-more h n = other (λ t e. n ((first-here t bare e h).0 ∙ omega (arith, whole.long, ap lines_f e)))
 
   -- As many are one tree.
-  pub whole-one : 2 ≤ length os → get_or ss 0 0 ≡ length os / 2 → measured_of (tree_of os) ≡ Deep (get_or ss 1 0)
+  pub whole-one : 2 ≤ length os → get_or ss 0 0 ≡ length os / 2 → measured_of (tree_of os) ≡ Some (get_or ss 1 0)
   unfolding lines_f measured_of
   whole-one h e = go whole.row refl
     where
-      go : (f : Forest) → whole.row ≡ f → measured_of (tree_of os) ≡ Deep (get_or ss 1 0)
+      go : (f : Forest) → whole.row ≡ f → measured_of (tree_of os) ≡ Some (get_or ss 1 0)
       go bare r = absurd (omega (arith, whole.long, ap lines_f r))
       go (cons t bare) r = rw (row-tree os t (whole.is ∙ ap rowed r), (first-here t bare r h).1) refl
       go (cons t (cons u f)) r = absurd (omega (arith, whole.long, ap lines_f r, (first-here t (cons u f) r h).0, some-line u))
@@ -464,18 +464,18 @@ module _ (os ss : List ℕ) (even : 2 * (length os / 2) ≡ length os) (room : l
 -- ---- what words come to, and the tree that they are
 
 -- Words that are no tree are answered so, and nothing is to be listed.
-pub no_tree : (os ss : List ℕ) → tree_of os ≡ missing → (Broken ≡ measured_of (tree_of os)) × ((t : Tree) → tree_of os ≡ found t → take (length os) ss ≡ spans_from 0 (subtrees t))
+pub no_tree : (os ss : List ℕ) → tree_of os ≡ missing → (None ≡ measured_of (tree_of os)) × ((t : Tree) → tree_of os ≡ found t → take (length os) ss ≡ spans_from 0 (subtrees t))
 unfolding measured_of
 no_tree os ss e = (rw e refl, λ t f. never (cc (e, f)))
 
 -- Where words come to nothing there is no tree.
-pub broken-missing : (x : TreeFound) → measured_of x ≡ Broken → x ≡ missing
+pub broken-missing : (x : TreeFound) → measured_of x ≡ None → x ≡ missing
 unfolding measured_of
 broken-missing missing e = refl
 broken-missing (found t) e = never cc
 
 -- Where they come to a depth, there is a tree of that depth.
-pub measured_found : (x : TreeFound) (d : ℕ) → measured_of x ≡ Deep d → FoundDeep x d
+pub measured_found : (x : TreeFound) (d : ℕ) → measured_of x ≡ Some d → FoundDeep x d
 unfolding measured_of
 measured_found missing d e = never cc
 measured_found (found t) d e = record { tree = t; is = refl; deep = cc }

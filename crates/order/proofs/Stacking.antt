@@ -1,4 +1,5 @@
 -- A row of trees by the stack of their depths: what taking a node's children from it leaves, and what is found once all nodes are gone over. Assumes nothing.
+use Rattle.std.specs.Prelude.{None, Some}
 use Prim.Native.Nat.{ℕ, zero, suc, ◌+◌, ◌*◌, ◌-◌, ◌/◌, ◌≤◌, ◌<◌, max}
 use mathlib.Core.Path.{◌≡◌, refl, sym, ap, subst, ◌∙◌}
 use mathlib.Core.Bool.{Bool, true, false}
@@ -15,7 +16,6 @@ use Rattle.figures.specs.Limits.{most_words}
 use Rattle.order.specs.Trees.{node, Forest, bare, cons, count, depth, depth_f}
 use Rattle.order.specs.Reading.{first_trees, later_trees, missing, tree_of}
 use Rattle.order.specs.Spans.{Rowed, faulty, rowed, node_before, row_of, leaves_f, measured_of, stack_of, StackIs, popped_by}
-use Rattle.order.specs.declared.Measured.TheVariants.{Broken, Deep}
 use Rattle.order.specs.declared.Popped.{Popped}
 use Rattle.order.specs.declared.Popped.TheVariants.{Short, Left}
 use Rattle.order.proofs.Rowing.{row-tree, row-missing, lacks_child, fault-missing, node-words}
@@ -220,7 +220,7 @@ stacked_start os ss even short room =
     }
 
 -- Words that are no tree are answered so.
-broken : (os : List ℕ) → tree_of os ≡ missing → Broken ≡ measured_of (tree_of os)
+broken : (os : List ℕ) → tree_of os ≡ missing → None ≡ measured_of (tree_of os)
 unfolding measured_of
 broken os e = rw e refl
 
@@ -278,18 +278,18 @@ module _ (os ss₀ ss : List ℕ) (at many top run : ℕ) (b : Stacked os ss₀ 
         r ∙ ap (node_before (sound_node c n) c n) b.is
 
     -- A fault here is one of the whole.
-    fault-here : row_of (drop here os) ≡ faulty → Broken ≡ measured_of (tree_of os)
+    fault-here : row_of (drop here os) ≡ faulty → None ≡ measured_of (tree_of os)
     fault-here e =
         let two : 2 * (here / 2) ≡ here = omega (arith, b.paired) in
         broken os (fault-missing (here / 2) os (omega (arith, b.low)) (rw two e))
 
     -- A node out of range.
-    pub stacked_unsound : sound_node c n ≡ false → Broken ≡ measured_of (tree_of os)
+    pub stacked_unsound : sound_node c n ≡ false → None ≡ measured_of (tree_of os)
     unfolding node_before
     stacked_unsound e = fault-here (row_here ∙ rw e refl)
 
     -- A node that lacks a child.
-    pub stacked_short : Short ≡ popped_by n b.row → Broken ≡ measured_of (tree_of os)
+    pub stacked_short : Short ≡ popped_by n b.row → None ≡ measured_of (tree_of os)
     stacked_short e = fault-here (row_here ∙ lacked (sound_node c n) c n b.row e)
 
     -- A node that has its children is put before the trees behind them.
@@ -338,17 +338,17 @@ module _ (os ss₀ ss : List ℕ) (at many top run : ℕ) (b : Stacked os ss₀ 
   all = ap (λ (k : ℕ). row_of (drop k os)) (sym done) ∙ b.is
 
   -- Words that are another number of trees than one are none.
-  pub stacked_other : (many ≡ 1 → ⊥) → Broken ≡ measured_of (tree_of os)
+  pub stacked_other : (many ≡ 1 → ⊥) → None ≡ measured_of (tree_of os)
   unfolding count
   stacked_other n =
       broken os (row-missing os (λ t e. let z : rowed b.row ≡ rowed (cons t bare) = sym all ∙ e in let y : b.row ≡ cons t bare = cc in n (b.stands.counted ∙ ap count y)))
 
   -- One tree is as deep as was found.
-  pub stacked_one : many ≡ 1 → Deep top ≡ measured_of (tree_of os)
+  pub stacked_one : many ≡ 1 → Some top ≡ measured_of (tree_of os)
   unfolding count measured_of first_trees depth_f
   stacked_one m = go b.row refl
     where
-      go : (f : Forest) → b.row ≡ f → Deep top ≡ measured_of (tree_of os)
+      go : (f : Forest) → b.row ≡ f → Some top ≡ measured_of (tree_of os)
       go bare r = absurd (omega (arith, b.stands.counted, ap count r))
       go (cons t bare) r =
           let d : top + 1 ≡ depth_f (first_trees 1 (cons t bare)) = first_popped many top run ss b.row b.stands (stacked_few os ss₀ ss at many top run b).0 (omega arith) ∙ ap (λ (f : Forest). depth_f (first_trees 1 f)) r in

@@ -1,8 +1,7 @@
 -- Document 000 in its own words: a tree as a mapping from a tree domain (section II), and r, l and p (section III). The parts of 01 are
 -- shown to be these in proofs/Paper.antt. Document 001 counts k from one lower: its 0-root is the r of index 1 here, and 001's counting is
 -- used nowhere. Assumes nothing: these are definitions.
-use Rattle.std.specs.Prelude.{ℕ, zero, suc, ◌-◌, ◌≤◌, ◌<◌, ◌≡◌, List, [], ◌∷◌, length}
-use Rattle.std.proofs.Math.Option.{Option, none, some}
+use Rattle.std.specs.Prelude.{ℕ, zero, suc, ◌-◌, ◌≤◌, ◌<◌, ◌≡◌, List, [], ◌∷◌, length, Option, None, Some}
 use Rattle.order.specs.Trees.{Tree, node, Forest, bare, cons, depth}
 use Rattle.order.specs.Reading.{by_found, TreeFound, missing, found}
 
@@ -32,7 +31,7 @@ rooted_at (i ∷ x) t = by_found (child_of i (children_of_top t)) missing (roote
 
 -- t(x): none where x is not in dom(t).
 unfoldable pub label_at : Position → Tree → Option ℕ
-label_at x t = by_found (rooted_at x t) none (λ s. some (code s))
+label_at x t = by_found (rooted_at x t) None (λ s. Some (code s))
 
 -- s ∈ ST(t): "the set of subtrees of t, {t/x | x ∈ dom(t)}".
 pub record Subtree (t s : Tree) : Type 0 where

@@ -1,7 +1,7 @@
 -- Inner: no promise rests on these definitions.
 -- Orders gone over from the last node to the first: where the subtree of each line ends and how deep it is, and the row of trees that words
 -- spell. Assumes nothing: these are definitions.
-use Rattle.std.specs.Prelude.{List, [], ◌∷◌, ◌++◌, Bool, true, false, ◌≡◌, ℕ, zero, suc, ◌+◌, ◌*◌, ◌-◌, ◌/◌, ◌≤◌, ◌<◌, leb, length, take, drop, get_or, set}
+use Rattle.std.specs.Prelude.{List, [], ◌∷◌, ◌++◌, Bool, true, false, ◌≡◌, ℕ, zero, suc, ◌+◌, ◌*◌, ◌-◌, ◌/◌, ◌≤◌, ◌<◌, leb, length, take, drop, get_or, set, None, Option, Some}
 use Rattle.words.specs.Base.{when◌then◌else◌}
 use Rattle.figures.specs.Limits.{most_words}
 use Rattle.figures.specs.Nodes.{sound_node}
@@ -10,8 +10,6 @@ use Rattle.order.specs.Trees.{Tree, node, Forest, bare, cons, count, depth, dept
 use Rattle.order.specs.Reading.{first_trees, later_trees, TreeFound, missing, found, by_order, order_of, cause_of}
 use Rattle.order.specs.declared.Spanned.{Spanned}
 use Rattle.order.specs.declared.Spanned.TheVariants.{Lacking, To}
-use Rattle.order.specs.declared.Measured.{Measured}
-use Rattle.order.specs.declared.Measured.TheVariants.{Broken, Deep}
 use Rattle.order.specs.declared.Popped.{Popped}
 use Rattle.order.specs.declared.Popped.TheVariants.{Short, Left}
 
@@ -71,9 +69,9 @@ LeavesAre n faulty = ⊥
 LeavesAre n (rowed f) = n ≡ leaves_f f
 
 -- What words come to that are a tree or not: its depth, or none.
-unfoldable pub measured_of : TreeFound → Measured
-measured_of missing = Broken
-measured_of (found t) = Deep (depth t)
+unfoldable pub measured_of : TreeFound → Option ℕ
+measured_of missing = None
+measured_of (found t) = Some (depth t)
 
 -- ---- by spans
 

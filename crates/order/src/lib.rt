@@ -11,13 +11,6 @@ pub enum Spanned {
     To { end: usize, depth: usize },
 }
 
-// What words come to: not one tree, or one of this depth.
-#[derive(Clone, Copy)]
-pub enum Measured {
-    Broken,
-    Deep(usize),
-}
-
 // What a node comes to that takes its children from a row of trees: there are too few; or so many trees are there then, itself the first, and it
 // is so deep.
 #[derive(Clone, Copy)]

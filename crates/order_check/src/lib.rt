@@ -11,7 +11,6 @@ ghost use Rattle.order.specs.Spans.{GoneOver, RowAt, hopped};
 ghost use Rattle.order.specs.Answers.{check_of};
 
 use figures::{Answer, limits, numbers};
-use order::Measured;
 use order_spans::measure;
 
 // The number of an order: 0, or the first cause of 1 or 2; and for 0 the spans of its lines, at the front of `spans`.
@@ -31,7 +30,7 @@ pub fn cause_into(order: &[u16], spans: &mut [u16]) -> u16
     if limits::MOST_WORDS < n {
         return numbers::TOO_LARGE;
     }
-    let Measured::Deep(depth) = measure(order, spans) else {
+    let Some(depth) = measure(order, spans) else {
         return numbers::NO_ORDER;
     };
     if limits::GREATEST_DEPTH < depth {

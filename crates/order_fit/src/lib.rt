@@ -11,7 +11,7 @@ ghost use Rattle.order.specs.Spans.{measured_of, StackIs, popped_by};
 
 use figures::limits;
 use figures::nodes::node_ok;
-use order::{Measured, Popped};
+use order::Popped;
 use order_spans::{deeper, wide};
 
 // Takes a node's children from a row of `many` trees: the first is `top` deep, the first `run` are leaves, and the depths of the trees behind the
@@ -44,7 +44,7 @@ fn pop(stack: &[u16], many: usize, top: usize, run: u16, children: u16) -> Poppe
 
 // How deep the tree is that words are, from the last node to the first, by the depths of the trees behind: `top` is that of the first, and those
 // of the others stand on the stack. `run` is how many leaves they begin with.
-pub fn deep(order: &[u16], stack: &mut [u16]) -> Measured
+pub fn deep(order: &[u16], stack: &mut [u16]) -> Option<usize>
     requires { (2 * (length order.now / 2) ≡ length order.now) × (length order.now ≤ most_words)
         × (length order.now / 2 ≤ length stack.old) }
     ensures came { result ≡ measured_of (tree_of order.now) }
@@ -58,7 +58,7 @@ pub fn deep(order: &[u16], stack: &mut [u16]) -> Measured
         let here = at - 2;
         let children = order[here + 1];
         if !node_ok(order[here], children) {
-            return Measured::Broken;
+            return None;
         }
         if children == 0 {
             stack[many] = top as u16;
@@ -67,7 +67,7 @@ pub fn deep(order: &[u16], stack: &mut [u16]) -> Measured
             run += 1;
         } else {
             let Popped::Left { many: rest, depth } = pop(stack, many, top, run, children) else {
-                return Measured::Broken;
+                return None;
             };
             many = rest;
             top = depth;
@@ -76,9 +76,9 @@ pub fn deep(order: &[u16], stack: &mut [u16]) -> Measured
         at = here;
     }
     if many != 1 {
-        return Measured::Broken;
+        return None;
     }
-    Measured::Deep(top)
+    Some(top)
 }
 
 // Whether the words are an order within limits, of a depth from `least` to `greatest`.
@@ -91,8 +91,8 @@ pub fn fits(order: &[u16], least: usize, greatest: usize, stack: &mut [u16]) -> 
         return false;
     }
     match deep(order, stack) {
-        Measured::Broken => false,
-        Measured::Deep(depth) => {
+        None => false,
+        Some(depth) => {
             if depth < least {
                 return false;
             }

@@ -8,7 +8,7 @@ ghost use Rattle.order.specs.Reading.{found, tree_of};
 ghost use Rattle.order.specs.Spans.{spans_from, row_of, measured_of, Measurable, SpansAre, FirstSpan, spanned_by};
 
 use figures::nodes::node_ok;
-use order::{Measured, Spanned};
+use order::Spanned;
 
 // The depth of a node that has a child of depth h besides.
 pub fn deeper(depth: usize, h: u16) -> usize
@@ -73,25 +73,25 @@ fn over_children(
 }
 
 // What a row of trees comes to, by the spans of its lines: one tree, or not.
-fn whole(order: &[u16], spans: &[u16]) -> Measured
+fn whole(order: &[u16], spans: &[u16]) -> Option<usize>
     requires measurable { Measurable order.now spans.now }
     requires spans_are { SpansAre 0 (take (length order.now) spans.now) (row_of order.now) }
     ensures { result ≡ measured_of (tree_of order.now) }
 {
     if order.len() < 2 {
-        return Measured::Broken;
+        return None;
     }
     let end = wide(spans[0]);
     if end != order.len() / 2 {
-        return Measured::Broken;
+        return None;
     }
     let depth = wide(spans[1]);
-    Measured::Deep(depth)
+    Some(depth)
 }
 
 // The depth of the tree that words are, if they are one; and the spans of its lines at the front of `spans`, from the last line to the first.
 // `first` and `top` are the span of the line behind, and `run` is how many leaves begin there.
-pub fn measure(order: &[u16], spans: &mut [u16]) -> Measured
+pub fn measure(order: &[u16], spans: &mut [u16]) -> Option<usize>
     requires { Measurable order.now spans.old }
     ensures came { result ≡ measured_of (tree_of order.now) }
     ensures listed { (t : Tree) → tree_of order.now ≡ found t → take (length order.now) spans.new
@@ -107,7 +107,7 @@ pub fn measure(order: &[u16], spans: &mut [u16]) -> Measured
         let code = order[2 * line - 2];
         if children == 0 {
             if !node_ok(code, 0) {
-                return Measured::Broken;
+                return None;
             }
             put_span(spans, line, line, 0);
             first = line;
@@ -115,12 +115,12 @@ pub fn measure(order: &[u16], spans: &mut [u16]) -> Measured
             run += 1;
         } else {
             if !node_ok(code, children) {
-                return Measured::Broken;
+                return None;
             }
             let Spanned::To { end, depth } = over_children(
                 order, spans, line, first, top, run, children,
             ) else {
-                return Measured::Broken;
+                return None;
             };
             put_span(spans, line, end, depth);
             first = end;

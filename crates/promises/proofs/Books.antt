@@ -1,5 +1,6 @@
 -- A book in form by its words: its sections stand where a look at its form says, and their trees ascend word by word. And what a teaching and a withdrawal
 -- that are done make of the counts of any book in form, agreeing or not, by document 000's r, l and p. Assumes nothing.
+use Rattle.std.specs.declared.cmp.Ordering.TheVariants.{Less}
 use Prim.Native.Nat.{ℕ, suc, ◌+◌, ◌-◌, ◌≤◌}
 use mathlib.Core.Path.{◌≡◌, refl, sym, ap, ◌∙◌}
 use mathlib.Core.Bool.{Bool, true, false}
@@ -14,7 +15,6 @@ use lib.ListN.{length, take, drop, replicate, length-append}
 use lib.Seq.{take-append_seam, drop_at, drop-drop}
 use Rattle.words.specs.Base.{◌∈◌, ◌exactly_when◌}
 use Rattle.words.specs.Compare.{first_words, compare_of, ◌≺◌}
-use Rattle.words.specs.declared.Compared.TheVariants.{Lower}
 use Rattle.words.proofs.Tests.{is_true, never}
 use Rattle.figures.specs.Limits.{head_words}
 use Rattle.figures.specs.Numbers.{done}
@@ -57,7 +57,7 @@ lower-so (x ∷ xs) [] e = never cc
 lower-so (x ∷ xs) (y ∷ ys) e = go (ltb x y) (ltb y x) refl refl e (lower-so xs ys)
   where
     -- By how the first words stand to each other.
-    go : (a b : Bool) → ltb x y ≡ a → ltb y x ≡ b → first_words a b (compare_of xs ys) ≡ Lower → (xs ≺ ys → LowerThan xs ys) → LowerThan (x ∷ xs) (y ∷ ys)
+    go : (a b : Bool) → ltb x y ≡ a → ltb y x ≡ b → first_words a b (compare_of xs ys) ≡ Less → (xs ≺ ys → LowerThan xs ys) → LowerThan (x ∷ xs) (y ∷ ys)
     go true b p q r next = less (ltb-true x y p)
     go false true p q r next = never cc
     go false false p q r next =

@@ -7,6 +7,7 @@
 -- same theorem: so `order_check::check`, `order_cuts::subtree`, `book_form::in_form`, `book_judge::judge`, `book_choose::choose`, `book_check::check`
 -- and `desk_input::opening`, which are lent nothing to write (promises_code/proofs/Lent.antt), change nothing. Of what the others leave this file
 -- speaks. Assumes nothing.
+use Rattle.std.specs.Prelude.{None, Option}
 use Prim.Native.Nat.{ℕ, suc, ◌-◌, ◌≤◌, ◌<◌}
 use mathlib.Core.Path.{◌≡◌, refl, sym, ap, subst, ◌∙◌}
 use mathlib.Core.Bool.{Bool, true, false}
@@ -14,11 +15,11 @@ use mathlib.Core.List.{List}
 use native.Mathlib.Omega.{arith}
 use lib.Dec.{ltb}
 use lib.ListN.{length, drop}
+use Rattle.figures.specs.declared.depths.Depth.{Depth}
 use Rattle.words.proofs.Tests.{never}
 use Rattle.words.specs.Base.{when◌then◌else◌}
 use Rattle.figures.specs.Numbers.{done, too_large, no_form, top_unknown}
 use Rattle.figures.specs.Answers.{depth_of, asked_told}
-use Rattle.figures.specs.declared.depths.Asked.{Asked}
 use Rattle.figures.specs.declared.Answer.{Answer}
 use Rattle.figures.specs.declared.Written.{Written}
 use Rattle.order.specs.Trees.{Tree, cut}
@@ -53,7 +54,6 @@ use Rattle.desk_input.specs.Places.{letter_at}
 use Rattle.desk_input.specs.Whys.{WhyFront}
 use Rattle.desk_input.specs.declared.Front.{Front}
 use Rattle.desk_input.specs.declared.Front.TheVariants.{Fault}
-use Rattle.desk_input.specs.declared.LineKind.TheVariants.{Other}
 use Rattle.desk_input.proofs.Reasons.{opening-why, opening-only}
 use Rattle.desk_step.specs.Steps.{Stepping, stepping, idle, begun_by, begin_of, step_of}
 use Rattle.desk_step.specs.declared.Printed.{Printed}
@@ -302,10 +302,10 @@ module _ (ws os text file out : List ℕ) (k line d : ℕ) where
   one-step = two_steps
 
   -- `figures::Depth::new`
-  pub one-depth : {r s : Asked} → r ≡ depth_of k → s ≡ depth_of k → r ≡ s
+  pub one-depth : {r s : Option Depth} → r ≡ depth_of k → s ≡ depth_of k → r ≡ s
   one-depth = same
 
-  -- `figures::Asked::number`, `Depth::value`, `Depth::of_tops`, `Depth::of_middles` and `desk_input::Letter::byte`: n is the number that their contracts name.
+  -- `figures::asked_number`, `Depth::value`, `Depth::of_tops`, `Depth::of_middles` and `desk_input::Letter::byte`: n is the number that their contracts name.
   pub one_number : {r s n : ℕ} → r ≡ n → s ≡ n → r ≡ s
   one_number = same
 
@@ -377,7 +377,7 @@ module _ (ws text out : List ℕ) where
   step-idle h = sym (step-short text ws out h)
 
   -- and where no letter line stands in front.
-  pub step-other_idle : reply_room ≤ length out → letter_at text ≡ Other → step_of text ws out ≡ idle ws out
+  pub step-other_idle : reply_room ≤ length out → letter_at text ≡ None → step_of text ws out ≡ idle ws out
   step-other_idle h e = sym (step_other text ws out h e)
 
   -- The bytes of the output behind the line that `desk_step::begin` gives stay,

@@ -2,8 +2,7 @@
 -- writing a form or a file can answer, by trees, lines and sizes, apart from the tests of their definitions ("Numbers the desk hears"). Those of a
 -- book's form are in book/specs/Sound.antt, of judging in book_judging/specs/Verdicts.antt, of teaching and withdrawing in
 -- book_teaching/specs/Whys.antt. Assumes nothing: these are definitions.
-use Rattle.std.specs.Prelude.{ℕ, ◌+◌, ◌-◌, ◌*◌, ◌≤◌, ◌<◌, ◌≡◌, List, [], ◌∷◌, ◌++◌, length, take, drop}
-use Rattle.std.proofs.Math.Option.{Option, none, some}
+use Rattle.std.specs.Prelude.{ℕ, ◌+◌, ◌-◌, ◌*◌, ◌≤◌, ◌<◌, ◌≡◌, List, [], ◌∷◌, ◌++◌, length, take, drop, Option, None, Some}
 use Rattle.words.specs.Base.{over}
 use Rattle.figures.specs.Limits.{head_words, most_book_words, least_k, greatest_k, greatest_count}
 use Rattle.figures.specs.Numbers.{done, k_outside, book_size, no_room, too_many, not_agreeing, no_form, short_output, no_mark, other_version}
@@ -96,18 +95,18 @@ pub data WhyPart (os out : List ℕ) (line k : ℕ) (w : PartWriting) : Type 0 w
 -- Why asking for a k tells x: "3: k outside 2 to 6".
 pub data WhyDepth (k : ℕ) (x : Answer × Option ℕ) : Type 0 where
   -- 3: "k outside 2 to 6": below
-  depth_below : x ≡ (answered k_outside, none) → k < least_k → WhyDepth k x
+  depth_below : x ≡ (answered k_outside, None) → k < least_k → WhyDepth k x
   -- 3: or above
-  depth_above : x ≡ (answered k_outside, none) → greatest_k < k → WhyDepth k x
+  depth_above : x ≡ (answered k_outside, None) → greatest_k < k → WhyDepth k x
   -- 0: "k is 2 to 6", and it is that k
-  depth_allowed : x ≡ (answered done, some k) → least_k ≤ k → k ≤ greatest_k → WhyDepth k x
+  depth_allowed : x ≡ (answered done, Some k) → least_k ≤ k → k ≤ greatest_k → WhyDepth k x
 
 -- Why a look at a book's form tells x: 4 and 5.
 pub data WhyLooked (ws : List ℕ) (x : Answer × Option Places) : Type 0 where
   -- 4 and 5, by the form: no places
-  look_no_book : (n : ℕ) → x ≡ (answered n, none) → WhyForm ws (Refused n) → WhyLooked ws x
+  look_no_book : (n : ℕ) → x ≡ (answered n, None) → WhyForm ws (Refused n) → WhyLooked ws x
   -- 0: a book, and where its sections start
-  look_book : (b : Book) → x ≡ (answered done, some (places_of b)) → IsBook ws b → WhyLooked ws x
+  look_book : (b : Book) → x ≡ (answered done, Some (places_of b)) → IsBook ws b → WhyLooked ws x
 
 -- Why opening at k answers and leaves the words as o has them: "Open: 4, 3."
 pub data WhyOpened (ws : List ℕ) (k : ℕ) (o : Outcome) : Type 0 where

@@ -92,9 +92,9 @@ use Rattle.desk_step.proofs.step.Met as desk-step-met
 use Rattle.figures.specs.contracts.depths.Depth.new as depth-new
 use Rattle.figures.proofs.depths.Depth.new.Statement as depth-new-statement
 use Rattle.figures.proofs.depths.Depth.new.Met as depth-new-met
-use Rattle.figures.specs.contracts.depths.Asked.number as asked-number
-use Rattle.figures.proofs.depths.Asked.number.Statement as asked-number-statement
-use Rattle.figures.proofs.depths.Asked.number.Met as asked-number-met
+use Rattle.figures.specs.contracts.depths.asked_number as asked-number
+use Rattle.figures.proofs.depths.asked_number.Statement as asked-number-statement
+use Rattle.figures.proofs.depths.asked_number.Met as asked-number-met
 use Rattle.figures.specs.contracts.depths.Depth.value as depth-value
 use Rattle.figures.proofs.depths.Depth.value.Statement as depth-value-statement
 use Rattle.figures.proofs.depths.Depth.value.Met as depth-value-met
@@ -192,7 +192,7 @@ module _ {M : Type 1} where
   pub depth-new_meets : depth-new-statement.statement M
   depth-new_meets = depth-new-met.met
 
-  -- `figures::Asked::number`
+  -- `figures::asked_number`
   pub asked_number_meets : asked-number-statement.statement M
   asked_number_meets = asked-number-met.met
 
@@ -322,7 +322,7 @@ module _ {M : Type 1} {𝓤 : Ura.Ura M} (𝓛 : Logic 𝓤) (mem : Memory.Memor
       (c.ghost ≡ Unit {0}) × (c.requires g ≡ ⊤ₛ) × (c.ensures g r ≡ exits 𝓛 depth-new.signature (depth-new.ended).kept κs args (λ end. ⌜ r ≡ depth_of args.0 ⌝))
   depth-new_says κs args g r = (refl, refl, refl)
 
-  -- `figures::Asked::number`
+  -- `figures::asked_number`
   pub asked_number_says : (κs args g r : _) → let c = asked-number.spec 𝓛 mem run κs args in
       (c.ghost ≡ Unit {0}) × (c.requires g ≡ ⊤ₛ) × (c.ensures g r ≡ exits 𝓛 asked-number.signature (asked-number.ended).kept κs args (λ end. ⌜ r ≡ number_of args.0 ⌝))
   asked_number_says κs args g r = (refl, refl, refl)

@@ -5,7 +5,7 @@
 //   cut LINE D ROOM W W ..   its cut at D, written to an output of so many words
 //   part LINE K ROOM W W ..  the part that the line stands for at K, likewise
 // The call of `subtree` is made through the function for C (`ofb`); there is none for the others.
-use figures::{Asked, Depth};
+use figures::{Depth, asked_number};
 use order::Kind;
 use runs_kit::{lent, say, wide};
 use std::io;
@@ -21,7 +21,7 @@ pub fn k(rt: &impl Print, given: &[u16]) -> io::Result<()> {
     if given.len() != 1 {
         return say::not_understood(rt);
     }
-    say::word(rt, Depth::new(given[0]).number())
+    say::word(rt, asked_number(Depth::new(given[0])))
 }
 
 // Runs a case of `subtree`: says the tree at the place that is answered, or that this is no place in the order.
@@ -98,7 +98,7 @@ pub fn part(rt: &impl Print, given: &[u16]) -> io::Result<()> {
     if given.len() < 3 {
         return say::not_understood(rt);
     }
-    let Asked::Allowed(k) = Depth::new(given[1]) else {
+    let Some(k) = Depth::new(given[1]) else {
         return say::not_understood(rt);
     };
     let line = wide::number(given[0]);

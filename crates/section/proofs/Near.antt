@@ -1,5 +1,7 @@
 -- A search that ends at the first entry not below the key says of its neighbours what the whole section says, if the keys ascend; and how great these figures
 -- are. Assumes nothing.
+use Rattle.std.specs.declared.cmp.Ordering.{Ordering}
+use Rattle.std.specs.declared.cmp.Ordering.TheVariants.{Less, Equal, Greater}
 use Prim.Native.Nat.{ℕ, suc, ◌+◌, ◌<◌, ◌≤◌}
 use mathlib.Core.Path.{◌≡◌, refl, sym, ap, subst, ◌∙◌}
 use mathlib.Core.Bool.{Bool, true, false}
@@ -8,8 +10,6 @@ use native.Mathlib.Omega.{arith}
 use lib.ListN.{length}
 use Rattle.words.specs.Base.{when◌then◌else◌, keep}
 use Rattle.words.specs.Compare.{compare_of, before}
-use Rattle.words.specs.declared.Compared.{Compared}
-use Rattle.words.specs.declared.Compared.TheVariants.{Lower, Equal, Higher}
 use Rattle.words.proofs.Differences.{size-most_first}
 use Rattle.words.proofs.Ordered.{flip, compare_equal, compare_flip}
 use Rattle.section.specs.Entries.{Entry, section_words, has, by_compared, place_in, look, Below, Sorted}
@@ -25,7 +25,7 @@ use Rattle.section.proofs.Searches.{has-lower, has_equal, has-higher}
 
 module _ (key : List ℕ) (e : Entry) (es : List Entry) where
   -- A lower entry is one of those below.
-  pub lower-is_below : compare_of e.key key ≡ Lower → entries_below key (e ∷ es) ≡ e ∷ entries_below key es
+  pub lower-is_below : compare_of e.key key ≡ Less → entries_below key (e ∷ es) ≡ e ∷ entries_below key es
   unfolding entries_below keep when◌then◌else◌ before
   lower-is_below c = rw c
 
@@ -35,17 +35,17 @@ module _ (key : List ℕ) (e : Entry) (es : List Entry) where
   equal_not_below c = rw c
 
   -- Nor is a higher one.
-  pub higher_not_below : compare_of e.key key ≡ Higher → entries_below key (e ∷ es) ≡ entries_below key es
+  pub higher_not_below : compare_of e.key key ≡ Greater → entries_below key (e ∷ es) ≡ entries_below key es
   unfolding entries_below keep when◌then◌else◌ before
   higher_not_below c = rw c
 
   -- A higher entry is one of those above.
-  pub higher_is-above : compare_of e.key key ≡ Higher → entries_above key (e ∷ es) ≡ e ∷ entries_above key es
+  pub higher_is-above : compare_of e.key key ≡ Greater → entries_above key (e ∷ es) ≡ e ∷ entries_above key es
   unfolding entries_above keep when◌then◌else◌ before
   higher_is-above c = rw (compare_flip e.key key, c)
 
   -- A lower one is not.
-  pub lower-not_above : compare_of e.key key ≡ Lower → entries_above key (e ∷ es) ≡ entries_above key es
+  pub lower-not_above : compare_of e.key key ≡ Less → entries_above key (e ∷ es) ≡ entries_above key es
   unfolding entries_above keep when◌then◌else◌ before
   lower-not_above c = rw (compare_flip e.key key, c)
 
@@ -75,7 +75,7 @@ near_none n p key = ap (λ (m : ℕ). near m false p 0) (omega arith)
 
 module _ (n p : ℕ) (key : List ℕ) (e : Entry) (es : List Entry) where
   -- A lower entry is one more below, and the last so far.
-  near-lower : compare_of e.key key ≡ Lower → near_from (suc n) (place_in key e) key es ≡ near_from n p key (e ∷ es)
+  near-lower : compare_of e.key key ≡ Less → near_from (suc n) (place_in key e) key es ≡ near_from n p key (e ∷ es)
   unfolding near_from last_place
   near-lower c =
       let one : suc n + length (entries_below key es) ≡ n + suc (length (entries_below key es)) = omega arith in
@@ -89,7 +89,7 @@ module _ (n p : ℕ) (key : List ℕ) (e : Entry) (es : List Entry) where
       rw (has_equal e es key c, equal_not_below key e es c, none_below key es later s.2) (ap (λ (m : ℕ). near m true 0 0) (omega arith))
 
   -- A higher entry is the first above, and none from it on stands below.
-  near-higher : Sorted (e ∷ es) → compare_of e.key key ≡ Higher → near n false p (place_in key e) ≡ near_from n p key (e ∷ es)
+  near-higher : Sorted (e ∷ es) → compare_of e.key key ≡ Greater → near n false p (place_in key e) ≡ near_from n p key (e ∷ es)
   unfolding near_from when◌then◌else◌ last_place first_place Below
   near-higher s c =
       let none = none_below key (e ∷ es) (compare_flip e.key key ∙ ap flip c) s in
@@ -104,11 +104,11 @@ near-from key at n p [] s = near_none n p key
 near-from key at n p (e ∷ es) s = go (compare_of e.key key) refl (near-from key (at + (2 + length e.key)) (suc n) (place_in key e) es s.2)
   where
     -- By how the first entry stands to the key.
-    go : (o : Compared) → compare_of e.key key ≡ o → near_in (look key (at + (2 + length e.key)) (suc n) (place_in key e) es) ≡ near_from (suc n) (place_in key e) key es
+    go : (o : Ordering) → compare_of e.key key ≡ o → near_in (look key (at + (2 + length e.key)) (suc n) (place_in key e) es) ≡ near_from (suc n) (place_in key e) key es
         → near_in (by_compared o (look key (at + (2 + length e.key)) (suc n) (place_in key e) es) (At at n) (Absent at n p (place_in key e))) ≡ near_from n p key (e ∷ es)
-    go Lower c later = later ∙ near-lower n p key e es c
+    go Less c later = later ∙ near-lower n p key e es c
     go Equal c later = near-equal n p key e es s c
-    go Higher c later = near-higher n p key e es s c
+    go Greater c later = near-higher n p key e es s c
 
 -- What a section says of a key's neighbours says whether some entry has the key.
 pub near-there : (key : List ℕ) (es : List Entry) → (near_of key es).there ≡ has key es
@@ -142,10 +142,10 @@ below-few key [] = unfold entries_below keep in omega arith
 below-few key (e ∷ es) = go (compare_of e.key key) refl (below-few key es)
   where
     -- By how the first entry stands.
-    go : (o : Compared) → compare_of e.key key ≡ o → length (entries_below key es) ≤ length (section_words es) → length (entries_below key (e ∷ es)) ≤ length (section_words (e ∷ es))
-    go Lower c ih = rw (lower-is_below key e es c, size-first e es) (omega arith)
+    go : (o : Ordering) → compare_of e.key key ≡ o → length (entries_below key es) ≤ length (section_words es) → length (entries_below key (e ∷ es)) ≤ length (section_words (e ∷ es))
+    go Less c ih = rw (lower-is_below key e es c, size-first e es) (omega arith)
     go Equal c ih = rw (equal_not_below key e es c, size-first e es) (omega arith)
-    go Higher c ih = rw (higher_not_below key e es c, size-first e es) (omega arith)
+    go Greater c ih = rw (higher_not_below key e es c, size-first e es) (omega arith)
 
 -- The place for the last entry below is small if the one before the first is.
 low-few : (m p : ℕ) (key : List ℕ) (es : List Entry) → p ≤ m → suc (length (section_words es)) ≤ m → last_place p key (entries_below key es) ≤ m
@@ -157,11 +157,11 @@ low-few m p key (e ∷ es) h k = go (compare_of e.key key) refl (low-few m (plac
     rest = omega (arith, size-first e es)
 
     -- By how the first entry stands.
-    go : (o : Compared) → compare_of e.key key ≡ o → last_place (place_in key e) key (entries_below key es) ≤ m → last_place p key (entries_below key es) ≤ m
+    go : (o : Ordering) → compare_of e.key key ≡ o → last_place (place_in key e) key (entries_below key es) ≤ m → last_place p key (entries_below key es) ≤ m
         → last_place p key (entries_below key (e ∷ es)) ≤ m
-    go Lower c one two = rw (lower-is_below key e es c) (unfold last_place in one)
+    go Less c one two = rw (lower-is_below key e es c) (unfold last_place in one)
     go Equal c one two = rw (equal_not_below key e es c) two
-    go Higher c one two = rw (higher_not_below key e es c) two
+    go Greater c one two = rw (higher_not_below key e es c) two
 
 -- So is the place for the first above.
 high-few : (key : List ℕ) (es : List Entry) → first_place key (entries_above key es) ≤ suc (length (section_words es))
@@ -169,11 +169,11 @@ high-few key [] = unfold entries_above keep first_place in omega arith
 high-few key (e ∷ es) = go (compare_of e.key key) refl (high-few key es)
   where
     -- By how the first entry stands.
-    go : (o : Compared) → compare_of e.key key ≡ o → first_place key (entries_above key es) ≤ suc (length (section_words es))
+    go : (o : Ordering) → compare_of e.key key ≡ o → first_place key (entries_above key es) ≤ suc (length (section_words es))
         → first_place key (entries_above key (e ∷ es)) ≤ suc (length (section_words (e ∷ es)))
-    go Lower c ih = rw (lower-not_above key e es c, size-first e es) (omega arith)
+    go Less c ih = rw (lower-not_above key e es c, size-first e es) (omega arith)
     go Equal c ih = rw (equal_not_above key e es c, size-first e es) (omega arith)
-    go Higher c ih = rw (higher_is-above key e es c, size-first e es) (unfold first_place in omega (arith, place-most key e))
+    go Greater c ih = rw (higher_is-above key e es c, size-first e es) (unfold first_place in omega (arith, place-most key e))
 
 -- Where there are none they are.
 pub nowhere-small : (n : ℕ) → 0 < n → Small n nowhere

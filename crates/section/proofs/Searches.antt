@@ -1,4 +1,6 @@
 -- What a search finds: by each of its turns, and the place that it gives where no entry has the key. Assumes nothing.
+use Rattle.std.specs.declared.cmp.Ordering.{Ordering}
+use Rattle.std.specs.declared.cmp.Ordering.TheVariants.{Less, Equal, Greater}
 use Prim.Native.Nat.{ℕ, zero, suc, ◌+◌, ◌-◌, ◌*◌, ◌<◌, ◌≤◌}
 use mathlib.Core.Path.{◌≡◌, refl, ap, ◌∙◌}
 use mathlib.Core.Bool.{true, false}
@@ -10,8 +12,6 @@ use native.Mathlib.Omega.{arith}
 use lib.ListN.{length, get_or, take, drop, length-append}
 use Rattle.words.specs.Base.{when◌then◌else◌, ◌∈◌}
 use Rattle.words.specs.Compare.{compare_of, ◌≺◌, signed_of, size_of}
-use Rattle.words.specs.declared.Compared.{Compared}
-use Rattle.words.specs.declared.Compared.TheVariants.{Lower, Equal, Higher}
 use Rattle.words.proofs.Ordered.{compare_equal, compare_flip}
 use Rattle.words.proofs.Tests.{same-words, never}
 use Rattle.section.specs.Entries.{Entry, section_words, entries, span, has, by_compared, place_in, look, Below, Sorted}
@@ -24,7 +24,7 @@ use Rattle.section.proofs.Counts.{lower-differs, below-lacks}
 -- ---- one turn of a search
 
 -- Past a lower entry the key is still to be found.
-pub has-lower : (e : Entry) (es : List Entry) (key : List ℕ) → compare_of e.key key ≡ Lower → has key (e ∷ es) ≡ has key es
+pub has-lower : (e : Entry) (es : List Entry) (key : List ℕ) → compare_of e.key key ≡ Less → has key (e ∷ es) ≡ has key es
 unfolding has when◌then◌else◌
 has-lower e es key h = rw (lower-differs e.key key h)
 
@@ -34,7 +34,7 @@ unfolding has when◌then◌else◌
 has_equal e es key h = rw (compare_equal e.key key h, same-words key)
 
 -- From a higher entry on no entry has the key.
-pub has-higher : (e : Entry) (es : List Entry) (key : List ℕ) → Sorted (e ∷ es) → compare_of e.key key ≡ Higher → has key (e ∷ es) ≡ false
+pub has-higher : (e : Entry) (es : List Entry) (key : List ℕ) → Sorted (e ∷ es) → compare_of e.key key ≡ Greater → has key (e ∷ es) ≡ false
 unfolding Below
 has-higher e es key s h = below-lacks key (e ∷ es) (compare_flip e.key key ∙ rw h) s
 
@@ -56,13 +56,13 @@ look-gap key at n l p m r u [] h =
     record { front = []; back = []; is = refl; place = let z : at ≡ p = cc in omega arith; below = λ e m. absurd (Memᴰ.not-nil m); above = tt }
 look-gap key at n l p m r u (e ∷ es) h = go (compare_of e.key key) refl h (look-gap key (at + (2 + length e.key)) (suc n) (place_in key e) p m r u es)
   where
-    first : (r : List Entry) → compare_of e.key key ≡ Lower → ((f : Entry) → f ∈ r → f.key ≺ key) → (f : Entry) → f ∈ e ∷ r → f.key ≺ key
+    first : (r : List Entry) → compare_of e.key key ≡ Less → ((f : Entry) → f ∈ r → f.key ≺ key) → (f : Entry) → f ∈ e ∷ r → f.key ≺ key
     first r c later f (here q) = rw q c
     first r c later f (there m) = later f m
 
-    go : (o : Compared) → compare_of e.key key ≡ o → by_compared o (look key (at + (2 + length e.key)) (suc n) (place_in key e) es) (At at n) (Absent at n l (place_in key e)) ≡ Absent p m r u
+    go : (o : Ordering) → compare_of e.key key ≡ o → by_compared o (look key (at + (2 + length e.key)) (suc n) (place_in key e) es) (At at n) (Absent at n l (place_in key e)) ≡ Absent p m r u
         → (look key (at + (2 + length e.key)) (suc n) (place_in key e) es ≡ Absent p m r u → Gap key (at + (2 + length e.key)) p es) → Gap key at p (e ∷ es)
-    go Lower c q later =
+    go Less c q later =
         let i = later q in
         record {
           front = e ∷ i.front;
@@ -73,7 +73,7 @@ look-gap key at n l p m r u (e ∷ es) h = go (compare_of e.key key) refl h (loo
           above = i.above;
         }
     go Equal c q later = never cc
-    go Higher c q later = record {
+    go Greater c q later = record {
       front = [];
       back = e ∷ es;
       is = refl;
@@ -135,7 +135,7 @@ module _ (book key : List ℕ) (from many last at left : ℕ) (s : Searched book
     searched_turn = s.found ∙ look_at book at left end more ends key _ _ (omega (arith, searched_room))
 
     -- A lower one is passed.
-    pub searched_past : compare_of (take (end - (at + 2)) (drop (at + 2) book)) key ≡ Lower → Searched book key from many at end (left - 1)
+    pub searched_past : compare_of (take (end - (at + 2)) (drop (at + 2) book)) key ≡ Less → Searched book key from many at end (left - 1)
     searched_past c =
         let one : many - (left - 1) ≡ suc (many - left) = omega (arith, s.fewer) in
         record {
@@ -150,7 +150,7 @@ module _ (book key : List ℕ) (from many last at left : ℕ) (s : Searched book
     searched_here c = rw c at searched_turn
 
     -- At a higher one the search ends.
-    pub searched_above : compare_of (take (end - (at + 2)) (drop (at + 2) book)) key ≡ Higher
+    pub searched_above : compare_of (take (end - (at + 2)) (drop (at + 2) book)) key ≡ Greater
         → look key from 0 0 (entries many (drop from book)) ≡ Absent at (many - left) (place_at key book last (many - left)) (place_at key book at left)
     searched_above c = rw (place-first key book at left end more ends) (rw c at searched_turn)
 

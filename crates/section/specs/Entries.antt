@@ -1,10 +1,10 @@
 -- A section of the book (01, "The book"): counted entries, their words, the entries that words hold, where one stands, and the edits of
 -- teaching and withdrawing. A key is a tree's words; that it is a tree is not known here. Assumes nothing: these are definitions.
+use Rattle.std.specs.declared.cmp.Ordering.{Ordering}
+use Rattle.std.specs.declared.cmp.Ordering.TheVariants.{Less, Equal, Greater}
 use Rattle.std.specs.Prelude.{ℕ, zero, suc, ◌+◌, ◌*◌, ◌-◌, ◌/◌, ◌≤◌, Bool, true, false, List, [], ◌∷◌, ◌++◌, ◌≡◌, leb, length, get_or, take, drop}
 use Rattle.words.specs.Base.{when◌then◌else◌, same_words}
 use Rattle.words.specs.Compare.{compare_of, ◌≺◌, signed_of, size_of}
-use Rattle.words.specs.declared.Compared.{Compared}
-use Rattle.words.specs.declared.Compared.TheVariants.{Lower, Equal, Higher}
 use Rattle.section.specs.declared.Found.{Found}
 use Rattle.section.specs.declared.Found.TheVariants.{At, Absent}
 
@@ -89,10 +89,10 @@ Sorted (e ∷ es) = (1 ≤ e.count) × Below e.key es × Sorted es
 -- ---- edits
 
 -- One of three, by how one key stands to another.
-abbrev pub by_compared : {A : Type 0} → Compared → A → A → A → A
-by_compared Lower a b c = a
+abbrev pub by_compared : {A : Type 0} → Ordering → A → A → A → A
+by_compared Less a b c = a
 by_compared Equal a b c = b
-by_compared Higher a b c = c
+by_compared Greater a b c = c
 
 -- "the place of the first differing word" of an entry's tree and a key, counted from 1 over the tree's words; 0 where they are the same.
 abbrev pub place_in : List ℕ → Entry → ℕ

@@ -6,7 +6,7 @@ ghost use Rattle.std.specs.Prelude.{◌≡◌, ◌+◌, ◌*◌, ◌≤◌, ◌<
 ghost use Rattle.section.specs.Entries.{entries, span, look};
 ghost use Rattle.section.specs.Near.{near_in, place_at, SearchedTo};
 
-use words::Compared;
+use std::cmp::Ordering;
 
 // Where a key's entry stands or would stand, and how many entries stand below it; for a key that has none, the place of the first word, counted
 // from 1, in which it differs from the last entry below it and from the first above it, 0 where there is no such entry.
@@ -103,18 +103,18 @@ pub fn search(book: &[u16], from: usize, n: usize, key: &[u16]) -> Stop
         let start = at + 2;
         let end = past(book, at);
         match words::standing(&book[start..end], key) {
-            Compared::Lower => {
+            Ordering::Less => {
                 last = at;
                 at = end;
                 left -= 1;
             }
-            Compared::Equal => return Stop {
+            Ordering::Equal => return Stop {
                 there: true,
                 last,
                 at,
                 left,
             },
-            Compared::Higher => return Stop {
+            Ordering::Greater => return Stop {
                 there: false,
                 last,
                 at,

@@ -1,4 +1,6 @@
 -- A section added to another: that the sum is sorted, what it counts and takes, and what the first entries of both come to. Assumes nothing.
+use Rattle.std.specs.declared.cmp.Ordering.{Ordering}
+use Rattle.std.specs.declared.cmp.Ordering.TheVariants.{Equal, Greater}
 use Prim.Native.Nat.{ℕ, zero, suc, ◌+◌, ◌<◌, ◌≤◌}
 use mathlib.Core.Path.{◌≡◌, refl, ◌∙◌}
 use mathlib.Core.Bool.{true}
@@ -11,8 +13,6 @@ use lib.ListN.{length}
 use borrow.Author.Tests.{leb-true, le-leb}
 use Rattle.words.specs.Base.{◌∈◌}
 use Rattle.words.specs.Compare.{compare_of}
-use Rattle.words.specs.declared.Compared.{Compared}
-use Rattle.words.specs.declared.Compared.TheVariants.{Equal, Higher}
 use Rattle.words.proofs.Ordered.{compare_equal, compare_flip}
 use Rattle.words.proofs.Tests.{and_left, and_right, and_both}
 use Rattle.figures.specs.Limits.{greatest_count}
@@ -25,13 +25,13 @@ use Rattle.section.proofs.Sizes.{size-grows}
 -- ---- how a first entry stands to a key
 
 -- Where the first entry is higher than a key, or there is none, the key stands below all.
-pub against_below : (key : List ℕ) (es : List Entry) → first_against key es ≡ Higher → Below key es
+pub against_below : (key : List ℕ) (es : List Entry) → first_against key es ≡ Greater → Below key es
 unfolding Below
 against_below key [] h = tt
 against_below key (e ∷ es) h = compare_flip e.key key ∙ rw h
 
 -- An entry is left unless the answer is higher.
-pub against_some : (key ws : List ℕ) (left : ℕ) (o : Compared) → first_against key (entries left ws) ≡ o → (Higher ≡ o → ⊥) → 0 < left
+pub against_some : (key ws : List ℕ) (left : ℕ) (o : Ordering) → first_against key (entries left ws) ≡ o → (Greater ≡ o → ⊥) → 0 < left
 unfolding entries
 against_some key ws zero o e other = absurd (other e)
 against_some key ws (suc left) o e other = omega arith

@@ -1,5 +1,7 @@
 -- The turns of a pass that adds the entries of another section to a part's, by how the first entry left stands to the other's first key: in
 -- words that get more with each entry, and then in a book with a gap for all that is lacking. Assumes nothing.
+use Rattle.std.specs.declared.cmp.Ordering.{Ordering}
+use Rattle.std.specs.declared.cmp.Ordering.TheVariants.{Less, Equal, Greater}
 use Prim.Native.Nat.{ℕ, ◌+◌, ◌*◌, ◌-◌, ◌≤◌, ◌<◌}
 use mathlib.Core.Path.{◌≡◌, refl, sym, ap, ◌∙◌}
 use mathlib.Core.Bool.{true}
@@ -10,8 +12,6 @@ use native.Mathlib.Omega.{arith}
 use lib.ListN.{length, get_or, set, take, drop, length-append, length-set, length-take, length-drop}
 use borrow.Rule.Slice.PartMut.{put_mid}
 use Rattle.words.proofs.Tests.{never}
-use Rattle.words.specs.declared.Compared.{Compared}
-use Rattle.words.specs.declared.Compared.TheVariants.{Lower, Equal, Higher}
 use Rattle.words.proofs.Ordered.{compare_equal}
 use Rattle.words.proofs.Shifts.{tail_all, tail_back}
 use Rattle.figures.specs.Limits.{greatest_count}
@@ -116,18 +116,18 @@ module _ (ws : List ℕ) (n used : ℕ) (other : List ℕ) (more : ℕ) where
       pass_inside = omega (arith, p.inside, span-at other from rest end some ends)
 
       -- The answer is that of the entries left.
-      answer : {o : Compared} → first_against first.key (entries left (drop at book)) ≡ o → first_against first.key p.next ≡ o
+      answer : {o : Ordering} → first_against first.key (entries left (drop at book)) ≡ o → first_against first.key p.next ≡ o
       answer c = rw (reached-entries p.passed p.next (behind n used ws) book at left uses count p.stands) at c
 
       -- The first entry left is lower: it stays.
-      pass_lower : first_against first.key (entries left (drop at book)) ≡ Lower → (past : ℕ) → past ≡ at + 2 + 2 * get_or book at 0
+      pass_lower : first_against first.key (entries left (drop at book)) ≡ Less → (past : ℕ) → past ≡ at + 2 + 2 * get_or book at 0
           → Pass ws n used other more book past (left - 1) from rest uses count lacking
       unfolding Sorted Below
       pass_lower c past is = go p.next p.stands p.sorted p.goes p.lacks (answer c)
         where
           go : (next : List Entry) → Reached p.passed next (behind n used ws) book at left uses count → Sorted next
               → add_all (entries more other) (entries n ws) ≡ p.passed ++ add_all (entries rest (drop from other)) next → lacking ≡ lacking_words (entries rest (drop from other)) next
-              → first_against first.key next ≡ Lower → Pass ws n used other more book past (left - 1) from rest uses count lacking
+              → first_against first.key next ≡ Less → Pass ws n used other more book past (left - 1) from rest uses count lacking
           go [] b s g l d = never cc
           go (e ∷ next) b s g l d = record {
             passed = p.passed ++ (e ∷ []);
@@ -182,7 +182,7 @@ module _ (ws : List ℕ) (n used : ℕ) (other : List ℕ) (more : ℕ) where
               }
 
       -- It is higher, or none is left.
-      module _ (c : first_against first.key (entries left (drop at book)) ≡ Higher) where
+      module _ (c : first_against first.key (entries left (drop at book)) ≡ Greater) where
         -- The other's entry stands below all.
         above : Below first.key p.next
         above = against_below first.key p.next (answer c)
@@ -270,11 +270,11 @@ module _ (ws : List ℕ) (n used : ℕ) (other : List ℕ) (more lacking : ℕ) 
       key = take (end - (from + 2)) (drop (from + 2) other)
 
       -- An answer about the book is one about the words but for the gap.
-      told : {o : Compared} → first_against key (entries left (drop at book)) ≡ o → first_against key (entries left (drop (to + (at - kept)) words)) ≡ o
+      told : {o : Ordering} → first_against key (entries left (drop at book)) ≡ o → first_against key (entries left (drop (to + (at - kept)) words)) ≡ o
       told c = rw (shut_rest (length ws) book to kept at s.gap) c
 
       -- The first entry left is lower: it stays.
-      pub adds_lower : first_against key (entries left (drop at book)) ≡ Lower → 0 < left → (past : ℕ) → past ≡ at + 2 + 2 * get_or book at 0
+      pub adds_lower : first_against key (entries left (drop at book)) ≡ Less → 0 < left → (past : ℕ) → past ≡ at + 2 + 2 * get_or book at 0
           → Adds ws n used other more lacking book to kept past (left - 1) from rest count
       adds_lower c h past is =
           let g = s.gap in
@@ -322,11 +322,11 @@ module _ (ws : List ℕ) (n used : ℕ) (other : List ℕ) (more lacking : ℕ) 
             }
 
       -- It is higher, or none is left: the gap has room for the other's entry.
-      pub adds_room : first_against key (entries left (drop at book)) ≡ Higher → to + (end - from) ≤ kept
+      pub adds_room : first_against key (entries left (drop at book)) ≡ Greater → to + (end - from) ≤ kept
       adds_room c = omega (arith, pass_lacks ws n used other more words _ _ _ _ _ _ _ s.pass end some ends (told c), s.gap.low)
 
       -- It is entered.
-      pub adds_higher : first_against key (entries left (drop at book)) ≡ Higher → (book' : List ℕ) (to' : ℕ) → let entry = take (end - from) (drop from other) in
+      pub adds_higher : first_against key (entries left (drop at book)) ≡ Greater → (book' : List ℕ) (to' : ℕ) → let entry = take (end - from) (drop from other) in
           book' ≡ entered to kept at entry book → to' ≡ to + (at - kept) + length entry → length book' ≡ length book
           → Adds ws n used other more lacking book' to' at at left end (rest - 1) (count + 1)
       adds_higher c book' to' now is same =

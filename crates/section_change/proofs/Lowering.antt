@@ -1,5 +1,7 @@
 -- A section lowered by each key of another: what the first entries come to, and what stays so of order, counts and sizes; and the words
 -- once an entry has one less. Assumes nothing.
+use Rattle.std.specs.declared.cmp.Ordering.{Ordering}
+use Rattle.std.specs.declared.cmp.Ordering.TheVariants.{Less, Equal, Greater}
 use Prim.Native.Nat.{ℕ, ◌+◌, ◌*◌, ◌-◌, ◌≤◌, ◌<◌}
 use mathlib.Core.Path.{◌≡◌, refl, ◌∙◌}
 use mathlib.Core.Bool.{Bool, true, false}
@@ -10,8 +12,6 @@ use lib.ListN.{length, get_or, set}
 use borrow.Author.Tests.{leb-true, leb-false, le-leb, lt-leb}
 use Rattle.words.specs.Base.{when◌then◌else◌, same_words}
 use Rattle.words.specs.Compare.{compare_of}
-use Rattle.words.specs.declared.Compared.{Compared}
-use Rattle.words.specs.declared.Compared.TheVariants.{Lower, Equal, Higher}
 use Rattle.words.proofs.Ordered.{compare_self, compare_flip}
 use Rattle.words.proofs.Tests.{and_left, and_right, and_both, words_same, by_test}
 use Rattle.figures.specs.Limits.{greatest_count}
@@ -28,7 +28,7 @@ use Rattle.section.proofs.Sizes.{size-first}
 lower-below : (x : List ℕ) (es : List Entry) → Below x es → lower x es ≡ es
 unfolding Below lower
 lower-below x [] h = refl
-lower-below x (e ∷ es) h = let c : compare_of e.key x ≡ Higher = compare_flip x e.key ∙ rw h in rw c
+lower-below x (e ∷ es) h = let c : compare_of e.key x ≡ Greater = compare_flip x e.key ∙ rw h in rw c
 
 -- Lowering a key keeps every count at most 65,535.
 fitting-lower : (x : List ℕ) (es : List Entry) → fitting es ≡ true → fitting (lower x es) ≡ true
@@ -36,12 +36,12 @@ unfolding lower fitting
 fitting-lower x [] h = refl
 fitting-lower x (e ∷ es) h = go (compare_of e.key x) refl (leb e.count 1) refl (fitting-lower x es (and_right _ _ h))
   where
-    go : (o : Compared) → compare_of e.key x ≡ o → (b : Bool) → leb e.count 1 ≡ b → fitting (lower x es) ≡ true → fitting (lower x (e ∷ es)) ≡ true
-    go Lower c b t ih = rw c (and_both (and_left _ _ h) ih)
+    go : (o : Ordering) → compare_of e.key x ≡ o → (b : Bool) → leb e.count 1 ≡ b → fitting (lower x es) ≡ true → fitting (lower x (e ∷ es)) ≡ true
+    go Less c b t ih = rw c (and_both (and_left _ _ h) ih)
     go Equal c true t ih = rw (c, lessened-out e es t) (and_right _ _ h)
     go Equal c false t ih =
         rw (c, lessened-left e es t) (and_both (le-leb (e.count - 1) greatest_count (omega (arith, leb-true e.count greatest_count (and_left _ _ h)))) (and_right _ _ h))
-    go Higher c b t ih = rw c h
+    go Greater c b t ih = rw c h
 
 -- Lowering a key never takes more words.
 size-lower : (x : List ℕ) (es : List Entry) → length (section_words (lower x es)) ≤ length (section_words es)
@@ -49,12 +49,12 @@ unfolding lower
 size-lower x [] = omega arith
 size-lower x (e ∷ es) = go (compare_of e.key x) refl (leb e.count 1) refl (size-lower x es)
   where
-    go : (o : Compared) → compare_of e.key x ≡ o → (b : Bool) → leb e.count 1 ≡ b → length (section_words (lower x es)) ≤ length (section_words es)
+    go : (o : Ordering) → compare_of e.key x ≡ o → (b : Bool) → leb e.count 1 ≡ b → length (section_words (lower x es)) ≤ length (section_words es)
         → length (section_words (lower x (e ∷ es))) ≤ length (section_words (e ∷ es))
-    go Lower c b t ih = rw c (omega (arith, size-first e es, size-first e (lower x es)))
+    go Less c b t ih = rw c (omega (arith, size-first e es, size-first e (lower x es)))
     go Equal c true t ih = rw (c, lessened-out e es t) (omega (arith, size-first e es))
     go Equal c false t ih = rw (c, lessened-left e es t) (omega (arith, size-first e es, size-first (counted e.key (e.count - 1)) es))
-    go Higher c b t ih = rw c (omega arith)
+    go Greater c b t ih = rw c (omega arith)
 
 -- ---- what stays so
 

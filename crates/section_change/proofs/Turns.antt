@@ -1,5 +1,7 @@
 -- The turns of a pass that lowers a part's entries by those of another, by how the first entry left stands to the other's first key: in words
 -- that get fewer with each entry taken out, and then in a book with a gap. Assumes nothing.
+use Rattle.std.specs.declared.cmp.Ordering.{Ordering}
+use Rattle.std.specs.declared.cmp.Ordering.TheVariants.{Less, Equal, Greater}
 use Prim.Native.Nat.{ℕ, ◌+◌, ◌*◌, ◌-◌, ◌≤◌, ◌<◌}
 use mathlib.Core.Path.{◌≡◌, refl, sym, ap, ◌∙◌}
 use mathlib.Core.Bool.{Bool, true, false}
@@ -12,8 +14,6 @@ use lib.Seq.{get_or-drop}
 use borrow.Author.Tests.{leb-true, leb-false, le-leb, lt-leb}
 use borrow.Rule.Slice.PartMut.{put_mid}
 use Rattle.words.proofs.Tests.{never}
-use Rattle.words.specs.declared.Compared.{Compared}
-use Rattle.words.specs.declared.Compared.TheVariants.{Lower, Equal, Higher}
 use Rattle.words.proofs.Ordered.{compare_equal}
 use Rattle.words.proofs.Shifts.{tail_all, tail_back}
 use Rattle.section.specs.Entries.{Entry, counted, entries, span, Below, Sorted, lessened}
@@ -90,17 +90,17 @@ module _ (ws : List ℕ) (n used : ℕ) (other : List ℕ) (more : ℕ) where
       apart = entries_at other from rest end some ends
 
       -- The answer is that of the entries left.
-      answer : {o : Compared} → first_against key (entries left (drop at book)) ≡ o → first_against key t.next ≡ o
+      answer : {o : Ordering} → first_against key (entries left (drop at book)) ≡ o → first_against key t.next ≡ o
       answer c = rw (reached-entries t.passed t.next (behind n used ws) book at left kept count t.stands) at c
 
       -- The first entry left is lower: it stays.
-      turn_lower : first_against key (entries left (drop at book)) ≡ Lower → (past : ℕ) → past ≡ at + 2 + 2 * get_or book at 0
+      turn_lower : first_against key (entries left (drop at book)) ≡ Less → (past : ℕ) → past ≡ at + 2 + 2 * get_or book at 0
           → Turn ws n used other more book past (left - 1) from rest kept count
       unfolding Sorted Below
       turn_lower c past is = go t.next t.stands t.sorted t.goes (answer c)
         where
           go : (next : List Entry) → Reached t.passed next (behind n used ws) book at left kept count → Sorted next
-              → t.passed ++ lower_all (entries rest (drop from other)) next ≡ lower_all (entries more other) (entries n ws) → first_against key next ≡ Lower
+              → t.passed ++ lower_all (entries rest (drop from other)) next ≡ lower_all (entries more other) (entries n ws) → first_against key next ≡ Less
               → Turn ws n used other more book past (left - 1) from rest kept count
           go [] b s g d = never cc
           go (e ∷ next) b s g d = record {
@@ -144,7 +144,7 @@ module _ (ws : List ℕ) (n used : ℕ) (other : List ℕ) (more : ℕ) where
           }
 
       -- It is higher, or none is left: the other's entry changes nothing.
-      turn_higher : first_against key (entries left (drop at book)) ≡ Higher → Turn ws n used other more book at left end (rest - 1) kept count
+      turn_higher : first_against key (entries left (drop at book)) ≡ Greater → Turn ws n used other more book at left end (rest - 1) kept count
       turn_higher c =
           let o : Entry = record { key = key; count = get_or other (from + 1) 0 } in
           let os : List Entry = entries (rest - 1) (drop end other) in
@@ -209,12 +209,12 @@ module _ (ws : List ℕ) (n used : ℕ) (other : List ℕ) (more : ℕ) where
     -- The other's first entry of those left ends at `end`.
     module _ (end : ℕ) (some : 0 < rest) (ends : end ≡ from + 2 + 2 * get_or other from 0) where
       -- An answer about the book is one about the words but for the gap.
-      told : {o : Compared} → first_against (take (end - (from + 2)) (drop (from + 2) other)) (entries left (drop at book)) ≡ o
+      told : {o : Ordering} → first_against (take (end - (from + 2)) (drop (from + 2) other)) (entries left (drop at book)) ≡ o
           → first_against (take (end - (from + 2)) (drop (from + 2) other)) (entries left (drop (to + (at - kept)) words)) ≡ o
       told c = rw (shut_rest (length ws) book to kept at s.gap) c
 
       -- The first entry left is lower: it stays.
-      pub lowers_lower : first_against (take (end - (from + 2)) (drop (from + 2) other)) (entries left (drop at book)) ≡ Lower → 0 < left → (past : ℕ) → past ≡ at + 2 + 2 * get_or book at 0
+      pub lowers_lower : first_against (take (end - (from + 2)) (drop (from + 2) other)) (entries left (drop at book)) ≡ Less → 0 < left → (past : ℕ) → past ≡ at + 2 + 2 * get_or book at 0
           → Lowers ws n used other more book to kept past (left - 1) from rest count
       lowers_lower c h past is =
           let g = s.gap in
@@ -274,7 +274,7 @@ module _ (ws : List ℕ) (n used : ℕ) (other : List ℕ) (more : ℕ) where
               })
 
       -- It is higher, or none is left: the other's entry changes nothing.
-      pub lowers_higher : first_against (take (end - (from + 2)) (drop (from + 2) other)) (entries left (drop at book)) ≡ Higher
+      pub lowers_higher : first_against (take (end - (from + 2)) (drop (from + 2) other)) (entries left (drop at book)) ≡ Greater
           → Lowers ws n used other more book to kept at left end (rest - 1) count
       lowers_higher c =
           record { gap = s.gap; uses = s.uses; whole = s.whole; turn = turn_higher ws n used other more words _ _ _ _ _ _ s.turn end some ends (told c) }

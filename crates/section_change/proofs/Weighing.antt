@@ -1,5 +1,7 @@
 -- What a section's entries would do to another section: the turns of one pass over both, and what the words that are lacking and a count
 -- that would pass 65,535 say of the section that an addition would give. Assumes nothing.
+use Rattle.std.specs.declared.cmp.Ordering.{Ordering}
+use Rattle.std.specs.declared.cmp.Ordering.TheVariants.{Less, Equal, Greater}
 use Prim.Native.Nat.{ℕ, ◌+◌, ◌≤◌}
 use mathlib.Core.Path.{◌≡◌, refl, sym, ap₂, ◌∙◌}
 use mathlib.Core.Bool.{Bool, true, false, not}
@@ -13,8 +15,6 @@ use lib.ListN.{length}
 use borrow.Author.Tests.{leb-true, le-leb}
 use Rattle.words.specs.Base.{◌and◌, when◌then◌else◌, ◌∈◌}
 use Rattle.words.specs.Compare.{compare_of, ◌≺◌}
-use Rattle.words.specs.declared.Compared.{Compared}
-use Rattle.words.specs.declared.Compared.TheVariants.{Lower, Equal, Higher}
 use Rattle.words.proofs.Ordered.{compare_flip, compare_self, compare_equal}
 use Rattle.words.proofs.Tests.{and_right, by_test}
 use Rattle.figures.specs.Limits.{greatest_count}
@@ -114,11 +114,11 @@ fitting-add n x (e ∷ es) s = go (compare_of e.key x) refl (fitting-add n x es 
     more true t = unfold ◌and◌ in rw (le-leb e.count greatest_count (omega (arith, leb-true (e.count + n) greatest_count t)))
     more false t = unfold ◌and◌ in refl
 
-    go : (o : Compared) → compare_of e.key x ≡ o → fitting (add n x es) ≡ (leb (count_of x es + n) greatest_count and fitting es)
+    go : (o : Ordering) → compare_of e.key x ≡ o → fitting (add n x es) ≡ (leb (count_of x es + n) greatest_count and fitting es)
         → fitting (add n x (e ∷ es)) ≡ (leb (count_of x (e ∷ es) + n) greatest_count and fitting (e ∷ es))
-    go Lower c ih = rw (c, count-lower_first e es x c, ih) (swap (leb e.count greatest_count) (leb (count_of x es + n) greatest_count) (fitting es))
+    go Less c ih = rw (c, count-lower_first e es x c, ih) (swap (leb e.count greatest_count) (leb (count_of x es + n) greatest_count) (fitting es))
     go Equal c ih = rw (c, entry-count x {es = e ∷ es} s (here refl) (compare_equal e.key x c)) (more (leb (e.count + n) greatest_count) refl)
-    go Higher c ih = rw (c, below-absent x (e ∷ es) (compare_flip e.key x ∙ rw c) s, zero-add)
+    go Greater c ih = rw (c, below-absent x (e ∷ es) (compare_flip e.key x ∙ rw c) s, zero-add)
 
 -- What an addition would give fits just if no count would pass.
 pub overfull-fitting : (os es : List Entry) → Sorted os → Sorted es → fitting es ≡ true → fitting (add_all os es) ≡ not (overfull os es)

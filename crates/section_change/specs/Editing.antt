@@ -1,11 +1,11 @@
 -- Inner: no promise rests on these definitions but on `fitting`, with which 7 is said.
 -- A section changed by another one, whose keys ascend as well: what the other adds to it, what it takes from it, and what it would enter;
 -- and the words of a lent part whose first entries are changed. Assumes nothing: these are definitions.
+use Rattle.std.specs.declared.cmp.Ordering.{Ordering}
+use Rattle.std.specs.declared.cmp.Ordering.TheVariants.{Greater}
 use Rattle.std.specs.Prelude.{ℕ, ◌+◌, ◌*◌, ◌-◌, ◌≤◌, Bool, true, false, List, [], ◌∷◌, ◌++◌, ◌≡◌, leb, length, get_or, set, take, drop, replicate}
 use Rattle.words.specs.Base.{◌and◌, when◌then◌else◌}
 use Rattle.words.specs.Compare.{compare_of}
-use Rattle.words.specs.declared.Compared.{Compared}
-use Rattle.words.specs.declared.Compared.TheVariants.{Higher}
 use Rattle.figures.specs.Limits.{greatest_count}
 use Rattle.section.specs.Entries.{Entry, section_words, span, has, count_of, add, lower}
 use Rattle.section_change.specs.declared.Size.{Size}
@@ -44,8 +44,8 @@ abbrev pub weighed : List Entry → List Entry → Weighed
 weighed os es = record { lacking = lacking_words os es; overfull = overfull os es }
 
 -- How the first entry stands to a key; as higher where there is none.
-abbrev pub first_against : List ℕ → List Entry → Compared
-first_against key [] = Higher
+abbrev pub first_against : List ℕ → List Entry → Ordering
+first_against key [] = Greater
 first_against key (e ∷ es) = compare_of e.key key
 
 -- ---- words

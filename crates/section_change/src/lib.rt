@@ -12,7 +12,7 @@ ghost use Rattle.section_change.specs.Editing.{lessened_words, lessened_by};
 
 use figures::limits;
 use section::{past, search};
-use words::Compared;
+use std::cmp::Ordering;
 
 // How many words of a part are used, and how many entries stand at its front.
 #[derive(Clone, Copy)]
@@ -38,12 +38,12 @@ pub struct Lessened {
 }
 
 // How the first of the entries left, which stand from word `at` on, stands to a key; as higher where none is left.
-fn first_against(book: &[u16], at: usize, left: usize, key: &[u16]) -> Compared
+fn first_against(book: &[u16], at: usize, left: usize, key: &[u16]) -> Ordering
     requires { at + span left (drop at book.now) ≤ length book.now }
     ensures { result ≡ first_against key.now (entries left (drop at book.now)) }
 {
     if left == 0 {
-        return Compared::Higher;
+        return Ordering::Greater;
     }
     let start = at + 2;
     let end = past(book, at);
@@ -66,11 +66,11 @@ pub fn weigh(book: &[u16], many: usize, other: &[u16], more: usize) -> Weighed
         let start = from + 2;
         let end = past(other, from);
         match first_against(book, at, left, &other[start..end]) {
-            Compared::Lower => {
+            Ordering::Less => {
                 at = past(book, at);
                 left -= 1;
             }
-            Compared::Equal => {
+            Ordering::Equal => {
                 if limits::GREATEST_COUNT - other[from + 1] < book[at + 1] {
                     overfull = true;
                 }
@@ -79,7 +79,7 @@ pub fn weigh(book: &[u16], many: usize, other: &[u16], more: usize) -> Weighed
                 from = end;
                 rest -= 1;
             }
-            Compared::Higher => {
+            Ordering::Greater => {
                 lacking += end - from;
                 from = end;
                 rest -= 1;
@@ -182,18 +182,18 @@ pub fn add_all(
         let start = from + 2;
         let end = past(other, from);
         match first_against(book, at, left, &other[start..end]) {
-            Compared::Lower => {
+            Ordering::Less => {
                 at = past(book, at);
                 left -= 1;
             }
-            Compared::Equal => {
+            Ordering::Equal => {
                 raise(&mut book[at..], other[from + 1]);
                 at = past(book, at);
                 left -= 1;
                 from = end;
                 rest -= 1;
             }
-            Compared::Higher => {
+            Ordering::Greater => {
                 to = enter_behind(book, to, kept, at, &other[from..end]);
                 kept = at;
                 count += 1;
@@ -254,11 +254,11 @@ pub fn lower_all(book: &mut [u16], many: usize, used: usize, other: &[u16], more
         let start = from + 2;
         let end = past(other, from);
         match first_against(book, at, left, &other[start..end]) {
-            Compared::Lower => {
+            Ordering::Less => {
                 at = past(book, at);
                 left -= 1;
             }
-            Compared::Equal => {
+            Ordering::Equal => {
                 let less = lessen(book, to, kept, at);
                 to = less.to;
                 kept = less.kept;
@@ -268,7 +268,7 @@ pub fn lower_all(book: &mut [u16], many: usize, used: usize, other: &[u16], more
                 from = end;
                 rest -= 1;
             }
-            Compared::Higher => {
+            Ordering::Greater => {
                 from = end;
                 rest -= 1;
             }

@@ -1,4 +1,6 @@
 -- Which entry a search by halving finds, and the turns of tallying counts and of comparing them. Assumes nothing.
+use Rattle.std.specs.Prelude.{None, Option, Some}
+use Rattle.std.specs.declared.cmp.Ordering.TheVariants.{Equal, Greater}
 use Prim.Native.Nat.{ℕ, zero, suc, ◌+◌, ◌≤◌, ◌<◌}
 use mathlib.Core.Path.{◌≡◌, refl, sym, ap, ◌∙◌}
 use mathlib.Core.Bool.{Bool, true, false}
@@ -16,14 +18,11 @@ use lib.Seq.{drop-cons, get_or-drop}
 use borrow.Author.Tests.{eq-eqb, ne_eqb}
 use Rattle.words.specs.Base.{◌and◌, when◌then◌else◌, same_words, ◌∈◌}
 use Rattle.words.specs.Compare.{compare_of, ◌≺◌}
-use Rattle.words.specs.declared.Compared.TheVariants.{Equal, Higher}
 use Rattle.words.proofs.Ordered.{≺-trans, compare_equal, compare_flip}
 use Rattle.words.proofs.Tests.{no_test, and_left, and_right, and_both, same-words, words_same, fails_left, by_test, never}
 use Rattle.section.specs.Entries.{Entry, counted, has, Below, Sorted}
 use Rattle.section.proofs.Counts.{lower-differs, below-trans, has-entry, entry_has}
 use Rattle.section_tally.specs.Tallying.{listed, sought_in, has_all, on_each, tallied, marked, Unmarked, on_one, same_counts}
-use Rattle.section_tally.specs.declared.EntryFound.{EntryFound}
-use Rattle.section_tally.specs.declared.EntryFound.TheVariants.{Missing, Number}
 
 -- ---- equal counts
 
@@ -78,7 +77,7 @@ ascending (e ∷ es) s zero (suc j) l h = below_all e.key es s.1 s.2 j (omega ar
 ascending (e ∷ es) s (suc i) (suc j) l h = ascending es s.2 i j (omega arith) (omega arith)
 
 -- Where no entry has the key it is missing.
-sought_missing : (key : List ℕ) (es : List Entry) → ((i : ℕ) → i < length es → same_words (key_at es i) key ≡ false) → sought_in key es ≡ Missing
+sought_missing : (key : List ℕ) (es : List Entry) → ((i : ℕ) → i < length es → same_words (key_at es i) key ≡ false) → sought_in key es ≡ None
 unfolding sought_in when◌then◌else◌
 sought_missing key [] h = refl
 sought_missing key (e ∷ es) h =
@@ -87,7 +86,7 @@ sought_missing key (e ∷ es) h =
 
 -- Where the i-th entry has the key and none before it does, that is the one.
 sought_number : (key : List ℕ) (es : List Entry) (i : ℕ) → i < length es → key_at es i ≡ key → ((j : ℕ) → j < i → same_words (key_at es j) key ≡ false)
-    → sought_in key es ≡ Number i
+    → sought_in key es ≡ Some i
 unfolding sought_in when◌then◌else◌
 sought_number key [] i h is others = absurd (not-suc-le-zero h)
 sought_number key (e ∷ es) zero h is others = let first : same_words e.key key ≡ true = rw is (same-words key) in rw first
@@ -109,7 +108,7 @@ module _ (key : List ℕ) (es : List Entry) where
   between_all = record { ordered = omega arith; within = omega arith; lower = λ i l. absurd (not-suc-le-zero l); higher = λ i l m. absurd (omega arith) }
 
   -- Where no entry is left between the two it is missing.
-  pub between_none : (low high : ℕ) → Between key es low high → high ≤ low → sought_in key es ≡ Missing
+  pub between_none : (low high : ℕ) → Between key es low high → high ≤ low → sought_in key es ≡ None
   between_none low high b done = sought_missing key es other
     where
       other : (i : ℕ) → i < length es → same_words (key_at es i) key ≡ false
@@ -132,7 +131,7 @@ module _ (key : List ℕ) (es : List Entry) where
             ]
 
     -- Before a higher entry it stands before it.
-    pub between_higher : compare_of (key_at es mid) key ≡ Higher → Between key es low mid
+    pub between_higher : compare_of (key_at es mid) key ≡ Greater → Between key es low mid
     between_higher c = record { ordered = from; within = omega (arith, b.within); lower = b.lower; higher = above }
       where
         above : (i : ℕ) → mid ≤ i → i < length es → key ≺ key_at es i
@@ -144,7 +143,7 @@ module _ (key : List ℕ) (es : List Entry) where
             ]
 
     -- An equal entry is the one.
-    pub between_found : compare_of (key_at es mid) key ≡ Equal → sought_in key es ≡ Number mid
+    pub between_found : compare_of (key_at es mid) key ≡ Equal → sought_in key es ≡ Some mid
     between_found c =
         let is : key_at es mid ≡ key = compare_equal (key_at es mid) key c in
         sought_number key es mid (omega (arith, b.within)) is
@@ -153,28 +152,28 @@ module _ (key : List ℕ) (es : List Entry) where
 -- ---- what a search says
 
 -- A key that is missing has no entry.
-pub sought_lacks : (key : List ℕ) (es : List Entry) → sought_in key es ≡ Missing → has key es ≡ false
+pub sought_lacks : (key : List ℕ) (es : List Entry) → sought_in key es ≡ None → has key es ≡ false
 unfolding sought_in has when◌then◌else◌
 sought_lacks key [] h = refl
 sought_lacks key (e ∷ es) h = go (same_words e.key key) refl (sought_in key es) refl (sought_lacks key es)
   where
-    go : (b : Bool) → same_words e.key key ≡ b → (r : EntryFound) → sought_in key es ≡ r → (sought_in key es ≡ Missing → has key es ≡ false) → has key (e ∷ es) ≡ false
-    go true t r q later = let z : Number 0 ≡ Missing = rw t at h in never cc
-    go false t Missing q later = rw t (later q)
-    go false t (Number i) q later = let z : Number (suc i) ≡ Missing = rw (t, q) at h in never cc
+    go : (b : Bool) → same_words e.key key ≡ b → (r : Option ℕ) → sought_in key es ≡ r → (sought_in key es ≡ None → has key es ≡ false) → has key (e ∷ es) ≡ false
+    go true t r q later = let z : Some 0 ≡ None = rw t at h in never cc
+    go false t None q later = rw t (later q)
+    go false t (Some i) q later = let z : Some (suc i) ≡ None = rw (t, q) at h in never cc
 
 -- A key that is found has an entry, and the number is that of one.
-pub sought_has : (key : List ℕ) (es : List Entry) (i : ℕ) → sought_in key es ≡ Number i → (i < length es) × (has key es ≡ true)
+pub sought_has : (key : List ℕ) (es : List Entry) (i : ℕ) → sought_in key es ≡ Some i → (i < length es) × (has key es ≡ true)
 unfolding sought_in has when◌then◌else◌
 sought_has key [] i h = never cc
 sought_has key (e ∷ es) i h = go (same_words e.key key) refl (sought_in key es) refl (sought_has key es)
   where
-    go : (b : Bool) → same_words e.key key ≡ b → (r : EntryFound) → sought_in key es ≡ r → ((j : ℕ) → sought_in key es ≡ Number j → (j < length es) × (has key es ≡ true))
+    go : (b : Bool) → same_words e.key key ≡ b → (r : Option ℕ) → sought_in key es ≡ r → ((j : ℕ) → sought_in key es ≡ Some j → (j < length es) × (has key es ≡ true))
         → (i < length (e ∷ es)) × (has key (e ∷ es) ≡ true)
-    go true t r q later = let z : Number 0 ≡ Number i = rw t at h in let n : 0 ≡ i = cc in (omega arith, rw t)
-    go false t Missing q later = let z : Missing ≡ Number i = rw (t, q) at h in never cc
-    go false t (Number j) q later =
-        let z : Number (suc j) ≡ Number i = rw (t, q) at h in
+    go true t r q later = let z : Some 0 ≡ Some i = rw t at h in let n : 0 ≡ i = cc in (omega arith, rw t)
+    go false t None q later = let z : None ≡ Some i = rw (t, q) at h in never cc
+    go false t (Some j) q later =
+        let z : Some (suc j) ≡ Some i = rw (t, q) at h in
         let n : suc j ≡ i = cc in
         let l = later j q in
         (omega arith, rw t l.1)
@@ -268,7 +267,7 @@ module _ (key : List ℕ) (os fs : List Entry) (more : (z : List ℕ) → has z 
         go (same_words e.key key) refl (sought_in key es) refl (once_more turn es ms cs s.2 (omega arith) (omega arith) (λ i. u (suc i)))
       where
         own : e.key ≡ key → (b : Bool) → has e.key os ≡ b
-            → on_one f turn (Number 0) (marked turn os (e ∷ es) (m ∷ ms)) (on_each f os (e ∷ es) (c ∷ cs)) ≡ on_each f fs (e ∷ es) (c ∷ cs)
+            → on_one f turn (Some 0) (marked turn os (e ∷ es) (m ∷ ms)) (on_each f os (e ∷ es) (c ∷ cs)) ≡ on_each f fs (e ∷ es) (c ∷ cs)
         own k true h =
             let first : has e.key fs ≡ true = rw k more_own in
             rw (h, eq-eqb turn turn refl, first, each-above es cs (rw (← k) s.1) s.2)
@@ -276,12 +275,12 @@ module _ (key : List ℕ) (os fs : List Entry) (more : (z : List ℕ) → has z 
             let first : has e.key fs ≡ true = rw k more_own in
             rw (h, ne_eqb m turn (u 0), first, each-above es cs (rw (← k) s.1) s.2)
 
-        go : (b : Bool) → same_words e.key key ≡ b → (r : EntryFound) → sought_in key es ≡ r
+        go : (b : Bool) → same_words e.key key ≡ b → (r : Option ℕ) → sought_in key es ≡ r
             → on_one f turn (sought_in key es) (marked turn os es ms) (on_each f os es cs) ≡ on_each f fs es cs
             → on_one f turn (sought_in key (e ∷ es)) (marked turn os (e ∷ es) (m ∷ ms)) (on_each f os (e ∷ es) (c ∷ cs)) ≡ on_each f fs (e ∷ es) (c ∷ cs)
         go true t r q later = rw t (own (words_same e.key key t) (has e.key os) refl)
-        go false t Missing q later = rw (t, q, more_other e.key (different e.key key t)) (ap (λ (l : List ℕ). (when has e.key os then f c else c) ∷ l) (rw q at later))
-        go false t (Number j) q later = rw (t, q, more_other e.key (different e.key key t)) (tail (eqb (get_or (marked turn os es ms) j 0) turn) refl (rw q at later))
+        go false t None q later = rw (t, q, more_other e.key (different e.key key t)) (ap (λ (l : List ℕ). (when has e.key os then f c else c) ∷ l) (rw q at later))
+        go false t (Some j) q later = rw (t, q, more_other e.key (different e.key key t)) (tail (eqb (get_or (marked turn os es ms) j 0) turn) refl (rw q at later))
           where
             tail : (b : Bool) → eqb (get_or (marked turn os es ms) j 0) turn ≡ b
                 → (when eqb (get_or (marked turn os es ms) j 0) turn then on_each f os es cs else set (on_each f os es cs) j (f (get_or (on_each f os es cs) j 0))) ≡ on_each f fs es cs

@@ -1,11 +1,9 @@
 -- Inner: no promise rests on these definitions.
 -- Entries by the places where they start, and the counts and marks that a turn leaves for them. Assumes nothing: these are definitions.
-use Rattle.std.specs.Prelude.{ℕ, zero, suc, ◌+◌, ◌≤◌, ◌<◌, ◌≡◌, Bool, true, false, List, [], ◌∷◌, eqb, length, get_or, set, drop}
+use Rattle.std.specs.Prelude.{ℕ, zero, suc, ◌+◌, ◌≤◌, ◌<◌, ◌≡◌, Bool, true, false, List, [], ◌∷◌, eqb, length, get_or, set, drop, None, Option, Some}
 use Rattle.words.specs.Base.{◌and◌, when◌then◌else◌, same_words, ◌∈◌}
 use Rattle.figures.specs.Limits.{greatest_count}
 use Rattle.section.specs.Entries.{Entry, width, first_entry, has, Sorted}
-use Rattle.section_tally.specs.declared.EntryFound.{EntryFound}
-use Rattle.section_tally.specs.declared.EntryFound.TheVariants.{Missing, Number}
 
 -- ---- entries by their places
 
@@ -26,14 +24,14 @@ pub record Indexed (starts ws : List ℕ) : Type 0 where
   pub filled : (e : Entry) → e ∈ listed starts ws → 1 ≤ length e.key
 
 -- One further on.
-abbrev pub next : EntryFound → EntryFound
-next Missing = Missing
-next (Number i) = Number (suc i)
+abbrev pub next : Option ℕ → Option ℕ
+next None = None
+next (Some i) = Some (suc i)
 
 -- Which entry has the key, counted from 0.
-unfoldable pub sought_in : List ℕ → List Entry → EntryFound
-sought_in key [] = Missing
-sought_in key (e ∷ es) = when same_words e.key key then Number 0 else next (sought_in key es)
+unfoldable pub sought_in : List ℕ → List Entry → Option ℕ
+sought_in key [] = None
+sought_in key (e ∷ es) = when same_words e.key key then Some 0 else next (sought_in key es)
 
 -- ---- counts and marks
 
@@ -61,16 +59,16 @@ abbrev pub Unmarked : ℕ → List ℕ → Type 0
 Unmarked turn ms = (i : ℕ) → get_or ms i 0 ≡ turn → ⊥
 
 -- The numbers, one for each entry, changed by f for the one that is sought, unless it has the turn's mark.
-unfoldable pub on_one : (ℕ → ℕ) → ℕ → EntryFound → List ℕ → List ℕ → List ℕ
-on_one f turn Missing ms cs = cs
-on_one f turn (Number i) ms cs = when eqb (get_or ms i 0) turn then cs else set cs i (f (get_or cs i 0))
+unfoldable pub on_one : (ℕ → ℕ) → ℕ → Option ℕ → List ℕ → List ℕ → List ℕ
+on_one f turn None ms cs = cs
+on_one f turn (Some i) ms cs = when eqb (get_or ms i 0) turn then cs else set cs i (f (get_or cs i 0))
 
 -- The counts with n more for the entry that is sought, once a turn.
-abbrev pub tallied_once : ℕ → ℕ → EntryFound → List ℕ → List ℕ → List ℕ
+abbrev pub tallied_once : ℕ → ℕ → Option ℕ → List ℕ → List ℕ → List ℕ
 tallied_once n turn r ms cs = on_one (λ (c : ℕ). c + n) turn r ms cs
 
 -- The marks with the turn's number for the entry that is sought.
-abbrev pub marked_once : ℕ → EntryFound → List ℕ → List ℕ
+abbrev pub marked_once : ℕ → Option ℕ → List ℕ → List ℕ
 marked_once turn r ms = on_one (λ (m : ℕ). turn) turn r ms ms
 
 -- No count passes 65,535.

@@ -10,14 +10,7 @@ ghost use Rattle.section.specs.Entries.{width, first_entry, span, has};
 ghost use Rattle.section_tally.specs.Tallying.{starts_of, listed, Indexed, sought_in, Few, tallied_once, marked_once, same_counts};
 
 use section::past;
-use words::Compared;
-
-// The number of the entry that has a key, counted from 0, if one has it.
-#[derive(Clone, Copy)]
-pub enum EntryFound {
-    Missing,
-    Number(usize),
-}
+use std::cmp::Ordering;
 
 // Writes where the n entries from word `from` on start, to the front of `starts`.
 pub fn index(book: &[u16], from: usize, n: usize, starts: &mut [u16])
@@ -36,7 +29,7 @@ pub fn index(book: &[u16], from: usize, n: usize, starts: &mut [u16])
 }
 
 // How the key of the entry at word `at`, which has words, stands to another key with this first word: mostly the first words decide.
-fn against(book: &[u16], at: usize, key: &[u16], first: u16) -> Compared
+fn against(book: &[u16], at: usize, key: &[u16], first: u16) -> Ordering
     requires book_in_bounds { at + width (drop at book.now) ≤ length book.now }
     requires in_bounds { (1 ≤ length (first_entry (drop at book.now)).key) × (first ≡ get_or key.now 0 0) }
     ensures { result ≡ compare_of (first_entry (drop at book.now)).key key.now }
@@ -44,17 +37,17 @@ fn against(book: &[u16], at: usize, key: &[u16], first: u16) -> Compared
     let start = at + 2;
     let word = book[start];
     if word < first {
-        return Compared::Lower;
+        return Ordering::Less;
     }
     if first < word {
-        return Compared::Higher;
+        return Ordering::Greater;
     }
     let end = past(book, at);
     words::standing(&book[start..end], key)
 }
 
 // Which of the listed entries has the key: the range that it can stand in is halved until it is found or none is left.
-pub fn find_entry(book: &[u16], starts: &[u16], key: &[u16]) -> EntryFound
+pub fn find_entry(book: &[u16], starts: &[u16], key: &[u16]) -> Option<usize>
     requires { Indexed starts.now book.now }
     ensures { result ≡ sought_in key.now (listed starts.now book.now) }
 {
@@ -65,16 +58,16 @@ pub fn find_entry(book: &[u16], starts: &[u16], key: &[u16]) -> EntryFound
         let mid = low + (high - low) / 2;
         let at = starts[mid] as usize;
         match against(book, at, key, first) {
-            Compared::Lower => {
+            Ordering::Less => {
                 low = mid + 1;
             }
-            Compared::Equal => return EntryFound::Number(mid),
-            Compared::Higher => {
+            Ordering::Equal => return Some(mid),
+            Ordering::Greater => {
                 high = mid;
             }
         }
     }
-    EntryFound::Missing
+    None
 }
 
 // Tallies `by` more for the listed entry that has the key, once a turn: its mark is the turn's number then. Answers whether one has it.
@@ -96,7 +89,7 @@ pub fn tally_once(
     ensures noted { marks.new ≡ marked_once turn (sought_in key.now (listed starts.now book.now))
         marks.old }
 {
-    let EntryFound::Number(i) = find_entry(book, starts, key) else {
+    let Some(i) = find_entry(book, starts, key) else {
         return false;
     };
     let mark = marks[i];

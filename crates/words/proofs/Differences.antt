@@ -1,9 +1,10 @@
 -- The signed place that comparing gives is told by the first place at which the lists differ and by which has the lower word there, and by nothing else.
 -- Assumes nothing.
+use Rattle.std.specs.Prelude.{Option, Some}
+use Rattle.std.specs.declared.cmp.Ordering.TheVariants.{Less}
 use Prim.Native.Nat.{ℕ, zero, suc, ◌+◌, ◌≤◌, ◌<◌}
 use mathlib.Core.Path.{◌≡◌, refl, ap, ap₂, sym, subst, ◌∙◌}
 use mathlib.Core.List.{List, [], ◌∷◌}
-use mathlib.Core.Option.{Option, some}
 use native.Mathlib.Decide.{dec_lt}
 use native.Mathlib.Omega.{arith}
 use lib.Dec.{ltb}
@@ -12,7 +13,6 @@ use lib.ListN.{length}
 use Rattle.words.proofs.Tests.{never}
 use Rattle.words.specs.Compare.{◌≺◌, signed_words, signed_from, signed_of, side_of, size_of}
 use Rattle.words.specs.Differences.{word_at, FirstDiffers, LowerWord, ended, less, LowerAt, IsLower, SignedPlace, told_equal, told_lower, told_higher}
-use Rattle.words.specs.declared.Compared.TheVariants.{Lower}
 use Rattle.words.proofs.Ordered.{Word, less as word-less, same as IsWord-same, more as word_more, word}
 use Rattle.words.proofs.Signs.{side_is, size-most}
 
@@ -65,7 +65,7 @@ module _ (a b : ℕ) (x y : List ℕ) where
       -- The words before it are the same.
       alike : (j : ℕ) → 1 ≤ j → j < suc (suc p) → word_at (a ∷ x) j ≡ word_at (b ∷ y) j
       alike zero h l = absurd (omega arith)
-      alike (suc zero) h l = ap some e
+      alike (suc zero) h l = ap Some e
       alike (suc (suc i)) h l = d.first.alike (suc i) (omega arith) (omega arith)
 
 -- Where only one list has words the first place tells.
@@ -180,7 +180,7 @@ module _ (x y : List ℕ) where
   lower-is h = go (signed_is x y) (side_is x y ∙ h)
     where
       -- By the sign.
-      go : {z : ℤ} → SignedPlace x y z → side_of z ≡ Lower → IsLower x y
+      go : {z : ℤ} → SignedPlace x y z → side_of z ≡ Less → IsLower x y
       go (told_equal e) f = never cc
       go (told_lower i l) f = record { place = suc i; at = l }
       go (told_higher i l) f = never cc

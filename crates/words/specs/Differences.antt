@@ -1,12 +1,11 @@
 -- How two lists of words differ, by relations that name no test (02, "Say what the book expected"). Assumes nothing: these are definitions.
-use Rattle.std.specs.Prelude.{ℕ, zero, suc, ◌≤◌, ◌<◌, ◌≡◌, List, [], ◌∷◌, ℤ, pos, negsuc}
-use Rattle.std.proofs.Math.Option.{Option, none, some}
+use Rattle.std.specs.Prelude.{ℕ, zero, suc, ◌≤◌, ◌<◌, ◌≡◌, List, [], ◌∷◌, ℤ, pos, negsuc, Option, None, Some}
 
 -- The word at a place, places counted from 1; none where the list has ended.
 unfoldable pub word_at : List ℕ → ℕ → Option ℕ
-word_at [] place = none
-word_at (x ∷ xs) zero = none
-word_at (x ∷ xs) (suc zero) = some x
+word_at [] place = None
+word_at (x ∷ xs) zero = None
+word_at (x ∷ xs) (suc zero) = Some x
 word_at (x ∷ xs) (suc (suc i)) = word_at xs (suc i)
 
 -- "the place of the first differing word": there the lists have not the same word, and at each place before it they have.
@@ -17,8 +16,8 @@ pub record FirstDiffers (xs ys : List ℕ) (place : ℕ) : Type 0 where
 
 -- A word is lower than another; where a list has ended it is lower than one that goes on.
 pub data LowerWord : Option ℕ → Option ℕ → Type 0 where
-  ended : {y : ℕ} → LowerWord none (some y)
-  less : {x y : ℕ} → x < y → LowerWord (some x) (some y)
+  ended : {y : ℕ} → LowerWord None (Some y)
+  less : {x y : ℕ} → x < y → LowerWord (Some x) (Some y)
 
 -- "compared word by word from the first": the first list is lower, by the words at the first place at which they differ.
 pub record LowerAt (xs ys : List ℕ) (place : ℕ) : Type 0 where

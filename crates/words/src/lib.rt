@@ -6,13 +6,7 @@ ghost use Rattle.std.specs.Prelude.{◌≡◌, ◌++◌, suc, ◌+◌, ◌-◌, 
 ghost use Rattle.words.specs.Base.{over};
 ghost use Rattle.words.specs.Compare.{compare_of, before, signed_of, size_of};
 
-// How one slice stands to another.
-#[derive(Clone, Copy)]
-pub enum Compared {
-    Lower,
-    Equal,
-    Higher,
-}
+use std::cmp::Ordering;
 
 // Compares two slices word by word from the first; a slice that ends first is lower. Answers the place of the first word in which they differ,
 // counted from 1: negative if the first slice is lower, positive if it is higher; 0 if they are equal.
@@ -70,28 +64,28 @@ pub fn size(place: i64) -> usize
 }
 
 // How the first slice stands to the second: the side that comparing tells, for callers that need no place, by a loop of its own, which is faster.
-pub fn standing(a: &[u16], b: &[u16]) -> Compared
+pub fn standing(a: &[u16], b: &[u16]) -> Ordering
     ensures { result ≡ compare_of a.now b.now }
 {
     let mut i = 0;
     while i < a.len() {
         if b.len() <= i {
-            return Compared::Higher;
+            return Ordering::Greater;
         }
         let x = a[i];
         let y = b[i];
         if x < y {
-            return Compared::Lower;
+            return Ordering::Less;
         }
         if y < x {
-            return Compared::Higher;
+            return Ordering::Greater;
         }
         i += 1;
     }
     if i < b.len() {
-        return Compared::Lower;
+        return Ordering::Less;
     }
-    Compared::Equal
+    Ordering::Equal
 }
 
 // The first word, or 0 where there is none.
@@ -109,9 +103,9 @@ pub fn precedes(a: &[u16], b: &[u16]) -> bool
     ensures { result ≡ before a.now b.now }
 {
     match standing(a, b) {
-        Compared::Lower => true,
-        Compared::Equal => false,
-        Compared::Higher => false,
+        Ordering::Less => true,
+        Ordering::Equal => false,
+        Ordering::Greater => false,
     }
 }
 

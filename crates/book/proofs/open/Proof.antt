@@ -43,7 +43,7 @@ returns-3 : tie.Need-returns
 returns-3 c =
     let e = c.before.before.before.before.before.before.before.before in
     let a = c.args in
-    let d = allowed _ _ c.new.ensures _ c.in-Allowed.is in
+    let d = allowed _ _ c.new.ensures _ c.in-Some.is in
     sym (opens a.book.now a.k _ c.answered-2.ensures (sized-by _ _ (right e)) d.1 (long e) _ _ c.clear.ensures (c.value.ensures ∙ d.0))
 
 pub open_spec : {M : Type 1} → statement M

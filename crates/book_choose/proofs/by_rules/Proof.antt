@@ -1,4 +1,5 @@
 -- `book_choose::by_rules` meets its contract: at each rule the rules left and what is named so far decide. Assumes nothing.
+use Rattle.std.specs.Prelude.{None}
 use Prim.Native.Nat.{ℕ, ◌+◌, ◌-◌, ◌≤◌}
 use mathlib.Core.Path.{◌≡◌, refl, ap, ap₂, sym, ◌∙◌}
 use native.Mathlib.Omega.{arith}
@@ -7,7 +8,6 @@ use lib.ListN.{length, drop, length-drop}
 use lib.Seq.{length-take-le}
 use Rattle.figures.specs.Limits.{most_nodes}
 use Rattle.book_choosing.specs.Walking.{chosen_for, chosen_from}
-use Rattle.book_choosing.specs.declared.RuleAt.TheVariants.{NoRule}
 use Rattle.book_choosing.proofs.Turns.{OneThere, AtRule, rule_found, no_words, too_many-rules, all_left, words-behind, all-looked-at, no_rule, rule-looked_at}
 use Rattle.book_choose.proofs.by_rules.Statement.{statement}
 use Rattle.book_choose.proofs.by_rules.Tie as tie
@@ -43,14 +43,14 @@ rule-at-requires c κs =
 
 returns-3 : tie.Need-returns-in_default invariant-loop decreases-loop
 returns-3 c =
-    let none : AtRule c.args.k.k c.args.rules.now c.loop-left.at NoRule = rule_found _ _ _ _ _ c.rule_at.ensures.0 c.in_default.is in
+    let none : AtRule c.args.k.k c.args.rules.now c.loop-left.at None = rule_found _ _ _ _ _ c.rule_at.ensures.0 c.in_default.is in
     c.unchosen-in_default.ensures ∙ sym (c.loop-left.invariant.2 ∙ no_rule _ _ _ c.requires.0.sound _ _ _ c.loop-left-test.true none)
 
 -- A rule stands there.
-stands : (c : tie.In-Ends invariant-loop decreases-loop) →
+stands : (c : tie.In-Some invariant-loop decreases-loop) →
     let a = c.args in
-    OneThere a.k.k a.rules.now c.loop-left.at c.in-Ends.end
-stands c = rule_found _ _ _ _ _ c.rule_at.ensures.0 c.in-Ends.is
+    OneThere a.k.k a.rules.now c.loop-left.at c.in-Some.end
+stands c = rule_found _ _ _ _ _ c.rule_at.ensures.0 c.in-Some.is
 
 mul-image : tie.Need-offset_bounds-rules-at invariant-loop decreases-loop
 mul-image c = let s = stands c in omega (arith, s.some-nodes, s.lies)
@@ -77,7 +77,7 @@ with-rule-requires : tie.Need-with_rule-named-requires invariant-loop decreases-
 with-rule-requires c κs =
     let t = stands c.before.before in
     let rest = length-drop (c.loop-left.at + 2) c.args.rules.now in
-    let long = length-take-le (c.in-Ends.end - (c.loop-left.at + 2)) (drop (c.loop-left.at + 2) c.args.rules.now) (omega (arith, t.lies, rest)) in
+    let long = length-take-le (c.in-Some.end - (c.loop-left.at + 2)) (drop (c.loop-left.at + 2) c.args.rules.now) (omega (arith, t.lies, rest)) in
     (c.requires.0, (c.requires.1.0, omega (arith, t.some-nodes, long)))
 
 loop-less : tie.Need-loop-left-smaller invariant-loop decreases-loop

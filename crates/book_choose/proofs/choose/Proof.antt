@@ -43,8 +43,8 @@ returns-2 c =
     no_test (sym (outside _ _ c.new.ensures c.in_default.is) ∙ and_both (le-leb _ _ p.least) (le-leb _ _ p.greatest))
 
 -- k is the book's.
-depth : (c : tie.In-Allowed) → let a = c.args in c.in-Allowed.k.k ≡ get_or a.book.now k_word 0
-depth c = (allowed _ _ c.new.ensures _ c.in-Allowed.is).0
+depth : (c : tie.In-Some) → let a = c.args in c.in-Some.k.k ≡ get_or a.book.now k_word 0
+depth c = (allowed _ _ c.new.ensures _ c.in-Some.is).0
 
 image-for-requires : tie.Need-image_for-requires
 image-for-requires c κs =

@@ -21,18 +21,18 @@ size : (c : tie.Else-not-is_book_size) → (head_words ≤ length c.args.book.no
 size c = size-told _ (sym c.is_book_size.ensures ∙ c.if-not-is_book_size.false)
 
 -- The words, where k is known.
-abbrev words : tie.In-Allowed → List ℕ
+abbrev words : tie.In-Some → List ℕ
 words c = c.args.book.now
 
 -- k.
-abbrev depth : tie.In-Allowed → Depth
-depth c = c.in-Allowed.k
+abbrev depth : tie.In-Some → Depth
+depth c = c.in-Some.k
 
 -- The size and k are right.
-head : (c : tie.In-Allowed) → Head (words c) (depth c)
+head : (c : tie.In-Some) → Head (words c) (depth c)
 head c =
     let z = size c.before.before.before in
-    let a = allowed _ _ c.new.ensures _ c.in-Allowed.is in
+    let a = allowed _ _ c.new.ensures _ c.in-Some.is in
     record {
       long = z.0;
       short = z.1;
@@ -42,11 +42,11 @@ head c =
     }
 
 -- The parts are no deeper than an order may be.
-shallow : (c : tie.In-Allowed) → (depth c).k ≤ greatest_depth
+shallow : (c : tie.In-Some) → (depth c).k ≤ greatest_depth
 shallow c = omega (arith, (head c).is, leb-true (get_or (words c) 0 0) greatest_k (and_right _ _ (head c).allows))
 
 -- Where k became known, from where section R starts.
-abbrev to-k : tie.In-InOrder → tie.In-Allowed
+abbrev to-k : tie.In-InOrder → tie.In-Some
 to-k c = c.before.before.before.before.before.before.before
 
 -- Where section R starts.

@@ -111,7 +111,7 @@ enum_told c = search rules
 loop-again : tie.Need-loop-left-preserved invariant-loop decreases-loop invariant-lines decreases-lines
 loop-again c =
     let p = c.past-end in
-    searched_past _ _ _ _ _ _ _ c.loop-left.invariant p.result c.loop-left-test.true p.ensures (sym c.against.ensures ∙ c.in-Lower.is)
+    searched_past _ _ _ _ _ _ _ c.loop-left.invariant p.result c.loop-left-test.true p.ensures (sym c.against.ensures ∙ c.in-Less.is)
 
 lines-less : tie.Need-lines-smaller invariant-loop decreases-loop invariant-lines decreases-lines
 lines-less c = omega (arith, c.if-to-line.false)
@@ -145,10 +145,10 @@ returns : tie.Need-returns-then-to-line invariant-loop decreases-loop invariant-
 returns c =
     none-judged _ _ _ _ (c.lines.invariant.2 ∙ within-last _ _ _ _ c.requires.1.0.sound c.if-to-line.true) c.plainly.ensures
 
-returns-2 : tie.Need-returns-in-Higher invariant-loop decreases-loop invariant-lines decreases-lines
+returns-2 : tie.Need-returns-in-Greater invariant-loop decreases-loop invariant-lines decreases-lines
 returns-2 c =
     let p = c.past-end in
-    let told = searched_above _ _ _ _ _ _ _ c.loop-left.invariant p.result c.loop-left-test.true p.ensures (sym c.against.ensures ∙ c.in-Higher.is) in
+    let told = searched_above _ _ _ _ _ _ _ c.loop-left.invariant p.result c.loop-left-test.true p.ensures (sym c.against.ensures ∙ c.in-Greater.is) in
     judged c.before.before.before.before.before.before.before.before _ told c.unknown.ensures
 
 returns-3 : tie.Need-returns-after-loop-left invariant-loop decreases-loop invariant-lines decreases-lines

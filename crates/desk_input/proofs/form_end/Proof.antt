@@ -27,9 +27,9 @@ letter-at-requires c κs = omega arith
 enum_told : tie.Need-enum_told-1 invariant-loop decreases-loop
 enum_told c = search rules
 
-returns : tie.Need-returns-in-Asks invariant-loop decreases-loop
+returns : tie.Need-returns-in-Some invariant-loop decreases-loop
 returns c =
-    sym (c.loop-at.invariant.1 ∙ stops _ _ _ _ c.if-starts.true (sym c.letter_at.ensures ∙ c.in-Asks.is))
+    sym (c.loop-at.invariant.1 ∙ stops _ _ _ _ c.if-starts.true (sym c.letter_at.ensures ∙ c.in-Some.is))
 
 shared-slice-read-starts : tie.Need-bounds-text-at invariant-loop decreases-loop
 shared-slice-read-starts c = omega arith

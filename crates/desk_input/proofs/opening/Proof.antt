@@ -18,20 +18,20 @@ returns-2 c =
 
 returns-3 : tie.Need-returns-then-input-eq-FIRST_LINE
 returns-3 c =
-    ap Opens c.value.ensures ∙ sym (front-alone _ c.if-input-gt-MOST_INPUT.false _ (sym c.depth_on.ensures ∙ c.in-Allowed.is) c.if-input-eq-FIRST_LINE.true)
+    ap Opens c.value.ensures ∙ sym (front-alone _ c.if-input-gt-MOST_INPUT.false _ (sym c.depth_on.ensures ∙ c.in-Some.is) c.if-input-eq-FIRST_LINE.true)
 
 letter-at-requires : tie.Need-letter_at-requires
-letter-at-requires c κs = (begins _ _ (sym c.depth_on.ensures ∙ c.in-Allowed.is)).enough
+letter-at-requires c κs = (begins _ _ (sym c.depth_on.ensures ∙ c.in-Some.is)).enough
 
-returns-4 : tie.Need-returns-in-Asks
+returns-4 : tie.Need-returns-in-Some
 returns-4 c =
-    ap Opens c.value-in-Asks.ensures
-    ∙ sym (front-letter _ c.if-input-gt-MOST_INPUT.false _ _ (sym c.depth_on.ensures ∙ c.in-Allowed.is) (sym c.letter_at.ensures ∙ c.in-Asks.is))
+    ap Opens c.value-in-Some.ensures
+    ∙ sym (front-letter _ c.if-input-gt-MOST_INPUT.false _ _ (sym c.depth_on.ensures ∙ c.in-Some.is) (sym c.letter_at.ensures ∙ c.in-Some.is))
 
-returns-5 : tie.Need-returns-in-Other
+returns-5 : tie.Need-returns-in-None
 returns-5 c =
-    let e = sym c.depth_on.ensures ∙ c.in-Allowed.is in
-    sym (front-other _ c.if-input-gt-MOST_INPUT.false _ e c.if-input-eq-FIRST_LINE.false (sym c.letter_at.ensures ∙ c.in-Other.is))
+    let e = sym c.depth_on.ensures ∙ c.in-Some.is in
+    sym (front-other _ c.if-input-gt-MOST_INPUT.false _ e c.if-input-eq-FIRST_LINE.false (sym c.letter_at.ensures ∙ c.in-None.is))
 
 pub opening_spec : {M : Type 1} → statement M
 opening_spec =

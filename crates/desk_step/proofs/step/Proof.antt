@@ -16,14 +16,14 @@ returns-2 : tie.Need-returns-in_default
 returns-2 c = step_other _ _ _ c.if-out-lt-REPLY_ROOM.false (sym c.letter_at.ensures ∙ c.in_default.is)
 
 form-end-requires : tie.Need-form_end-end-requires
-form-end-requires c κs = letter-long _ _ (sym c.letter_at.ensures ∙ c.in-Asks.is)
+form-end-requires c κs = letter-long _ _ (sym c.letter_at.ensures ∙ c.in-Some.is)
 
 part-call-end : tie.Need-slice_bounds-call-end
-part-call-end c = end-inside _ _ _ (sym c.letter_at.ensures ∙ c.in-Asks.is) c.form_end-end.ensures
+part-call-end c = end-inside _ _ _ (sym c.letter_at.ensures ∙ c.in-Some.is) c.form_end-end.ensures
 
 returns-3 : tie.Need-returns
 returns-3 c =
-    step-made _ _ _ c.if-out-lt-REPLY_ROOM.false _ _ _ _ _ _ _ _ _ (sym c.letter_at.ensures ∙ c.in-Asks.is) c.form_end-end.ensures refl
+    step-made _ _ _ c.if-out-lt-REPLY_ROOM.false _ _ _ _ _ _ _ _ _ (sym c.letter_at.ensures ∙ c.in-Some.is) c.form_end-end.ensures refl
     c.call-answer.ensures c.used_words-used.ensures c.byte.ensures
     c.put_reply-count.ensures.0 c.put_reply-count.ensures.1
 

@@ -32,13 +32,13 @@ returns-4 c =
 returns-5 : tie.Need-returns-then-depth-gt-GREATEST_DEPTH
 returns-5 c =
     let m = c.measure.ensures in
-    let f = measured_found _ _ (sym m.0 ∙ c.in-Deep.is) in
+    let f = measured_found _ _ (sym m.0 ∙ c.in-Some.is) in
     (sym (cause_deep _ (sized c.before.before.before.before.before.before) _ f c.if-depth-gt-GREATEST_DEPTH.true), (gone-over _ _ m.1.0, m.1.1))
 
 returns-6 : tie.Need-returns
 returns-6 c =
     let m = c.measure.ensures in
-    let f = measured_found _ _ (sym m.0 ∙ c.in-Deep.is) in
+    let f = measured_found _ _ (sym m.0 ∙ c.in-Some.is) in
     (sym (cause_none _ (sized c.before.before.before.before.before.before) _ f c.if-depth-gt-GREATEST_DEPTH.false), (gone-over _ _ m.1.0, m.1.1))
 
 pub cause_into_spec : {M : Type 1} → statement M

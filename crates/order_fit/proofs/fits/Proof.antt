@@ -26,15 +26,15 @@ enum_told c = search rules
 
 returns-2 : tie.Need-returns-then-depth-least
 returns-2 c =
-    (sym (fits-deep _ _ _ _ c.if-order-gt-MOST_WORDS.false c.requires.1 (sym c.deep.ensures.0 ∙ c.in-Deep.is) ∙ fails_left _ _ (lt-leb _ _ c.if-depth-least.true)), c.deep.ensures.1)
+    (sym (fits-deep _ _ _ _ c.if-order-gt-MOST_WORDS.false c.requires.1 (sym c.deep.ensures.0 ∙ c.in-Some.is) ∙ fails_left _ _ (lt-leb _ _ c.if-depth-least.true)), c.deep.ensures.1)
 
-returns-3 : tie.Need-returns-in-Broken
+returns-3 : tie.Need-returns-in-None
 returns-3 c =
-    (sym (fits-broken _ _ _ (sym c.deep.ensures.0 ∙ c.in-Broken.is)), c.deep.ensures.1)
+    (sym (fits-broken _ _ _ (sym c.deep.ensures.0 ∙ c.in-None.is)), c.deep.ensures.1)
 
 returns-4 : tie.Need-returns-else-depth-least
 returns-4 c =
-    (sym (fits-deep _ _ _ _ c.if-order-gt-MOST_WORDS.false c.requires.1 (sym c.deep.ensures.0 ∙ c.in-Deep.is) ∙ second _ _ (le-leb _ _ c.if-depth-least.false)), c.deep.ensures.1)
+    (sym (fits-deep _ _ _ _ c.if-order-gt-MOST_WORDS.false c.requires.1 (sym c.deep.ensures.0 ∙ c.in-Some.is) ∙ second _ _ (le-leb _ _ c.if-depth-least.false)), c.deep.ensures.1)
 
 pub fits_spec : {M : Type 1} → statement M
 fits_spec =

@@ -1,10 +1,10 @@
 -- Writing a book's file and reading one answer exactly by the rows of 01's table, as specs/Whys.antt states them, for any words and bytes. Assumes
 -- nothing.
+use Rattle.std.specs.Prelude.{Option, None, Some}
 use Prim.Native.Nat.{ℕ, ◌+◌, ◌*◌, ◌≤◌, ◌<◌}
 use mathlib.Core.Path.{◌≡◌, refl, sym, ap, ap₂, subst, ◌∙◌}
 use mathlib.Core.Bool.{Bool, true, false}
 use mathlib.Core.List.{List, [], ◌∷◌, ◌++◌}
-use mathlib.Core.Option.{Option, none, some}
 use native.Mathlib.Decide.{dec_lt}
 use native.Mathlib.Omega.{arith}
 use borrow.Author.Tests.{le-leb, eqb-true, eq-eqb}
@@ -207,7 +207,7 @@ module _ (ws : List ℕ) (z : BookSized ws) (high low : ℕ) (rest : List ℕ) w
     rest-book b s = by_rest ∙ restore_some rest ws b s
 
 -- Behind the front of a book's file the book is found.
-pub file_rest : (file : List ℕ) (b : Book) → IsFile file b → stored_in (drop front_bytes file) ≡ some b
+pub file_rest : (file : List ℕ) (b : Book) → IsFile file b → stored_in (drop front_bytes file) ≡ Some b
 file_rest file b f =
     ap (λ (l : List ℕ). stored_in (drop front_bytes l)) (f.bytes ∙ file_front b)
     ∙ stored_some (bytes_of (encode b)) b (used-stored _ b (file_used file b f))
@@ -262,10 +262,10 @@ module _ (file ws : List ℕ) where
     where
       -- With version 1, by the book that the rest is, if it is one.
       by_stored : BookSized ws → (high low : ℕ) (rest : List ℕ) → file ≡ mark ++ (high ∷ low ∷ rest) → high * 256 + low ≡ version → (o : Option Book) → stored_in rest ≡ o → WhyRestored file ws (read_file_of file ws)
-      by_stored z high low rest e v none n =
+      by_stored z high low rest e v None n =
           no_used_words high low rest (ap (λ (l : List ℕ). read_file_of l ws) e ∙ rest-14 ws z high low rest v (stored_none rest n)) z e v
           (λ b u. stored_none rest n b (used-stored rest b u))
-      by_stored z high low rest e v (some b) n = file_why file ws z b (subst (λ (l : List ℕ). IsFile l b) (sym e) (stored_file high low rest b v (stored_is rest b n)))
+      by_stored z high low rest e v (Some b) n = file_why file ws z b (subst (λ (l : List ℕ). IsFile l b) (sym e) (stored_file high low rest b v (stored_is rest b n)))
 
       -- Marked bytes, by the version.
       by_version : BookSized ws → (high low : ℕ) (rest : List ℕ) → file ≡ mark ++ (high ∷ low ∷ rest) → (t : Bool) → eqb (high * 256 + low) version ≡ t → WhyRestored file ws (read_file_of file ws)

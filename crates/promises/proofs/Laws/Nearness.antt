@@ -1,5 +1,7 @@
 -- What `near_of` says of a key in an ascending section is what the relations of specs/Expected.antt say, and they say but one thing; and which section's word on
 -- which key judging hands on with each answer. Assumes nothing.
+use Rattle.std.specs.declared.cmp.Ordering.{Ordering}
+use Rattle.std.specs.declared.cmp.Ordering.TheVariants.{Less, Equal, Greater}
 use Prim.Native.Nat.{ℕ, suc}
 use mathlib.Core.Path.{◌≡◌, refl, ap, sym, subst, ◌∙◌}
 use mathlib.Core.Bool.{Bool, true, false}
@@ -14,8 +16,6 @@ use lib.ListN.{length}
 use Rattle.words.specs.Base.{when◌then◌else◌, keep, ◌∈◌}
 use Rattle.words.specs.Compare.{compare_of, ◌≺◌}
 use Rattle.words.specs.Differences.{FirstDiffers, IsLower}
-use Rattle.words.specs.declared.Compared.{Compared}
-use Rattle.words.specs.declared.Compared.TheVariants.{Lower, Equal, Higher}
 use Rattle.words.proofs.Tests.{no_test, never}
 use Rattle.words.proofs.Differences.{first_one, lower-is, is-lower, other_place}
 use Rattle.words.proofs.Ordered.{compare_flip, flip, ≺-trans, ≺-irrefl, Stand, below as stands-below, equal as stands-equal, above as stands-above, stand}
@@ -59,7 +59,7 @@ lower-not_equal : (x y : List ℕ) → compare_of x y ≡ Equal → x ≺ y → 
 lower-not_equal x y c h = never cc
 
 -- nor higher.
-lower-not_higher : (x y : List ℕ) → compare_of x y ≡ Higher → x ≺ y → ⊥
+lower-not_higher : (x y : List ℕ) → compare_of x y ≡ Greater → x ≺ y → ⊥
 lower-not_higher x y c h = never cc
 
 -- An entry that is lower differs first at its place.
@@ -94,11 +94,11 @@ below-many key [] = unfold entries_below keep in none_left
 below-many key (e ∷ es) = go (compare_of e.key key) refl (below-many key es)
   where
     -- By how the first entry stands.
-    go : (o : Compared) → compare_of e.key key ≡ o → HowMany (λ f. IsLower f.key key) es (length (entries_below key es))
+    go : (o : Ordering) → compare_of e.key key ≡ o → HowMany (λ f. IsLower f.key key) es (length (entries_below key es))
         → HowMany (λ f. IsLower f.key key) (e ∷ es) (length (entries_below key (e ∷ es)))
-    go Lower c ih = rw (lower-is_below key e es c) (one_more (lower-is e.key key c) ih)
+    go Less c ih = rw (lower-is_below key e es c) (one_more (lower-is e.key key c) ih)
     go Equal c ih = rw (equal_not_below key e es c) (not_this (λ l. lower-not_equal _ _ c (is-lower _ _ l)) ih)
-    go Higher c ih = rw (higher_not_below key e es c) (not_this (λ l. lower-not_higher _ _ c (is-lower _ _ l)) ih)
+    go Greater c ih = rw (higher_not_below key e es c) (not_this (λ l. lower-not_higher _ _ c (is-lower _ _ l)) ih)
 
 -- ---- the last below
 
@@ -127,11 +127,11 @@ last_of p key (e ∷ es) s = go (compare_of e.key key) refl (λ q. last_of q key
         q
 
     -- By how the first entry stands.
-    go : (o : Compared) → compare_of e.key key ≡ o → ((q : ℕ) → LastIs q key es (last_place q key (entries_below key es)))
+    go : (o : Ordering) → compare_of e.key key ≡ o → ((q : ℕ) → LastIs q key es (last_place q key (entries_below key es)))
         → LastIs p key (e ∷ es) (last_place p key (entries_below key (e ∷ es)))
-    go Lower c ih = rw (lower-is_below key e es c) (unfold last_place in first c (ih (place_in key e)))
+    go Less c ih = rw (lower-is_below key e es c) (unfold last_place in first c (ih (place_in key e)))
     go Equal c ih = rw (equal_not_below key e es c) (past (lower-not_equal _ _ c) (ih p))
-    go Higher c ih = rw (higher_not_below key e es c) (past (lower-not_higher _ _ c) (ih p))
+    go Greater c ih = rw (higher_not_below key e es c) (past (lower-not_higher _ _ c) (ih p))
 
 -- So it is the place that 02 wants.
 place-below : (key : List ℕ) (es : List Entry) → Sorted es → PlaceBelow key es (last_place 0 key (entries_below key es))
@@ -169,11 +169,11 @@ first_of key (e ∷ es) s = go (compare_of e.key key) refl (first_of key es s.2)
         refl
 
     -- By how the first entry stands.
-    go : (o : Compared) → compare_of e.key key ≡ o → FirstIs key es (first_place key (entries_above key es))
+    go : (o : Ordering) → compare_of e.key key ≡ o → FirstIs key es (first_place key (entries_above key es))
         → FirstIs key (e ∷ es) (first_place key (entries_above key (e ∷ es)))
-    go Lower c ih = rw (lower-not_above key e es c) (past (lower-not_higher _ _ (compare_flip e.key key ∙ ap flip c)) ih)
+    go Less c ih = rw (lower-not_above key e es c) (past (lower-not_higher _ _ (compare_flip e.key key ∙ ap flip c)) ih)
     go Equal c ih = rw (equal_not_above key e es c) (past (lower-not_equal _ _ (compare_flip e.key key ∙ ap flip c)) ih)
-    go Higher c ih = rw (higher_is-above key e es c) (unfold first_place in first (compare_flip e.key key ∙ ap flip c))
+    go Greater c ih = rw (higher_is-above key e es c) (unfold first_place in first (compare_flip e.key key ∙ ap flip c))
 
 -- So it is the place that 02 wants.
 place-above : (key : List ℕ) (es : List Entry) → Sorted es → PlaceAbove key es (first_place key (entries_above key es))

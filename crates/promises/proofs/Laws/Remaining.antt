@@ -1,12 +1,12 @@
 -- A book after any calls is exactly the book of the orders that remain (demand 3): it holds their parts and counts and nothing else, it has
 -- the same words as a book in which just these were taught, in whichever order, and it agrees with itself. Assumes nothing.
+use Rattle.std.specs.Prelude.{Some}
 use Prim.Native.Nat.{ℕ, ◌+◌, ◌≤◌}
 use mathlib.Core.Path.{◌≡◌, refl, sym, ap, ap₂, ◌∙◌}
 use mathlib.Core.Bool.{Bool, true, false}
 use mathlib.Core.List.Memᴰ
 use mathlib.Core.List.Memᴰ.{head as here}
 use mathlib.Core.List.{List, [], ◌∷◌, ◌++◌}
-use mathlib.Core.Option.{some}
 use native.Mathlib.Omega.{arith}
 use borrow.Author.Tests.{eqb-true, eq-eqb}
 use lib.Dec.{eqb}
@@ -138,9 +138,9 @@ module _ (slice : List ℕ) (k : ℕ) (long : head_words ≤ length slice) (shor
           let g : BookAndOrder ws os (booked k orders) t = kept_met os t o in
           let left : Book = booked k (without os orders) in
           let entry : has os (booked k orders).T ≡ true = rw (sym its_tree.spelt) at ((withdraw-0 ws os (booked k orders) t g).0 e).0 in
-          let some : 1 ≤ times_of os orders =
+          let Some : 1 ≤ times_of os orders =
           omega (arith, has-counts os (booked k orders).T (booked-sorted k orders kept.limits Taught) entry, count-times k os orders kept.limits) in
-          let whole : booked k orders ≡ taught 1 t left = booked-without k os t its_tree orders kept.limits some in
+          let whole : booked k orders ≡ taught 1 t left = booked-without k os t its_tree orders kept.limits Some in
           let sorted = booked-sorted k (without os orders) fewer-limits in
           record {
             limits = fewer-limits;
@@ -280,7 +280,7 @@ unfolding agreeing book_of teachings_in same_section ◌and◌
 empty-agrees k = refl
 
 -- A book that agrees with itself does so after any calls.
-calls-agree : (cs : List Call) (ws : List ℕ) (b : Book) → decode ws ≡ some b → agreeing b ≡ true → (c : Book) × (decode (after cs ws) ≡ some c) × (agreeing c ≡ true)
+calls-agree : (cs : List Call) (ws : List ℕ) (b : Book) → decode ws ≡ Some b → agreeing b ≡ true → (c : Book) × (decode (after cs ws) ≡ Some c) × (agreeing c ≡ true)
 unfolding after_by
 calls-agree [] ws b is a = (b, is, a)
 calls-agree (teach os ∷ cs) ws b is a = let c = teach-agrees ws os b is a in calls-agree cs _ c.0 c.1 c.2
@@ -297,7 +297,7 @@ pub record Begun (slice : List ℕ) (k : ℕ) (first : List (List ℕ)) (ws : Li
   pub least : least_k ≤ k
   pub greatest : k ≤ greatest_k
   pub kept : Kept (length slice) k first ws
-  pub agrees : (b : Book) × (decode ws ≡ some b) × (agreeing b ≡ true)
+  pub agrees : (b : Book) × (decode ws ≡ Some b) × (agreeing b ≡ true)
 
 -- A run may start with an opened book, of no orders.
 pub opened-begun : (slice : List ℕ) (k : ℕ) → head_words ≤ length slice → length slice ≤ most_book_words → least_k ≤ k → k ≤ greatest_k → Begun slice k [] (open_of slice k).words

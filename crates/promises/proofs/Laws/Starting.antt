@@ -1,10 +1,10 @@
 -- What a run starts with: an opened book is the book of no orders, and the book of a file that was read is the book of the orders that its T counts,
 -- each as often as it counts. Assumes nothing.
+use Rattle.std.specs.Prelude.{Option}
 use Prim.Native.Nat.{ℕ, ◌≤◌}
 use mathlib.Core.Path.{◌≡◌, sym, ap, ◌∙◌}
 use mathlib.Core.Bool.{true}
 use mathlib.Core.List.{List, []}
-use mathlib.Core.Option.{Option}
 use native.Mathlib.Omega.{arith}
 use lib.ListN.{length}
 use Rattle.figures.specs.Limits.{head_words, most_book_words, least_k, greatest_k}

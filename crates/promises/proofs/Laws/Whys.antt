@@ -1,10 +1,10 @@
 -- Asking for a k, looking at a book's form, opening, and reading and writing a form, answer exactly by the rows of 01's table, as specs/Whys.antt states them, for any
 -- words: every answer has its row, and what has a row is the answer. Assumes nothing.
+use Rattle.std.specs.Prelude.{None, Some, Option}
 use Prim.Native.Nat.{ℕ, ◌≤◌, ◌<◌}
 use mathlib.Core.Path.{◌≡◌, refl, sym, ap, subst, ◌∙◌}
 use mathlib.Core.Bool.{true, false}
 use mathlib.Core.List.{List, [], ◌∷◌}
-use mathlib.Core.Option.{Option}
 use native.Mathlib.Decide.{dec_lt}
 use native.Mathlib.Omega.{arith}
 use borrow.Author.Tests.{le-leb, lt-leb}
@@ -15,7 +15,6 @@ use Rattle.figures.specs.Limits.{head_words, most_book_words, least_k, greatest_
 use Rattle.figures.specs.Numbers.{done, k_outside, book_size, not_in_form}
 use Rattle.figures.specs.Answers.{depth_of, answered, asked_told}
 use Rattle.figures.specs.declared.Answer.{Answer}
-use Rattle.figures.specs.declared.depths.Asked.TheVariants.{Allowed, Outside}
 use Rattle.order.specs.Trees.{Tree, words}
 use Rattle.order.specs.Reading.{cause_of}
 use Rattle.order.specs.Causes.{Cause}
@@ -45,20 +44,20 @@ use Rattle.promises.proofs.Laws.Refusals.{write-refuses, write-writes}
 
 module _ (k : ℕ) where
   -- A k that the test fails is outside.
-  depth-fails : within least_k greatest_k k ≡ false → depth_of k ≡ Outside
+  depth-fails : within least_k greatest_k k ≡ false → depth_of k ≡ None
   unfolding depth_of when◌then◌else◌
   depth-fails e = rw e refl
 
   -- A k that is too low is outside.
-  below-outside : k < least_k → depth_of k ≡ Outside
+  below-outside : k < least_k → depth_of k ≡ None
   below-outside h = depth-fails (fails_left _ _ (lt-leb least_k k h))
 
   -- So is one that is too high.
-  above-outside : greatest_k < k → depth_of k ≡ Outside
+  above-outside : greatest_k < k → depth_of k ≡ None
   above-outside h = depth-fails (fails_right _ _ (lt-leb k greatest_k h))
 
   -- Any other k is allowed.
-  between_allowed : least_k ≤ k → k ≤ greatest_k → depth_of k ≡ Allowed (record { k = k })
+  between_allowed : least_k ≤ k → k ≤ greatest_k → depth_of k ≡ Some (record { k = k })
   unfolding depth_of when◌then◌else◌
   between_allowed a z = let e : within least_k greatest_k k ≡ true = and_both (le-leb least_k k a) (le-leb k greatest_k z) in rw e refl
 

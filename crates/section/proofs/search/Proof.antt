@@ -44,17 +44,17 @@ enum_told c = search rules
 
 loop-again : tie.Need-loop-left-preserved invariant-loop decreases-loop
 loop-again c =
-    searched_past _ _ _ _ _ _ _ c.loop-left.invariant c.past-end.result c.loop-left-test.true c.past-end.ensures (sym c.standing.ensures ∙ c.in-Lower.is)
+    searched_past _ _ _ _ _ _ _ c.loop-left.invariant c.past-end.result c.loop-left-test.true c.past-end.ensures (sym c.standing.ensures ∙ c.in-Less.is)
 
 returns : tie.Need-returns-in-Equal invariant-loop decreases-loop
 returns c =
     let v = c.loop-left.invariant in
     stops_here _ _ _ _ _ _ _ v (searched_here _ _ _ _ _ _ _ v c.past-end.result c.loop-left-test.true c.past-end.ensures (sym c.standing.ensures ∙ c.in-Equal.is))
 
-returns-2 : tie.Need-returns-in-Higher invariant-loop decreases-loop
+returns-2 : tie.Need-returns-in-Greater invariant-loop decreases-loop
 returns-2 c =
     let v = c.loop-left.invariant in
-    stops_between _ _ _ _ _ _ _ v (searched_above _ _ _ _ _ _ _ v c.past-end.result c.loop-left-test.true c.past-end.ensures (sym c.standing.ensures ∙ c.in-Higher.is))
+    stops_between _ _ _ _ _ _ _ v (searched_above _ _ _ _ _ _ _ v c.past-end.result c.loop-left-test.true c.past-end.ensures (sym c.standing.ensures ∙ c.in-Greater.is))
 
 returns-3 : tie.Need-returns invariant-loop decreases-loop
 returns-3 c = let v = c.loop-left.invariant in stops_between _ _ _ _ _ _ _ v (searched_end _ _ _ _ _ _ _ v c.loop-left-test.false)

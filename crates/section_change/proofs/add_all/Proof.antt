@@ -1,5 +1,7 @@
 -- `section_change::add_all` meets its contract: at each turn the entries passed, and the sum of those left and of the other's left, are the whole sum,
 -- and the gap has room for what is still lacking. Assumes nothing.
+use Rattle.std.specs.declared.cmp.Ordering.{Ordering}
+use Rattle.std.specs.declared.cmp.Ordering.TheVariants.{Less, Equal, Greater}
 use Prim.Native.Nat.{ℕ, ◌+◌, ◌*◌, ◌-◌, ◌≤◌, ◌<◌}
 use mathlib.Core.Path.{◌≡◌, refl, sym, ◌∙◌}
 use mathlib.Core.List.{List, ◌++◌}
@@ -7,8 +9,6 @@ use native.Mathlib.Omega.{arith}
 use lib.ListN.{length, get_or, take, drop, length-take, length-drop}
 use borrow.Author.Rules.{rules}
 use Rattle.words.proofs.Tests.{never}
-use Rattle.words.specs.declared.Compared.{Compared}
-use Rattle.words.specs.declared.Compared.TheVariants.{Lower, Equal, Higher}
 use Rattle.section.specs.Entries.{entries, span}
 use Rattle.section_change.specs.Editing.{first_against}
 use Rattle.section_change.proofs.Adding.{against_some}
@@ -64,25 +64,25 @@ first : (k : tie.At-loop-rest invariant-loop decreases-loop) → 0 < k.loop-rest
 first k h = adds_first _ _ _ _ _ _ _ _ _ _ _ _ _ _ (reached k) h
 
 -- How the first entry left stands to the key, as it was told.
-abbrev Told : (k : tie.At-loop-rest invariant-loop decreases-loop) → ℕ → Compared → Type 0
+abbrev Told : (k : tie.At-loop-rest invariant-loop decreases-loop) → ℕ → Ordering → Type 0
 Told k end o =
     first_against (take (end - (k.loop-rest.from + 2)) (drop (k.loop-rest.from + 2) (other k))) (entries k.loop-rest.left (drop k.loop-rest.at k.loop-rest.book)) ≡ o
 
 -- In the first arm it is lower.
-is-lower : (c : tie.In-Lower invariant-loop decreases-loop) → Told c.before.before.before.before.before c.past-end.result Lower
-is-lower c = sym c.first_against.ensures ∙ c.in-Lower.is
+is-lower : (c : tie.In-Less invariant-loop decreases-loop) → Told c.before.before.before.before.before c.past-end.result Less
+is-lower c = sym c.first_against.ensures ∙ c.in-Less.is
 
 -- In the second it is equal.
 is-equal : (c : tie.In-Equal invariant-loop decreases-loop) → Told c.before.before.before.before.before c.past-end.result Equal
 is-equal c = sym c.first_against.ensures ∙ c.in-Equal.is
 
 -- In the third it is higher, or there is none.
-is-higher : (c : tie.In-Higher invariant-loop decreases-loop) → Told c.before.before.before.before.before c.past-end.result Higher
-is-higher c = sym c.first_against.ensures ∙ c.in-Higher.is
+is-higher : (c : tie.In-Greater invariant-loop decreases-loop) → Told c.before.before.before.before.before c.past-end.result Greater
+is-higher c = sym c.first_against.ensures ∙ c.in-Greater.is
 
 -- One is left if it is lower.
-some-lower : (c : tie.In-Lower invariant-loop decreases-loop) → 0 < c.loop-rest.left
-some-lower c = against_some _ _ _ Lower (is-lower c) (λ h. never cc)
+some-lower : (c : tie.In-Less invariant-loop decreases-loop) → 0 < c.loop-rest.left
+some-lower c = against_some _ _ _ Less (is-lower c) (λ h. never cc)
 
 -- One is left if it is equal.
 some-equal : (c : tie.In-Equal invariant-loop decreases-loop) → 0 < c.loop-rest.left
@@ -123,10 +123,10 @@ past-requires-2 c κs = first c.before.before.before.before.before (some-lower c
 sub-left : tie.Need-overflow_sub-left invariant-loop decreases-loop
 sub-left c = some-lower c.before
 
-loop-less : tie.Need-loop-rest-smaller-in-Lower invariant-loop decreases-loop
+loop-less : tie.Need-loop-rest-smaller-in-Less invariant-loop decreases-loop
 loop-less c = omega (arith, some-lower c.before)
 
-loop-again : tie.Need-loop-rest-preserved-in-Lower invariant-loop decreases-loop
+loop-again : tie.Need-loop-rest-preserved-in-Less invariant-loop decreases-loop
 loop-again c =
     λ ws r now. adds_lower ws _ _ _ _ _ _ _ _ _ _ _ _ _ (c.loop-rest.invariant ws r now) c.past-end.result c.loop-rest-test.true c.past-end.ensures (is-lower c.before) (some-lower c.before) c.past-at.result c.past-at.ensures
 
@@ -172,7 +172,7 @@ loop-again-2 c =
     let e = c.before.before.before.before.before.before in
     λ ws ready now. adds_equal ws _ _ _ _ _ _ _ _ _ _ _ _ _ (c.loop-rest.invariant ws ready now) c.past-end.result c.loop-rest-test.true c.past-end.ensures c.raise.new.part c.raise.ensures (is-equal e) (some-equal e) c.past-at-in-Equal.result c.past-at-in-Equal.ensures
 
-mul-enter-behind : tie.Need-offset_bounds-other-from-in-Higher invariant-loop decreases-loop
+mul-enter-behind : tie.Need-offset_bounds-other-from-in-Greater invariant-loop decreases-loop
 mul-enter-behind c = omega (arith, room c.before.before.before.before.before, c.well_formed)
 
 part-enter-behind-end : tie.Need-slice_bounds-enter_behind-end invariant-loop decreases-loop
@@ -190,7 +190,7 @@ add-count c =
     let e = c.before.before.before.before.before.before.before.before.before.before in
     omega (arith, within e, (reached e).gap.long, c.well_formed)
 
-sub-rest-2 : tie.Need-overflow_sub-rest-in-Higher invariant-loop decreases-loop
+sub-rest-2 : tie.Need-overflow_sub-rest-in-Greater invariant-loop decreases-loop
 sub-rest-2 c = c.loop-rest-test.true
 
 loop-less-3 : tie.Need-loop-rest-smaller invariant-loop decreases-loop

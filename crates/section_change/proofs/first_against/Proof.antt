@@ -1,11 +1,11 @@
 -- `section_change::first_against` meets its contract: the entry at `at` is the first of those left. Assumes nothing.
+use Rattle.std.specs.declared.cmp.Ordering.TheVariants.{Greater}
 use Prim.Native.Nat.{ℕ, ◌+◌, ◌*◌, ◌-◌, ◌≤◌}
 use mathlib.Core.Path.{◌≡◌, refl}
 use mathlib.Core.List.{List}
 use native.Mathlib.Omega.{arith}
 use lib.ListN.{length, get_or, drop}
 use borrow.Author.Rules.{rules}
-use Rattle.words.specs.declared.Compared.TheVariants.{Higher}
 use Rattle.section.specs.Entries.{entries, span}
 use Rattle.section_change.specs.Editing.{first_against}
 use Rattle.section.proofs.Words.{span-at, entries_at}
@@ -20,7 +20,7 @@ room c =
     omega (arith, span-at x.book.now x.at x.left (x.at + 2 + 2 * get_or x.book.now x.at 0) (omega (arith, c.if-left-eq0.false)) refl)
 
 -- With none left the answer is that of none.
-none_left : (book key : List ℕ) (at left : ℕ) → left ≡ 0 → Higher ≡ first_against key (entries left (drop at book))
+none_left : (book key : List ℕ) (at left : ℕ) → left ≡ 0 → Greater ≡ first_against key (entries left (drop at book))
 unfolding entries
 none_left book key at left h = rw h
 

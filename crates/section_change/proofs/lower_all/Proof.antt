@@ -1,13 +1,13 @@
 -- `section_change::lower_all` meets its contract: what the pass has come to, with the entries left lowered by the other's left, is what all come to.
 -- Assumes nothing.
+use Rattle.std.specs.declared.cmp.Ordering.{Ordering}
+use Rattle.std.specs.declared.cmp.Ordering.TheVariants.{Less, Equal, Greater}
 use Prim.Native.Nat.{ℕ, ◌+◌, ◌*◌, ◌-◌, ◌≤◌, ◌<◌}
 use mathlib.Core.Path.{◌≡◌, refl, sym, ◌∙◌}
 use mathlib.Core.List.{List}
 use native.Mathlib.Omega.{arith}
 use lib.ListN.{length, get_or, take, drop, length-take, length-drop}
 use Rattle.words.proofs.Tests.{never}
-use Rattle.words.specs.declared.Compared.{Compared}
-use Rattle.words.specs.declared.Compared.TheVariants.{Lower, Equal, Higher}
 use Rattle.section.specs.Entries.{entries, span}
 use Rattle.section_change.specs.Editing.{first_against}
 use Rattle.section.proofs.Words.{span-at}
@@ -40,25 +40,25 @@ within : (k : tie.At-loop-rest invariant-loop decreases-loop) → let used = k.a
 within k = lowers_within _ _ _ _ _ _ _ _ _ _ _ _ _ k.loop-rest.invariant
 
 -- The first entry left stands so to the other's first key.
-abbrev Answered : tie.After-first_against invariant-loop decreases-loop → Compared → Type 0
+abbrev Answered : tie.After-first_against invariant-loop decreases-loop → Ordering → Type 0
 Answered a o =
     first_against (take (a.past-end.result - (a.loop-rest.from + 2)) (drop (a.loop-rest.from + 2) (other a.before.before.before.before))) (entries a.loop-rest.left (drop a.loop-rest.at a.loop-rest.book)) ≡ o
 
 -- It is lower.
-is-lower : (c : tie.In-Lower invariant-loop decreases-loop) → Answered c.before Lower
-is-lower c = sym c.first_against.ensures ∙ c.in-Lower.is
+is-lower : (c : tie.In-Less invariant-loop decreases-loop) → Answered c.before Less
+is-lower c = sym c.first_against.ensures ∙ c.in-Less.is
 
 -- It is equal.
 is-equal : (c : tie.In-Equal invariant-loop decreases-loop) → Answered c.before Equal
 is-equal c = sym c.first_against.ensures ∙ c.in-Equal.is
 
 -- It is higher.
-is-higher : (c : tie.In-Higher invariant-loop decreases-loop) → Answered c.before Higher
-is-higher c = sym c.first_against.ensures ∙ c.in-Higher.is
+is-higher : (c : tie.In-Greater invariant-loop decreases-loop) → Answered c.before Greater
+is-higher c = sym c.first_against.ensures ∙ c.in-Greater.is
 
 -- One is left if it is lower.
-some-lower : (c : tie.In-Lower invariant-loop decreases-loop) → 0 < c.loop-rest.left
-some-lower c = against_some _ _ _ Lower (is-lower c) (λ h. never cc)
+some-lower : (c : tie.In-Less invariant-loop decreases-loop) → 0 < c.loop-rest.left
+some-lower c = against_some _ _ _ Less (is-lower c) (λ h. never cc)
 
 -- One is left if it is equal.
 some-equal : (c : tie.In-Equal invariant-loop decreases-loop) → 0 < c.loop-rest.left
@@ -94,10 +94,10 @@ past-requires-2 c κs =
 sub-left : tie.Need-overflow_sub-left invariant-loop decreases-loop
 sub-left c = some-lower c.before
 
-loop-less : tie.Need-loop-rest-smaller-in-Lower invariant-loop decreases-loop
+loop-less : tie.Need-loop-rest-smaller-in-Less invariant-loop decreases-loop
 loop-less c = omega (arith, some-lower c.before)
 
-loop-again : tie.Need-loop-rest-preserved-in-Lower invariant-loop decreases-loop
+loop-again : tie.Need-loop-rest-preserved-in-Less invariant-loop decreases-loop
 loop-again c =
     lowers_lower _ _ _ _ _ _ _ _ _ _ _ _ _ c.loop-rest.invariant c.past-end.result c.loop-rest-test.true c.past-end.ensures (is-lower c.before) (some-lower c.before) c.past-at.result c.past-at.ensures
 
@@ -125,7 +125,7 @@ loop-again-2 c =
     let e = c.before.before.before.before.before in
     lowers_equal _ _ _ _ _ _ _ _ _ _ _ _ _ c.loop-rest.invariant c.past-end.result c.loop-rest-test.true c.past-end.ensures (is-equal e) (some-equal e) c.lessen-less.new.book c.lessen-less.result c.lessen-less.ensures.0 c.lessen-less.ensures.1 c.lessen-less.auto.book
 
-sub-rest-2 : tie.Need-overflow_sub-rest-in-Higher invariant-loop decreases-loop
+sub-rest-2 : tie.Need-overflow_sub-rest-in-Greater invariant-loop decreases-loop
 sub-rest-2 c = c.loop-rest-test.true
 
 loop-less-3 : tie.Need-loop-rest-smaller invariant-loop decreases-loop

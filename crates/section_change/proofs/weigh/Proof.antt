@@ -1,4 +1,5 @@
 -- `section_change::weigh` meets its contract: at each turn what was weighed and what the entries left would do come to the whole. Assumes nothing.
+use Rattle.std.specs.declared.cmp.Ordering.TheVariants.{Less, Equal, Greater}
 use Prim.Native.Nat.{ℕ, zero, suc, ◌+◌, ◌*◌, ◌-◌, ◌<◌, ◌≤◌}
 use mathlib.Core.Path.{◌≡◌, refl, sym, ◌∙◌}
 use mathlib.Core.Logic.{⊎_elim}
@@ -11,7 +12,6 @@ use borrow.Author.Rules.{rules}
 use borrow.Author.Tests.{le-leb, lt-leb}
 use Rattle.words.proofs.Tests.{never}
 use Rattle.words.specs.Base.{when◌then◌else◌}
-use Rattle.words.specs.declared.Compared.TheVariants.{Lower, Equal, Higher}
 use Rattle.words.proofs.Ordered.{compare_equal}
 use Rattle.figures.specs.Limits.{greatest_count}
 use Rattle.section.specs.Entries.{entries, span, Below}
@@ -32,7 +32,7 @@ record State (book : List ℕ) (many : ℕ) (other : List ℕ) (more at left fro
       (entries left (drop at book)) lacking full
 
 -- Where the first entry left is lower there is one.
-lower-some : (key ws : List ℕ) (left : ℕ) → first_against key (entries left ws) ≡ Lower → 0 < left
+lower-some : (key ws : List ℕ) (left : ℕ) → first_against key (entries left ws) ≡ Less → 0 < left
 unfolding entries
 lower-some key ws zero h = never cc
 lower-some key ws (suc left) h = omega arith
@@ -63,7 +63,7 @@ module _ (book : List ℕ) (many : ℕ) (other : List ℕ) (more at left from re
   room = omega (arith, s.theirs, span-at other from rest end some ends)
 
   -- A lower entry of the book is passed.
-  past-lower : (next : ℕ) → 0 < left → next ≡ at + 2 + 2 * get_or book at 0 → first_against (take (end - (from + 2)) (drop (from + 2) other)) (entries left (drop at book)) ≡ Lower
+  past-lower : (next : ℕ) → 0 < left → next ≡ at + 2 + 2 * get_or book at 0 → first_against (take (end - (from + 2)) (drop (from + 2) other)) (entries left (drop at book)) ≡ Less
       → State book many other more next (left - 1) from rest lacking full
   unfolding Below
   past-lower next l nexts h =
@@ -86,7 +86,7 @@ module _ (book : List ℕ) (many : ℕ) (other : List ℕ) (more at left from re
       }
 
   -- An entry of the other's that the book lacks is passed.
-  past-higher : first_against (take (end - (from + 2)) (drop (from + 2) other)) (entries left (drop at book)) ≡ Higher
+  past-higher : first_against (take (end - (from + 2)) (drop (from + 2) other)) (entries left (drop at book)) ≡ Greater
       → State book many other more at left end (rest - 1) (lacking + (end - from)) full
   past-higher h =
       let key = take (end - (from + 2)) (drop (from + 2) other) in
@@ -129,12 +129,12 @@ book-room k some =
     omega (arith, k.loop-rest.invariant.mine, span-at (book k) k.loop-rest.at k.loop-rest.left (k.loop-rest.at + 2 + 2 * get_or (book k) k.loop-rest.at 0) some refl)
 
 -- The first of the book's entries left is lower.
-is-lower : (c : tie.In-Lower invariant-loop decreases-loop) →
-    first_against (take (c.past-end.result - (c.loop-rest.from + 2)) (drop (c.loop-rest.from + 2) (other c.before.before.before.before.before))) (entries c.loop-rest.left (drop c.loop-rest.at (book c.before.before.before.before.before))) ≡ Lower
-is-lower c = sym c.first_against.ensures ∙ c.in-Lower.is
+is-lower : (c : tie.In-Less invariant-loop decreases-loop) →
+    first_against (take (c.past-end.result - (c.loop-rest.from + 2)) (drop (c.loop-rest.from + 2) (other c.before.before.before.before.before))) (entries c.loop-rest.left (drop c.loop-rest.at (book c.before.before.before.before.before))) ≡ Less
+is-lower c = sym c.first_against.ensures ∙ c.in-Less.is
 
 -- So there is one.
-lower-left : (c : tie.In-Lower invariant-loop decreases-loop) → 0 < c.loop-rest.left
+lower-left : (c : tie.In-Less invariant-loop decreases-loop) → 0 < c.loop-rest.left
 lower-left c = lower-some _ _ _ (is-lower c)
 
 -- The first of the book's entries left is equal.
@@ -176,10 +176,10 @@ past-requires-2 c κs = omega (arith, book-room c.before.before.before.before.be
 sub-left : tie.Need-overflow_sub-left invariant-loop decreases-loop
 sub-left c = lower-left c.before
 
-loop-less : tie.Need-loop-rest-smaller-in-Lower invariant-loop decreases-loop
+loop-less : tie.Need-loop-rest-smaller-in-Less invariant-loop decreases-loop
 loop-less c = omega (arith, lower-left c.before)
 
-loop-again : tie.Need-loop-rest-preserved-in-Lower invariant-loop decreases-loop
+loop-again : tie.Need-loop-rest-preserved-in-Less invariant-loop decreases-loop
 loop-again c =
     past-lower _ _ _ _ _ _ _ _ _ _ c.past-end.result c.loop-rest.invariant c.loop-rest-test.true c.past-end.ensures c.past-at.result (lower-left c.before) c.past-at.ensures (is-lower c.before)
 
@@ -222,7 +222,7 @@ add-lacking c = omega (arith, c.loop-rest.invariant.few, c.past-end.ensures, oth
 
 loop-again-3 : tie.Need-loop-rest-preserved invariant-loop decreases-loop
 loop-again-3 c =
-    past-higher _ _ _ _ _ _ _ _ _ _ c.past-end.result c.loop-rest.invariant c.loop-rest-test.true c.past-end.ensures (sym c.first_against.ensures ∙ c.in-Higher.is)
+    past-higher _ _ _ _ _ _ _ _ _ _ c.past-end.result c.loop-rest.invariant c.loop-rest-test.true c.past-end.ensures (sym c.first_against.ensures ∙ c.in-Greater.is)
 
 returns : tie.Need-returns invariant-loop decreases-loop
 returns c = all-weighed _ _ _ _ _ _ _ _ _ _ c.loop-rest.invariant c.loop-rest-test.false

@@ -72,10 +72,10 @@ enum_told c = search rules
 add_low : tie.Need-overflow_add-low invariant-loop decreases-loop
 add_low c = omega (arith, is-listed c.before.before.before)
 
-loop-again : tie.Need-loop-low-preserved-in-Lower invariant-loop decreases-loop
+loop-again : tie.Need-loop-low-preserved-in-Less invariant-loop decreases-loop
 loop-again c =
     let b = c.before.before.before in
-    between_lower _ _ (start b).requires.sorted _ _ (middle b) b.loop-low.invariant (omega arith) (omega arith) (stands c.before ∙ c.in-Lower.is)
+    between_lower _ _ (start b).requires.sorted _ _ (middle b) b.loop-low.invariant (omega arith) (omega arith) (stands c.before ∙ c.in-Less.is)
 
 returns : tie.Need-returns-in-Equal invariant-loop decreases-loop
 returns c =
@@ -85,7 +85,7 @@ returns c =
 loop-again-2 : tie.Need-loop-low-preserved invariant-loop decreases-loop
 loop-again-2 c =
     let b = c.before.before.before in
-    between_higher _ _ (start b).requires.sorted _ _ (middle b) b.loop-low.invariant (omega arith) (omega arith) (stands c.before ∙ c.in-Higher.is)
+    between_higher _ _ (start b).requires.sorted _ _ (middle b) b.loop-low.invariant (omega arith) (omega arith) (stands c.before ∙ c.in-Greater.is)
 
 returns-2 : tie.Need-returns invariant-loop decreases-loop
 returns-2 c = sym (between_none _ _ _ _ c.loop-low.invariant c.loop-low-test.false)

@@ -1,4 +1,5 @@
 -- `section_tally::tally_once` meets its contract: the entry that is found is tallied and marked unless it has the turn's mark. Assumes nothing.
+use Rattle.std.specs.Prelude.{None, Option, Some}
 use Prim.Native.Nat.{ℕ, ◌+◌, ◌<◌, ◌≤◌}
 use mathlib.Core.Path.{◌≡◌, sym, ap, ◌∙◌}
 use mathlib.Core.Bool.{true}
@@ -12,8 +13,6 @@ use Rattle.words.specs.Base.{when◌then◌else◌}
 use Rattle.figures.specs.Limits.{greatest_count}
 use Rattle.section.specs.Entries.{has}
 use Rattle.section_tally.specs.Tallying.{listed, sought_in, Few, on_one, tallied_once}
-use Rattle.section_tally.specs.declared.EntryFound.{EntryFound}
-use Rattle.section_tally.specs.declared.EntryFound.TheVariants.{Missing, Number}
 use Rattle.section_tally.proofs.Starts.{length-listed}
 use Rattle.section_tally.proofs.Tallies.{sought_lacks, sought_has}
 use Rattle.section_tally.proofs.tally_once.Statement.{statement}
@@ -21,13 +20,13 @@ use Rattle.section_tally.proofs.tally_once.Tie as tie
 
 -- ---- what is sought
 
-module _ (f : ℕ → ℕ) (turn : ℕ) (r : EntryFound) (ms cs : List ℕ) where
+module _ (f : ℕ → ℕ) (turn : ℕ) (r : Option ℕ) (ms cs : List ℕ) where
   -- Where nothing is found nothing is changed.
-  one-missing : r ≡ Missing → cs ≡ on_one f turn r ms cs
+  one-missing : r ≡ None → cs ≡ on_one f turn r ms cs
   unfolding on_one
   one-missing e = rw e
 
-  module _ (i : ℕ) (is : r ≡ Number i) where
+  module _ (i : ℕ) (is : r ≡ Some i) where
     -- Without the turn's mark the number is changed.
     one-changed : (get_or ms i 0 ≡ turn → ⊥) → set cs i (f (get_or cs i 0)) ≡ on_one f turn r ms cs
     unfolding on_one when◌then◌else◌
@@ -39,7 +38,7 @@ module _ (f : ℕ → ℕ) (turn : ℕ) (r : EntryFound) (ms cs : List ℕ) wher
     one_kept same = rw (is, eq-eqb (get_or ms i 0) turn same)
 
 -- A count that is stored fits where those do that are tallied then.
-stored-fits : (n turn : ℕ) (r : EntryFound) (ms cs : List ℕ) (i : ℕ) → r ≡ Number i → (get_or ms i 0 ≡ turn → ⊥) → i < length cs → Few (tallied_once n turn r ms cs) → get_or cs i 0 + n ≤ greatest_count
+stored-fits : (n turn : ℕ) (r : Option ℕ) (ms cs : List ℕ) (i : ℕ) → r ≡ Some i → (get_or ms i 0 ≡ turn → ⊥) → i < length cs → Few (tallied_once n turn r ms cs) → get_or cs i 0 + n ≤ greatest_count
 stored-fits n turn r ms cs i is other inside few =
     let v : ℕ = get_or cs i 0 + n in
     let e = ap (λ (l : List ℕ). get_or l i 0) (one-changed (λ (c : ℕ). c + n) turn r ms cs i is other) in
@@ -48,27 +47,27 @@ stored-fits n turn r ms cs i is other inside few =
 -- ---- at each place
 
 -- What the function was called with, seen from where the entry is found.
-abbrev called : tie.In-Number → tie.Start
+abbrev called : tie.In-Some → tie.Start
 called w = w.before.before.before.before.before.before.before
 
 -- The entry's number.
-abbrev number : tie.In-Number → ℕ
-number w = w.in-Number.i
+abbrev number : tie.In-Some → ℕ
+number w = w.in-Some.i
 
 -- It is the one that is sought.
-found : (w : tie.In-Number) → let x = (called w).args in sought_in x.key.now (listed x.starts.now x.book.now) ≡ Number (number w)
-found w = sym w.find_entry.ensures ∙ w.in-Number.is
+found : (w : tie.In-Some) → let x = (called w).args in sought_in x.key.now (listed x.starts.now x.book.now) ≡ Some (number w)
+found w = sym w.find_entry.ensures ∙ w.in-Some.is
 
 -- It has a count.
-counted : (w : tie.In-Number) → number w < length (called w).args.counts.now
+counted : (w : tie.In-Some) → number w < length (called w).args.counts.now
 counted w = let x = (called w).args in omega (arith, (called w).requires.1.0.0, length-listed x.starts.now x.book.now, (sought_has _ _ (number w) (found w)).0)
 
 -- It has a mark.
-noted : (w : tie.In-Number) → number w < length (called w).args.marks.now
+noted : (w : tie.In-Some) → number w < length (called w).args.marks.now
 noted w = omega (arith, counted w, (called w).requires.1.0.0, (called w).requires.1.0.1)
 
 -- The key has an entry.
-there : (w : tie.In-Number) → let x = (called w).args in true ≡ has x.key.now (listed x.starts.now x.book.now)
+there : (w : tie.In-Some) → let x = (called w).args in true ≡ has x.key.now (listed x.starts.now x.book.now)
 there w = sym (sought_has _ _ (number w) (found w)).1
 
 find-entry-requires : tie.Need-find_entry-requires
