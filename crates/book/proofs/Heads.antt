@@ -1,4 +1,5 @@
 -- The tests of a book's form one after the other: what is known of the words after each, and what follows where one fails. Assumes nothing.
+use Rattle.std.specs.Prelude.{None, Option, Some}
 use Prim.Native.Nat.{ℕ, ◌+◌, ◌<◌, ◌≤◌}
 use mathlib.Core.Path.{◌≡◌, refl, sym, ap, ◌∙◌}
 use mathlib.Core.Bool.{Bool, true, false}
@@ -7,6 +8,7 @@ use native.Mathlib.Nat.{zero-add}
 use borrow.Author.Tests.{le-leb, lt-leb, leb-true}
 use lib.Dec.{leb}
 use lib.ListN.{length, get_or, drop}
+use Rattle.book.specs.declared.Stretch.{Stretch}
 use Rattle.words.specs.Base.{◌and◌, when◌then◌else◌, within}
 use Rattle.words.proofs.Tests.{and_left, and_right, and_both, fails_left, fails_right}
 use Rattle.figures.specs.Limits.{head_words, most_book_words, least_k, greatest_k, greatest_count}
@@ -18,8 +20,6 @@ use Rattle.book.specs.Decoding.{tops_at, lows_at, middles_at, end_at, book_in, f
 use Rattle.book.specs.Passes.{stretch, stretch_of, head_of}
 use Rattle.book.specs.declared.Section.{Section}
 use Rattle.book.specs.declared.Section.TheVariants.{Taught, Tops, Lows, Middles}
-use Rattle.book.specs.declared.Stretch.{Stretch}
-use Rattle.book.specs.declared.Stretch.TheVariants.{InOrder, Broken}
 use Rattle.book.specs.declared.Places.{Places}
 use Rattle.book.specs.declared.BookForm.TheVariants.{Refused, InForm}
 use Rattle.book.proofs.Passing.{each_all, one-fails, places_in, run_of, passes, section-in}
@@ -120,9 +120,9 @@ pub record Ran (ws : List ℕ) (s : Section) (end sum : ℕ) : Type 0 where
 
 module _ (ws : List ℕ) (s : Section) where
   -- What is found of a section.
-  abbrev Tells : Stretch → Type 0
-  Tells (InOrder end sum) = Ran ws s end sum
-  Tells Broken = run_of ws s ≡ false
+  abbrev Tells : Option Stretch → Type 0
+  Tells (Some ran) = Ran ws s ran.end ran.sum
+  Tells None = run_of ws s ≡ false
 
   -- It is what stands there.
   tells : Tells (stretch_of ws (start_of s (places_in ws)) (get_or ws (slot_of s) 0) (shallowest s (get_or ws 0 0)) (deepest s (get_or ws 0 0)))
@@ -131,8 +131,8 @@ module _ (ws : List ℕ) (s : Section) where
     where
       go : (b : Bool) → run_of ws s ≡ b
           → Tells (when b
-          then InOrder (start_of s (places_in ws) + span (get_or ws (slot_of s) 0) (drop (start_of s (places_in ws)) ws)) (0 + total (entries (get_or ws (slot_of s) 0) (drop (start_of s (places_in ws)) ws)))
-          else Broken)
+          then Some (record { end = start_of s (places_in ws) + span (get_or ws (slot_of s) 0) (drop (start_of s (places_in ws)) ws); sum = 0 + total (entries (get_or ws (slot_of s) 0) (drop (start_of s (places_in ws)) ws)) })
+          else None)
       go true e = record { runs = e; next = end_of s ws; sums = zero-add _ ∙ ap total (sym (section-in s ws)) }
       go false e = e
 
@@ -157,7 +157,7 @@ no_k ws z e = not_passed ws z (fails_right _ _ (fails_left _ _ e))
 
 -- The pass over a section.
 module _ (ws : List ℕ) (d : Depth) (h : Head ws d) (s : Section) (from least greatest : ℕ) (starts : from ≡ start_of s (places_in ws))
-    (low : least ≡ shallowest s d.k) (high : greatest ≡ deepest s d.k) (w : Stretch) (told : w ≡ stretch_of ws from (get_or ws (slot_of s) 0) least greatest) where
+    (low : least ≡ shallowest s d.k) (high : greatest ≡ deepest s d.k) (w : Option Stretch) (told : w ≡ stretch_of ws from (get_or ws (slot_of s) 0) least greatest) where
   -- What it tells is what stands there.
   pass_tells : Tells ws s w
   pass_tells =
@@ -166,11 +166,11 @@ module _ (ws : List ℕ) (d : Depth) (h : Head ws d) (s : Section) (from least g
       rw (told, starts, a, b) (tells ws s)
 
   -- A section in order is found.
-  pub section-found : (end sum : ℕ) → w ≡ InOrder end sum → Ran ws s end sum
+  pub section-found : (end sum : ℕ) → w ≡ Some (record { end = end; sum = sum }) → Ran ws s end sum
   section-found end sum e = rw e at pass_tells
 
   -- Words with a section that is broken are refused by 5.
-  pub no_section : w ≡ Broken → book_form_of ws ≡ Refused not_in_form
+  pub no_section : w ≡ None → book_form_of ws ≡ Refused not_in_form
   unfolding passes
   no_section e =
       let f : run_of ws s ≡ false = rw e at pass_tells in

@@ -1,4 +1,5 @@
 -- Laws of a run of entries at a place that a loop has reached, of the entry there, of words that are all zero, and of the head. Assumes nothing.
+use Rattle.std.specs.Prelude.{None, Option, Some}
 use Prim.Native.Nat.{ℕ, zero, suc, ◌+◌, ◌*◌, ◌-◌, ◌<◌, ◌≤◌}
 use mathlib.Core.Path.{◌≡◌, refl, sym, ◌∙◌}
 use mathlib.Core.Bool.{Bool, true, false}
@@ -10,6 +11,7 @@ use lib.Dec.{leb, eqb}
 use borrow.Author.Tests.{le-leb, lt-leb, leb-true, leb-false, eq-eqb, ne_eqb}
 use lib.ListN.{length, get_or, take, drop, length-drop, drop_of_length-le}
 use lib.Seq.{drop-drop, get_or-drop, drop-cons}
+use Rattle.book.specs.declared.Whole.{Whole}
 use Rattle.words.specs.Base.{◌and◌, when◌then◌else◌}
 use Rattle.words.specs.Compare.{before}
 use Rattle.words.proofs.Tests.{fails_left, fails_right}
@@ -19,9 +21,6 @@ use Rattle.section.specs.Entries.{first_entry, entries, width, span, total}
 use Rattle.section.proofs.Words.{past-at, span-at, entries_at}
 use Rattle.book.specs.Book.{entry_in_form}
 use Rattle.book.specs.Passes.{whole_at, run, stretch, zeros, head_of}
-use Rattle.book.specs.declared.Whole.{Whole}
-use Rattle.book.specs.declared.Whole.TheVariants.{Ends, NoEntry}
-use Rattle.book.specs.declared.Stretch.TheVariants.{InOrder, Broken}
 
 -- ---- the entry at a word
 
@@ -31,12 +30,12 @@ module _ (ws : List ℕ) (at : ℕ) where
   ends_at = rw (get_or-drop, add-zero) (omega arith)
 
   -- Where its words are not all there, there is none.
-  pub not_whole : length ws < at + 2 + 2 * get_or ws at 0 → whole_at ws at ≡ NoEntry
+  pub not_whole : length ws < at + 2 + 2 * get_or ws at 0 → whole_at ws at ≡ None
   unfolding whole_at when◌then◌else◌
   not_whole h = rw (ends_at, lt-leb (at + 2 + 2 * get_or ws at 0) (length ws) h)
 
   -- Where they are, it is told by its end and its count.
-  pub whole : at + 2 + 2 * get_or ws at 0 ≤ length ws → whole_at ws at ≡ Ends (at + 2 + 2 * get_or ws at 0) (get_or ws (at + 1) 0)
+  pub whole : at + 2 + 2 * get_or ws at 0 ≤ length ws → whole_at ws at ≡ Some (record { end = at + 2 + 2 * get_or ws at 0; count = get_or ws (at + 1) 0 })
   unfolding whole_at when◌then◌else◌
   whole h = rw (ends_at, le-leb (at + 2 + 2 * get_or ws at 0) (length ws) h)
 
@@ -48,26 +47,26 @@ pub record Told (ws : List ℕ) (at end count : ℕ) : Type 0 where
 
 module _ (ws : List ℕ) (at : ℕ) where
   -- What `whole_at` tells.
-  abbrev Tells : Whole → Type 0
-  Tells (Ends end count) = Told ws at end count
-  Tells NoEntry = length ws < at + 2 + 2 * get_or ws at 0
+  abbrev Tells : Option Whole → Type 0
+  Tells (Some entry) = Told ws at entry.end entry.count
+  Tells None = length ws < at + 2 + 2 * get_or ws at 0
 
   -- It tells what stands there.
   tells : Tells (whole_at ws at)
   unfolding whole_at when◌then◌else◌
   tells = rw (ends_at ws at) (go (leb (at + 2 + 2 * get_or ws at 0) (length ws)) refl)
     where
-      go : (b : Bool) → leb (at + 2 + 2 * get_or ws at 0) (length ws) ≡ b → Tells (when b then Ends (at + 2 + 2 * get_or ws at 0) (get_or ws (at + 1) 0) else NoEntry)
+      go : (b : Bool) → leb (at + 2 + 2 * get_or ws at 0) (length ws) ≡ b → Tells (when b then Some (record { end = at + 2 + 2 * get_or ws at 0; count = get_or ws (at + 1) 0 }) else None)
       go true e = record { ends = refl; counts = refl; fits = leb-true _ _ e }
       go false e = leb-false _ _ e
 
-  module _ (w : Whole) (is : w ≡ whole_at ws at) where
+  module _ (w : Option Whole) (is : w ≡ whole_at ws at) where
     -- An entry that is told is there.
-    pub told : (end count : ℕ) → w ≡ Ends end count → Told ws at end count
+    pub told : (end count : ℕ) → w ≡ Some (record { end = end; count = count }) → Told ws at end count
     told end count e = rw (sym is ∙ e) at tells
 
     -- Where none is told the words end.
-    pub not_told : w ≡ NoEntry → length ws < at + 2 + 2 * get_or ws at 0
+    pub not_told : w ≡ None → length ws < at + 2 + 2 * get_or ws at 0
     not_told e = rw (sym is ∙ e) at tells
 
 -- ---- zeros
@@ -112,19 +111,19 @@ run_step least greatest last ws zero h = absurd (not-suc-le-zero h)
 run_step least greatest last ws (suc n) h = rw sub-one
 
 -- A run that is none is told as broken.
-broken : (least greatest : ℕ) (last : List ℕ) (at sum n : ℕ) (ws : List ℕ) → run least greatest last n ws ≡ false → stretch least greatest last at sum n ws ≡ Broken
+broken : (least greatest : ℕ) (last : List ℕ) (at sum n : ℕ) (ws : List ℕ) → run least greatest last n ws ≡ false → stretch least greatest last at sum n ws ≡ None
 unfolding stretch when◌then◌else◌
 broken least greatest last at sum n ws e = rw e
 
 -- With no entry left the run ends here.
-pub all-passed : (least greatest : ℕ) (last : List ℕ) (at sum n : ℕ) (ws : List ℕ) → n ≤ 0 → stretch least greatest last at sum n ws ≡ InOrder at sum
+pub all-passed : (least greatest : ℕ) (last : List ℕ) (at sum n : ℕ) (ws : List ℕ) → n ≤ 0 → stretch least greatest last at sum n ws ≡ Some (record { end = at; sum = sum })
 unfolding stretch when◌then◌else◌ run span entries total
 all-passed least greatest last at sum n ws h = let z : n ≡ 0 = omega arith in rw z (rw (add-zero at, add-zero sum) refl)
 
 -- The entry at `at`, past entries of which the last has the key `last`.
 module _ (book : List ℕ) (least greatest : ℕ) (last : List ℕ) (at sum left : ℕ) (more : 0 < left) where
   -- Its words are not all there.
-  pub runs_out : length book < at + 2 + 2 * get_or book at 0 → stretch least greatest last at sum left (drop at book) ≡ Broken
+  pub runs_out : length book < at + 2 + 2 * get_or book at 0 → stretch least greatest last at sum left (drop at book) ≡ None
   unfolding ◌and◌
   runs_out h =
       let l : length (drop at book) < width (drop at book) = rw (length-drop, get_or-drop, add-zero) (omega arith) in
@@ -150,17 +149,17 @@ module _ (book : List ℕ) (least greatest : ℕ) (last : List ℕ) (at sum left
     total-at = rw (entries_at book at left end more is.ends, ← is.counts)
 
     -- It counts nothing.
-    pub uncounted : count < 1 → stretch least greatest last at sum left (drop at book) ≡ Broken
+    pub uncounted : count < 1 → stretch least greatest last at sum left (drop at book) ≡ None
     unfolding ◌and◌
     uncounted h = broken least greatest last at sum left (drop at book) (run_at ∙ rw (lt-leb 1 count h))
 
     -- Its key does not stand above the last, whatever else it is.
-    pub unsorted : before last (take (end - (at + 2)) (drop (at + 2) book)) ≡ false → stretch least greatest last at sum left (drop at book) ≡ Broken
+    pub unsorted : before last (take (end - (at + 2)) (drop (at + 2) book)) ≡ false → stretch least greatest last at sum left (drop at book) ≡ None
     unsorted e = broken least greatest last at sum left (drop at book) (run_at ∙ fails_right _ _ (fails_left _ _ e))
 
     module _ (some : 1 ≤ count) (few : count ≤ greatest_count) where
       -- Its key is no order of a depth between the two.
-      pub misfit : fits_of least greatest (take (end - (at + 2)) (drop (at + 2) book)) ≡ false → stretch least greatest last at sum left (drop at book) ≡ Broken
+      pub misfit : fits_of least greatest (take (end - (at + 2)) (drop (at + 2) book)) ≡ false → stretch least greatest last at sum left (drop at book) ≡ None
       unfolding ◌and◌
       misfit e = broken least greatest last at sum left (drop at book) (run_at ∙ rw (le-leb 1 count some, le-leb count greatest_count few, e))
 

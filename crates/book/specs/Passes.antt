@@ -1,22 +1,20 @@
 -- Inner: no promise rests on these definitions.
 -- What one pass over the words of a section finds, by the definitions of a book in form. Assumes nothing: these are definitions.
-use Rattle.std.specs.Prelude.{ℕ, zero, suc, ◌+◌, Bool, true, List, [], ◌∷◌, leb, eqb, length, get_or, drop}
+use Rattle.std.specs.Prelude.{ℕ, zero, suc, ◌+◌, Bool, true, List, [], ◌∷◌, leb, eqb, length, get_or, drop, None, Option, Some}
+use Rattle.book.specs.declared.Stretch.{Stretch}
+use Rattle.book.specs.declared.Whole.{Whole}
 use Rattle.words.specs.Base.{◌and◌, when◌then◌else◌}
 use Rattle.words.specs.Compare.{before}
 use Rattle.figures.specs.Limits.{used_word, live_word}
 use Rattle.section.specs.Entries.{first_entry, entries, width, span, total}
 use Rattle.book.specs.Book.{entry_in_form}
-use Rattle.book.specs.declared.Whole.{Whole}
-use Rattle.book.specs.declared.Whole.TheVariants.{Ends, NoEntry}
-use Rattle.book.specs.declared.Stretch.{Stretch}
-use Rattle.book.specs.declared.Stretch.TheVariants.{InOrder, Broken}
 
 -- The entry at a word, if all its words are there.
-unfoldable pub whole_at : List ℕ → ℕ → Whole
+unfoldable pub whole_at : List ℕ → ℕ → Option Whole
 whole_at ws at =
     when leb (at + width (drop at ws)) (length ws)
-    then Ends (at + width (drop at ws)) (get_or ws (at + 1) 0)
-    else NoEntry
+    then Some (record { end = at + width (drop at ws); count = get_or ws (at + 1) 0 })
+    else None
 
 -- n whole entries in form at the front of the words, ascending from the words `last` on.
 unfoldable pub run : ℕ → ℕ → List ℕ → ℕ → List ℕ → Bool
@@ -26,12 +24,12 @@ run least greatest last (suc n) ws =
     and run least greatest (first_entry ws).key n (drop (width ws) ws)
 
 -- What is found of n entries at the front of the words, which stand at word `at`, past entries with this sum of counts.
-unfoldable pub stretch : ℕ → ℕ → List ℕ → ℕ → ℕ → ℕ → List ℕ → Stretch
+unfoldable pub stretch : ℕ → ℕ → List ℕ → ℕ → ℕ → ℕ → List ℕ → Option Stretch
 stretch least greatest last at sum n ws =
-    when run least greatest last n ws then InOrder (at + span n ws) (sum + total (entries n ws)) else Broken
+    when run least greatest last n ws then Some (record { end = at + span n ws; sum = sum + total (entries n ws) }) else None
 
 -- What is found of the section of n entries that stands at word `from`.
-unfoldable pub stretch_of : List ℕ → ℕ → ℕ → ℕ → ℕ → Stretch
+unfoldable pub stretch_of : List ℕ → ℕ → ℕ → ℕ → ℕ → Option Stretch
 stretch_of ws from n least greatest = stretch least greatest [] from 0 n (drop from ws)
 
 -- Every word is zero.

@@ -36,18 +36,18 @@ pub enum BookForm {
     InForm(Places),
 }
 
-// The entry at a word, if all its words are there: the word past it, and its count.
+// An entry all of whose words are there: the word past it, and its count.
 #[derive(Clone, Copy)]
-pub enum Whole {
-    NoEntry,
-    Ends { end: usize, count: usize },
+pub struct Whole {
+    pub end: usize,
+    pub count: usize,
 }
 
-// What a pass over a section finds: in order, with the word past it and the sum of its counts, or not.
+// A section that is in order: the word past it, and the sum of its counts.
 #[derive(Clone, Copy)]
-pub enum Stretch {
-    Broken,
-    InOrder(usize, usize),
+pub struct Stretch {
+    pub end: usize,
+    pub sum: usize,
 }
 
 // Where a section starts.

@@ -11,23 +11,23 @@ use book::{BookForm, Places, Stretch, Whole, is_book_size};
 use figures::{Depth, limits, numbers};
 
 // The entry at word `at`, if all its words are there.
-fn whole_at(book: &[u16], at: usize) -> Whole
+fn whole_at(book: &[u16], at: usize) -> Option<Whole>
     ensures { result ≡ whole_at book.now at }
 {
     if book.len() < 2 {
-        return Whole::NoEntry;
+        return None;
     }
     if book.len() - 2 < at {
-        return Whole::NoEntry;
+        return None;
     }
     let nodes = book[at] as usize;
     let count = book[at + 1] as usize;
     let start = at + 2;
     if (book.len() - start) / 2 < nodes {
-        return Whole::NoEntry;
+        return None;
     }
     let end = start + 2 * nodes;
-    Whole::Ends { end, count }
+    Some(Whole { end, count })
 }
 
 // One pass over the n entries from `from`: each is whole, counts at least 1, stands above the one before it, and is an order of a depth from
@@ -39,7 +39,7 @@ fn pass(
     least: usize,
     greatest: usize,
     stack: &mut [u16],
-) -> Stretch
+) -> Option<Stretch>
     requires { (greatest ≤ greatest_depth) × (most_nodes ≤ length stack.old) }
     ensures came { result ≡ stretch_of book.now from n least greatest }
     ensures kept { length stack.new ≡ length stack.old }
@@ -50,18 +50,18 @@ fn pass(
     let mut last: usize = 0;
     let mut last_end: usize = 0;
     while 0 < left {
-        let Whole::Ends { end, count } = whole_at(book, at) else {
-            return Stretch::Broken;
+        let Some(Whole { end, count }) = whole_at(book, at) else {
+            return None;
         };
         let start = at + 2;
         if count < limits::LEAST_COUNT {
-            return Stretch::Broken;
+            return None;
         }
         if !words::precedes(&book[last..last_end], &book[start..end]) {
-            return Stretch::Broken;
+            return None;
         }
         if !order_fit::fits(&book[start..end], least, greatest, stack) {
-            return Stretch::Broken;
+            return None;
         }
         last = start;
         last_end = end;
@@ -69,7 +69,7 @@ fn pass(
         sum += count;
         left -= 1;
     }
-    Stretch::InOrder(at, sum)
+    Some(Stretch { end: at, sum })
 }
 
 // Whether every word from `at` on is zero, by the greatest of them: no word ends the loop early, so that a processor can look at several at once.
@@ -117,7 +117,10 @@ pub fn in_form(book: &[u16]) -> BookForm
     let low = k.of_tops();
     let middle = k.of_middles();
     let mut stack = [0u16; limits::MOST_NODES];
-    let Stretch::InOrder(tops, live) = pass(
+    let Some(Stretch {
+        end: tops,
+        sum: live,
+    }) = pass(
         book,
         limits::HEAD_WORDS,
         book[limits::TAUGHT_WORD],
@@ -127,15 +130,18 @@ pub fn in_form(book: &[u16]) -> BookForm
     ) else {
         return BookForm::Refused(numbers::NOT_IN_FORM);
     };
-    let Stretch::InOrder(lows, _) = pass(book, tops, book[limits::TOPS_WORD], 0, low, &mut stack)
+    let Some(Stretch { end: lows, sum: _ }) = pass(book, tops, book[limits::TOPS_WORD], 0, low, &mut stack)
     else {
         return BookForm::Refused(numbers::NOT_IN_FORM);
     };
-    let Stretch::InOrder(middles, _) = pass(book, lows, book[limits::LOWS_WORD], 0, low, &mut stack)
+    let Some(Stretch {
+        end: middles,
+        sum: _,
+    }) = pass(book, lows, book[limits::LOWS_WORD], 0, low, &mut stack)
     else {
         return BookForm::Refused(numbers::NOT_IN_FORM);
     };
-    let Stretch::InOrder(used, _) = pass(
+    let Some(Stretch { end: used, sum: _ }) = pass(
         book,
         middles,
         book[limits::MIDDLES_WORD],

@@ -1,5 +1,5 @@
 -- What stands at a place of the input, by the tests that the code makes of its bytes. Assumes nothing.
-use Rattle.std.specs.Prelude.{None, Some}
+use Rattle.std.specs.Prelude.{None, Some, Err, Ok}
 use Prim.Native.Nat.{ℕ, suc, ◌+◌, ◌-◌, ◌≤◌, ◌<◌}
 use mathlib.Core.Path.{◌≡◌, refl, ap, sym, ◌∙◌}
 use mathlib.Core.Bool.{Bool, true, false}
@@ -23,7 +23,6 @@ use Rattle.desk_input.specs.Sheets.{letter_K, letter_byte, letter_of, FirstLine,
 use Rattle.desk_input.specs.Places.{letter_at, size_to, depth_by, depth_on}
 use Rattle.desk_input.specs.declared.Letter.{Letter}
 use Rattle.desk_input.specs.declared.Letter.TheVariants.{Teach, Withdraw, Judge}
-use Rattle.desk_input.specs.declared.Front.TheVariants.{Fault, Opens}
 use Rattle.desk_input.proofs.Splitting.{letter-sheet, other_before, empty-sheet, size-on, size-other, size-letter}
 
 -- ---- letters
@@ -194,14 +193,14 @@ no_k otherwise e = refl
 no_k (asks k rest) e = never cc
 
 -- Bytes before the first letter are a fault.
-some-before : (k : ℕ) (bs : List ℕ) (calls : List FormCall) → 0 < length bs → opening_by (handed_by k bs calls) ≡ Fault (record { number = no_form; line = 2 })
+some-before : (k : ℕ) (bs : List ℕ) (calls : List FormCall) → 0 < length bs → opening_by (handed_by k bs calls) ≡ Err (record { number = no_form; line = 2 })
 unfolding handed_by
 some-before k [] calls h = absurd (omega arith)
 some-before k (b ∷ bs) calls h = refl
 
 module _ (input : List ℕ) where
   -- More bytes than are allowed are the first fault.
-  pub front-large : most_input < length input → opening_of input ≡ Fault (answered too_large)
+  pub front-large : most_input < length input → opening_of input ≡ Err (answered too_large)
   unfolding opening_of handed_in when◌then◌else◌
   front-large h = rw (lt-ltb most_input (length input) h)
 
@@ -212,7 +211,7 @@ module _ (input : List ℕ) where
     by_first_lem = rw (le-ltb most_input (length input) h)
 
     -- A first line with no k is the second fault.
-    pub front-outside : depth_on input ≡ None → opening_of input ≡ Fault (answered k_outside)
+    pub front-outside : depth_on input ≡ None → opening_of input ≡ Err (answered k_outside)
     unfolding depth_on by_first
     front-outside e = by_first_lem ∙ ap (λ (f : FirstLine). opening_by (by_first f)) (no_k (first_line input) e)
 
@@ -223,20 +222,20 @@ module _ (input : List ℕ) where
     behind-first d e = by_first_lem ∙ rw (begins input d e).first
 
     -- Nothing behind line 1 opens a book.
-    pub front-alone : (d : Depth) → depth_on input ≡ Some d → length input ≡ 4 → opening_of input ≡ Opens d.k
+    pub front-alone : (d : Depth) → depth_on input ≡ Some d → length input ≡ 4 → opening_of input ≡ Ok d.k
     unfolding handed_by
     front-alone d e l =
         let z : length input ≤ 4 = omega arith in
         behind-first d e ∙ rw (drop_of_length-le input z, empty-sheet)
 
     -- So does a letter line behind it.
-    pub front-letter : (d : Depth) (x : Letter) → depth_on input ≡ Some d → letter_at (drop 4 input) ≡ Some x → opening_of input ≡ Opens d.k
+    pub front-letter : (d : Depth) (x : Letter) → depth_on input ≡ Some d → letter_at (drop 4 input) ≡ Some x → opening_of input ≡ Ok d.k
     unfolding handed_by
     front-letter d x e a = behind-first d e ∙ rw (letter-sheet (drop 4 input) x a)
 
     -- Other bytes behind it are the third fault.
     pub front-other : (d : Depth) → depth_on input ≡ Some d → (length input ≡ 4 → ⊥) → letter_at (drop 4 input) ≡ None
-        → opening_of input ≡ Fault (record { number = no_form; line = 2 })
+        → opening_of input ≡ Err (record { number = no_form; line = 2 })
     front-other d e n a =
         behind-first d e
         ∙ some-before d.k _ _ (other_before (drop 4 input) (omega (arith, length-drop 4 input, (begins input d e).enough)) a)

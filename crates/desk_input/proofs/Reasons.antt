@@ -1,5 +1,5 @@
 -- The front of an input is answered for one of the reasons of `Whys`, and for each of them in one way. Assumes nothing.
-use Rattle.std.specs.Prelude.{None, Option, Some}
+use Rattle.std.specs.Prelude.{None, Option, Some, Err, Ok, Result}
 use Prim.Native.Nat.{ℕ, ◌+◌, ◌≤◌, ◌<◌}
 use mathlib.Core.Path.{◌≡◌, refl, ap, sym, ◌∙◌}
 use mathlib.Core.Bool.{Bool, true, false}
@@ -20,8 +20,6 @@ use Rattle.form.specs.Reading.{is_digit, figure}
 use Rattle.desk_input.specs.Sheets.{letter_K, FirstLine, otherwise, asks, first_line, opening_of}
 use Rattle.desk_input.specs.Places.{letter_at, depth_by, depth_on}
 use Rattle.desk_input.specs.Whys.{OpensWith, LetterFirst, WhyFront, larger, no_opening, no_letter, alone, with_calls}
-use Rattle.desk_input.specs.declared.Front.{Front}
-use Rattle.desk_input.specs.declared.Front.TheVariants.{Fault, Opens}
 use Rattle.desk_input.proofs.Found.{is_first, front-large, front-outside, front-alone, front-letter, front-other}
 use Rattle.desk_input.proofs.LetterLines.{letter-is, letter-only, not_letter, letter-none}
 
@@ -96,22 +94,22 @@ module _ (input : List ℕ) (h : length input ≤ most_input) where
     sized = let z = ap length o.spelt in omega arith
 
     -- Nothing behind line 1 leaves a book to open.
-    row-alone : rest ≡ [] → opening_of input ≡ Opens k
+    row-alone : rest ≡ [] → opening_of input ≡ Ok k
     row-alone e =
         let z = ap length e in
         front-alone input h (record { k = k }) asked (omega (arith, sized))
 
     -- So does a letter line behind it.
-    row-calls : LetterFirst rest → opening_of input ≡ Opens k
+    row-calls : LetterFirst rest → opening_of input ≡ Ok k
     row-calls f = front-letter input h (record { k = k }) f.letter asked (ap letter_at behind-four ∙ letter-only rest f)
 
     -- Other bytes behind it are answered by 10 at line 2.
-    row-bytes : 0 < length rest → (LetterFirst rest → ⊥) → opening_of input ≡ Fault (record { number = no_form; line = 2 })
+    row-bytes : 0 < length rest → (LetterFirst rest → ⊥) → opening_of input ≡ Err (record { number = no_form; line = 2 })
     row-bytes l n =
         front-other input h (record { k = k }) asked (λ e. omega (arith, sized)) (ap letter_at behind-four ∙ letter-none rest n)
 
   -- A first line otherwise is answered by 3.
-  row-outside : ((k : ℕ) (rest : List ℕ) → OpensWith input k rest → ⊥) → opening_of input ≡ Fault (answered k_outside)
+  row-outside : ((k : ℕ) (rest : List ℕ) → OpensWith input k rest → ⊥) → opening_of input ≡ Err (answered k_outside)
   row-outside n = front-outside input h (unfold depth_on in go (first_line input) refl)
     where
       -- By what the first line is.
@@ -120,7 +118,7 @@ module _ (input : List ℕ) (h : length input ≤ most_input) where
       go (asks k rest) e = absurd (n k rest (first-is input k rest e))
 
 -- Each reason leaves no other answer.
-pub opening-only : (input : List ℕ) (f : Front) → WhyFront input f → opening_of input ≡ f
+pub opening-only : (input : List ℕ) (f : Result ℕ Answer) → WhyFront input f → opening_of input ≡ f
 opening-only input f (larger e l) = front-large input l ∙ sym e
 opening-only input f (no_opening e h n) = row-outside input h n ∙ sym e
 opening-only input f (no_letter k rest e h o l n) = row-bytes input h k rest o l n ∙ sym e

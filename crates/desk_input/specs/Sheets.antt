@@ -1,6 +1,6 @@
 -- What is handed in at the desk (01, "Forms on the desk"): the lines of the input, the calls that they ask for, and the three faults. Assumes
 -- nothing: these are definitions.
-use Rattle.std.specs.Prelude.{ℕ, Bool, true, false, List, [], ◌∷◌, ◌++◌, ltb, eqb, length, None, Option, Some}
+use Rattle.std.specs.Prelude.{ℕ, Bool, true, false, List, [], ◌∷◌, ◌++◌, ltb, eqb, length, None, Option, Some, Err, Ok, Result}
 use Rattle.words.specs.Base.{◌and◌, when◌then◌else◌, within}
 use Rattle.figures.specs.Limits.{least_k, greatest_k, most_input}
 use Rattle.figures.specs.Numbers.{done, too_large, k_outside, no_form}
@@ -10,8 +10,6 @@ use Rattle.form.specs.Text.{space, line_feed}
 use Rattle.form.specs.Reading.{is_digit, figure}
 use Rattle.desk_input.specs.declared.Letter.{Letter}
 use Rattle.desk_input.specs.declared.Letter.TheVariants.{Teach, Withdraw, Judge}
-use Rattle.desk_input.specs.declared.Front.{Front}
-use Rattle.desk_input.specs.declared.Front.TheVariants.{Fault, Opens}
 
 -- ---- sizes
 
@@ -125,15 +123,15 @@ unfoldable pub handed_in : List ℕ → Handed
 handed_in input = when ltb most_input (length input) then faulty (answered too_large) else by_first (first_line input)
 
 -- What the front of the input is: the first fault, or the k of a book to open.
-abbrev pub opening_by : Handed → Front
-opening_by (faulty a) = Fault a
-opening_by (handed k calls) = Opens k
+abbrev pub opening_by : Handed → Result ℕ Answer
+opening_by (faulty a) = Err a
+opening_by (handed k calls) = Ok k
 
 -- What the front of an input is.
-unfoldable pub opening_of : List ℕ → Front
+unfoldable pub opening_of : List ℕ → Result ℕ Answer
 opening_of input = opening_by (handed_in input)
 
 -- 01's number and line for each case: 0 for a book to open.
-abbrev pub front_answer : Front → Answer
-front_answer (Fault a) = a
-front_answer (Opens k) = answered done
+abbrev pub front_answer : Result ℕ Answer → Answer
+front_answer (Err a) = a
+front_answer (Ok k) = answered done

@@ -38,13 +38,6 @@ impl Letter {
     }
 }
 
-// What the front of the input is: the first fault, or a first line that opens a book of that k.
-#[derive(Clone, Copy)]
-pub enum Front {
-    Fault(Answer),
-    Opens(u16),
-}
-
 // What a byte asks for, if it is a letter.
 fn letter_of(b: u8) -> Option<Letter>
     ensures { result ≡ letter_of b }
@@ -117,21 +110,21 @@ fn depth_on(input: &[u8]) -> Option<Depth>
 }
 
 // The first of the three faults of an input, or the k that its first line opens a book of.
-pub fn opening(input: &[u8]) -> Front
+pub fn opening(input: &[u8]) -> Result<u16, Answer>
     ensures { result ≡ opening_of input.now }
 {
     if limits::MOST_INPUT < input.len() {
-        return Front::Fault(answered(numbers::TOO_LARGE));
+        return Err(answered(numbers::TOO_LARGE));
     }
     let Some(depth) = depth_on(input) else {
-        return Front::Fault(answered(numbers::K_OUTSIDE));
+        return Err(answered(numbers::K_OUTSIDE));
     };
     if input.len() == FIRST_LINE {
-        return Front::Opens(depth.value());
+        return Ok(depth.value());
     }
     match letter_at(input, FIRST_LINE) {
-        Some(_) => Front::Opens(depth.value()),
-        None => Front::Fault(Answer {
+        Some(_) => Ok(depth.value()),
+        None => Err(Answer {
             number: numbers::NO_FORM,
             line: 2,
         }),

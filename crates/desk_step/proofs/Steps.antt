@@ -1,5 +1,5 @@
 -- What a step answers, by what its inner calls answered: nothing done, a fault's line, the opening's line, and the line of a call. Assumes nothing.
-use Rattle.std.specs.Prelude.{None, Some}
+use Rattle.std.specs.Prelude.{None, Some, Err, Ok}
 use Prim.Native.Nat.{ℕ, ◌+◌, ◌-◌, ◌≤◌, ◌<◌}
 use mathlib.Core.Path.{◌≡◌, refl, ap, sym, ◌∙◌}
 use mathlib.Core.Bool.{true}
@@ -15,7 +15,6 @@ use Rattle.book.specs.Opening.{Outcome, outcome, open_of}
 use Rattle.desk_line.specs.Replies.{reply, reply_room}
 use Rattle.desk_input.specs.Sheets.{first_line_size, letter_line_size, letter_K, letter_byte, FormCall, sheet_of, Handed, faulty, handed, handed_in, opening_by, opening_of}
 use Rattle.desk_input.specs.Places.{letter_at, size_to}
-use Rattle.desk_input.specs.declared.Front.TheVariants.{Fault, Opens}
 use Rattle.desk_input.specs.declared.Letter.{Letter}
 use Rattle.desk_input.proofs.Splitting.{other_before, empty-sheet, form-front, form-size, size-within}
 use Rattle.desk_call.specs.Asking.{call_of}
@@ -47,25 +46,25 @@ line-given taken letter o out written u count e n w = rw (w, n, e)
 
 module _ (input book out : List ℕ) (room : reply_room ≤ length out) where
   -- By a fault all of the input is taken, and the book stays.
-  pub begin_fault : (a : Answer) (written : List ℕ) (count : ℕ) → Fault a ≡ opening_of input → count ≡ length (reply letter_K a 0)
+  pub begin_fault : (a : Answer) (written : List ℕ) (count : ℕ) → Err a ≡ opening_of input → count ≡ length (reply letter_K a 0)
       → written ≡ over (reply letter_K a 0) out → stepping (record { taken = length input; count = count }) book written ≡ begin_of input book out
   unfolding opening_of begun_by
   begin_fault a written count f n w = go (handed_in input) f ∙ sym (begin_is input book out room)
     where
       -- By what is handed in.
-      go : (h : Handed) → Fault a ≡ opening_by h → stepping (record { taken = length input; count = count }) book written ≡ begun_by (length input) h book out
+      go : (h : Handed) → Err a ≡ opening_by h → stepping (record { taken = length input; count = count }) book written ≡ begun_by (length input) h book out
       go (faulty b) e = let same : a ≡ b = cc in rw (w, n, same)
       go (handed k cs) e = never cc
 
   -- Otherwise the book is opened, and line 1 is taken.
-  pub begin_opens : (k : ℕ) (a : Answer) (ws written : List ℕ) (u count : ℕ) → Opens k ≡ opening_of input → outcome a ws ≡ open_of book k
+  pub begin_opens : (k : ℕ) (a : Answer) (ws written : List ℕ) (u count : ℕ) → Ok k ≡ opening_of input → outcome a ws ≡ open_of book k
       → u ≡ get_or ws used_word 0 → count ≡ length (reply letter_K a u) → written ≡ over (reply letter_K a u) out
       → stepping (record { taken = first_line_size; count = count }) ws written ≡ begin_of input book out
   unfolding opening_of begun_by
   begin_opens k a ws written u count f o e n w = go (handed_in input) f ∙ sym (begin_is input book out room)
     where
       -- By what is handed in.
-      go : (h : Handed) → Opens k ≡ opening_by h → stepping (record { taken = first_line_size; count = count }) ws written ≡ begun_by (length input) h book out
+      go : (h : Handed) → Ok k ≡ opening_by h → stepping (record { taken = first_line_size; count = count }) ws written ≡ begun_by (length input) h book out
       go (faulty b) q = never cc
       go (handed j cs) q =
           let same : k ≡ j = cc in

@@ -5,7 +5,6 @@ ghost use Rattle.std.specs.Prelude.{◌≡◌};
 ghost use Rattle.desk_step.specs.Steps.{stepping, begin_of, step_of};
 
 use desk_call::used_words;
-use desk_input::Front;
 use desk_line::REPLY_ROOM;
 
 // What a step took of the input, and how many bytes its line has.
@@ -24,14 +23,14 @@ pub fn begin(input: &[u8], book: &mut [u16], out: &mut [u8]) -> Printed
         return Printed { taken: 0, count: 0 };
     }
     match desk_input::opening(input) {
-        Front::Fault(answer) => {
+        Err(answer) => {
             let count = desk_line::put_reply(out, desk_input::OPENING_LETTER, answer, 0);
             Printed {
                 taken: input.len(),
                 count,
             }
         }
-        Front::Opens(k) => {
+        Ok(k) => {
             let answer = book::open(book, k);
             let words = used_words(book);
             let count = desk_line::put_reply(out, desk_input::OPENING_LETTER, answer, words);

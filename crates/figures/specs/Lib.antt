@@ -3,3 +3,4 @@ pub mod Limits
 pub mod Nodes
 pub mod Numbers
 pub mod Answers
+pub mod Refusals

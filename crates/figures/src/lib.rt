@@ -8,8 +8,10 @@ mod depths;
 pub mod limits;
 pub mod nodes;
 pub mod numbers;
+mod refusals;
 
 pub use depths::{Depth, asked_number};
+pub use refusals::Refusal;
 
 // An answer: its number by 01's table, and its line.
 #[derive(Clone, Copy)]

@@ -1,4 +1,5 @@
 -- A spelt line is read back, and so are spelt lines, each of which passes behind those before it. Assumes nothing.
+use Rattle.std.specs.Prelude.{Ok}
 use mathlib.Core.Path.{◌≡◌, refl, ap, sym, ◌∙◌}
 use mathlib.Core.List.{List, [], ◌∷◌, ◌++◌, append_assoc, reverse_aux}
 use mathlib.Core.Bool.{Bool, true, false}
@@ -14,7 +15,6 @@ use Rattle.figures.specs.Limits.{greatest_code}
 use Rattle.form.specs.Text.{digit_0, digit_9, space, line_feed, digit, code_size, Line, level_text, code_text, line_text, spell}
 use Rattle.form.specs.Reading.{is_digit, figure, value, is_code, code_behind, spelt_of, read_lines}
 use Rattle.form.specs.Faults.{greatest_level}
-use Rattle.form.specs.declared.reading.LineRead.TheVariants.{Node}
 use Rattle.form.proofs.Tests.{AllPass}
 use Rattle.form.proofs.LineBytes.{one-digit, two_digits, line-size}
 use Rattle.form.proofs.Faults.{fine_line, read-on}
@@ -66,7 +66,7 @@ unfolding is_code ◌and◌
 is-code a b c d p q r s = rw (p, q, r, s)
 
 -- Behind a level the text of a code is read as the code.
-code_read : (l w c : ℕ) (r : List ℕ) → c ≤ greatest_code → code_behind l w (code_text c ++ r) ≡ Node l c (w + code_size)
+code_read : (l w c : ℕ) (r : List ℕ) → c ≤ greatest_code → code_behind l w (code_text c ++ r) ≡ Ok (record { level = l; code = c; size = w + code_size })
 unfolding code_behind code_text when◌then◌else◌
 code_read l w c r h =
     rw (is-code (digit (c / 1000)) (digit (c / 100)) (digit (c / 10)) (digit c) (is_digit_lem (c / 1000)) (is_digit_lem (c / 100)) (is_digit_lem (c / 10)) (is_digit_lem c), value-digits c h)
@@ -99,13 +99,13 @@ level-read l b r h e = go (ltb l 10) refl
 -- ---- lines
 
 -- A spelt line is read as the line, and takes its own bytes.
-pub line_read : (x : Line) (r : List ℕ) → x.level ≤ greatest_level → x.code ≤ greatest_code → spelt_of (line_text x ++ r) ≡ Node x.level x.code (length (line_text x))
+pub line_read : (x : Line) (r : List ℕ) → x.level ≤ greatest_level → x.code ≤ greatest_code → spelt_of (line_text x ++ r) ≡ Ok (record { level = x.level; code = x.code; size = length (line_text x) })
 unfolding line_text code_text
 line_read x r h k =
     ap spelt_of (append_assoc (level_text x.level) (code_text x.code) r)
     ∙ level-read x.level space _ h space-no_digit
     ∙ code_read x.level (length (level_text x.level)) x.code r k
-    ∙ ap (Node x.level x.code) (sym (line-size x))
+    ∙ ap (λ (n : ℕ). Ok (record { level = x.level; code = x.code; size = n })) (sym (line-size x))
 
 -- Lines that pass are read, and then the rest decides.
 pub read-spelt : (room : ℕ) (xs before : List Line) (rest : List ℕ) → AllPass before xs → length xs ≤ room → read_lines room before (spell xs ++ rest) ≡ read_lines (room - length xs) (reverse_aux xs before) rest

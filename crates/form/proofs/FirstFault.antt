@@ -1,5 +1,6 @@
 -- A refusal of a text names the first line at fault, exactly, by the rows of 01's table as specs/Faults.antt states them: a refused text
 -- has such a line, and a text that has one is refused so (01, "Text" under "Order of checks"). Assumes nothing.
+use Rattle.std.specs.Prelude.{Err, Ok, Result}
 use mathlib.Core.Path.{◌≡◌, refl, ap, sym, subst, ◌∙◌}
 use mathlib.Core.Bool.{Bool, true, false, not}
 use mathlib.Core.List.{List, [], ◌∷◌, ◌++◌, append_assoc, reverse, reverse_aux}
@@ -7,6 +8,7 @@ use Prim.Native.Nat.{ℕ, zero, suc, ◌+◌, ◌*◌, ◌-◌, ◌≤◌, ◌<�
 use native.Mathlib.Omega.{arith}
 use lib.Dec.{eqb}
 use lib.ListN.{length, drop, length-append, length-reverse}
+use Rattle.form.specs.declared.reading.Node.{Node}
 use Rattle.words.specs.Base.{when◌then◌else◌}
 use Rattle.figures.specs.Limits.{most_nodes}
 use Rattle.figures.specs.Numbers.{done, no_form}
@@ -17,8 +19,6 @@ use Rattle.form.specs.Reading.{fault_number, is_digit, figure, value, is_code, c
 use Rattle.form.specs.Faults.{Legal, Spelt, Why, past, misspelt, no_option, not_allowed, too_deep, ninth_child, FirstFault}
 use Rattle.form.specs.declared.reading.Fault.{Fault}
 use Rattle.form.specs.declared.reading.Fault.TheVariants.{PastLast, Misspelt, NoOption, LevelNotAllowed, TooDeep, NinthChild}
-use Rattle.form.specs.declared.reading.LineRead.{LineRead}
-use Rattle.form.specs.declared.reading.LineRead.TheVariants.{Node, Refused}
 use Rattle.form.proofs.Tests.{Passes, Passed}
 use Rattle.form.proofs.Faults.{no_node, misspelt-line, zero_line, level-line, deep-line, ninth_line, Seen, unspelt, zero_code, bad_level, deep, ninth, seen, node_seen, read_past, read-fault, some_bytes}
 use Rattle.form.proofs.Digits.{line_read, read-spelt}
@@ -28,7 +28,7 @@ use Rattle.form.proofs.Rows.{follow_test, test_follow, no_follow, follow_none, p
 -- ---- spelling
 
 -- Bytes behind a level that are refused are misspelt.
-code-only : (l w : ℕ) (s : List ℕ) {f : Fault} → code_behind l w s ≡ Refused f → f ≡ Misspelt
+code-only : (l w : ℕ) (s : List ℕ) {f : Fault} → code_behind l w s ≡ Err f → f ≡ Misspelt
 unfolding code_behind when◌then◌else◌
 code-only l w [] e = cc
 code-only l w (s ∷ []) e = cc
@@ -38,47 +38,47 @@ code-only l w (s ∷ a ∷ b ∷ c ∷ []) e = cc
 code-only l w (s ∷ a ∷ b ∷ c ∷ d ∷ []) e = cc
 code-only l w (s ∷ a ∷ b ∷ c ∷ d ∷ n ∷ r) {f} e = go (is_code s a b c d n) e
   where
-    go : (t : Bool) → (when t then Node l (value a b c d) (w + code_size) else Refused Misspelt) ≡ Refused f → f ≡ Misspelt
+    go : (t : Bool) → (when t then Ok (record { level = l; code = value a b c d; size = w + code_size }) else Err Misspelt) ≡ Err f → f ≡ Misspelt
     go true e = no_node (sym e)
     go false e = cc
 
 -- Bytes that are refused before a line's other tests are misspelt.
-spelt-only : (s : List ℕ) {f : Fault} → spelt_of s ≡ Refused f → f ≡ Misspelt
+spelt-only : (s : List ℕ) {f : Fault} → spelt_of s ≡ Err f → f ≡ Misspelt
 unfolding spelt_of when◌then◌else◌
 spelt-only [] e = cc
 spelt-only (x ∷ []) e = cc
 spelt-only (x ∷ y ∷ r) {f} e = go (is_digit x) (is_digit y) (eqb x digit_0) e
   where
-    go : (a b t : Bool) → (when not a then Refused Misspelt else when not b then code_behind (figure x) 1 (y ∷ r) else when t then Refused Misspelt else code_behind (figure x * 10 + figure y) 2 r) ≡ Refused f → f ≡ Misspelt
+    go : (a b t : Bool) → (when not a then Err Misspelt else when not b then code_behind (figure x) 1 (y ∷ r) else when t then Err Misspelt else code_behind (figure x * 10 + figure y) 2 r) ≡ Err f → f ≡ Misspelt
     go false b t e = cc
     go true false t e = code-only (figure x) 1 (y ∷ r) e
     go true true true e = cc
     go true true false e = code-only (figure x * 10 + figure y) 2 r e
 
 -- Bytes that begin with the text of a line are read as the line.
-spelt-read : (s : List ℕ) (x : Line) → Spelt s x → spelt_of s ≡ Node x.level x.code (length (line_text x))
+spelt-read : (s : List ℕ) (x : Line) → Spelt s x → spelt_of s ≡ Ok (record { level = x.level; code = x.code; size = length (line_text x) })
 spelt-read s x p = ap spelt_of p.is ∙ line_read x p.behind p.short p.small
 
 -- Bytes that are read as a line begin with its text.
-read-spelling : (s : List ℕ) {l c w : ℕ} → spelt_of s ≡ Node l c w → Spelt s (record { level = l; code = c })
+read-spelling : (s : List ℕ) {l c w : ℕ} → spelt_of s ≡ Ok (record { level = l; code = c; size = w }) → Spelt s (record { level = l; code = c })
 read-spelling s e = let k = line-back s e in record { behind = k.rest; is = k.is; short = k.short; small = k.small }
 
 -- Bytes that are not read as a line begin with the text of none.
-pub no_text : (s : List ℕ) {f : Fault} → spelt_of s ≡ Refused f → (x : Line) → Spelt s x → ⊥
+pub no_text : (s : List ℕ) {f : Fault} → spelt_of s ≡ Err f → (x : Line) → Spelt s x → ⊥
 no_text s e x p = no_node (sym e ∙ spelt-read s x p)
 
 -- Bytes that begin with the text of no line are misspelt.
-no_spelling : (s : List ℕ) → ((x : Line) → Spelt s x → ⊥) → spelt_of s ≡ Refused Misspelt
+no_spelling : (s : List ℕ) → ((x : Line) → Spelt s x → ⊥) → spelt_of s ≡ Err Misspelt
 no_spelling s h = go (spelt_of s) refl
   where
-    go : (r : LineRead) → spelt_of s ≡ r → spelt_of s ≡ Refused Misspelt
-    go (Refused f) q = q ∙ ap Refused (spelt-only s q)
-    go (Node l c w) q = absurd (h (record { level = l; code = c }) (read-spelling s q))
+    go : (r : Result Node Fault) → spelt_of s ≡ r → spelt_of s ≡ Err Misspelt
+    go (Err f) q = q ∙ ap Err (spelt-only s q)
+    go (Ok node) q = let record { level = l; code = c; size = w } = node in absurd (h (record { level = l; code = c }) (read-spelling s q))
 
 -- ---- a refused text has a first line at fault
 
 -- A line that is refused behind lines that pass, and for which there is room, is so by the row of its fault.
-line-why : (before : List Line) (s : List ℕ) (f : Fault) → Passed before → length before < most_nodes → Seen before s (Refused f) → Why before s (fault_number f)
+line-why : (before : List Line) (s : List ℕ) (f : Fault) → Passed before → length before < most_nodes → Seen before s (Err f) → Why before s (fault_number f)
 line-why before s f w h (unspelt e) = misspelt (ap fault_number (spelt-only s e)) h (no_text s e)
 line-why before s f w h (zero_code {l = l} {c = c} e o) = no_option refl h (record { level = l; code = c }) (read-spelling s e) o
 line-why before s f w h (bad_level {l = l} {c = c} e o a) = not_allowed refl h (record { level = l; code = c }) (read-spelling s e) o (follow_none l before a)
@@ -106,7 +106,7 @@ stopped_here before s m {n} {line} o y e =
     record { lines = []; rest = s; text = refl; legal = tt; some = o; place = p; why = subst (Why before s) q y }
 
 -- It holds of a line that is read behind lines that pass, if it holds behind it.
-stopped_line : (before : List Line) (s : List ℕ) {l c w n line : ℕ} → Passed before → line_of before s ≡ Node l c w → Stopped (record { level = l; code = c } ∷ before) (drop w s) n line → Stopped before s n line
+stopped_line : (before : List Line) (s : List ℕ) {l c w n line : ℕ} → Passed before → line_of before s ≡ Ok (record { level = l; code = c; size = w }) → Stopped (record { level = l; code = c } ∷ before) (drop w s) n line → Stopped before s n line
 unfolding spell
 stopped_line before s {l} {c} {w} p e a =
     let m = node_seen before s e in
@@ -130,10 +130,10 @@ stopped zero before (b ∷ bs) n line p h e = stopped_here before (b ∷ bs) (fa
 stopped (suc room) before [] n line p h e = not_read (sym e)
 stopped (suc room) before (b ∷ bs) n line p h e = go (line_of before (b ∷ bs)) refl (λ x t o. stopped room (x ∷ before) t n line (o, p) (omega arith)) e
   where
-    go : (r : LineRead) → line_of before (b ∷ bs) ≡ r → ((x : Line) (t : List ℕ) → Passes before x.level x.code → read_lines room (x ∷ before) t ≡ fault n line → Stopped (x ∷ before) t n line)
+    go : (r : Result Node Fault) → line_of before (b ∷ bs) ≡ r → ((x : Line) (t : List ℕ) → Passes before x.level x.code → read_lines room (x ∷ before) t ≡ fault n line → Stopped (x ∷ before) t n line)
         → by_line r (λ level code size. read_lines room (record { level = level; code = code } ∷ before) (drop size (b ∷ bs))) (λ f. fault (fault_number f) (suc (length before))) ≡ fault n line → Stopped before (b ∷ bs) n line
-    go (Refused f) q ih e = stopped_here before (b ∷ bs) (fault_number f) (omega arith) (line-why before (b ∷ bs) f p (omega arith) (seen before (b ∷ bs) q)) e
-    go (Node l c w) q ih e = stopped_line before (b ∷ bs) p q (ih (record { level = l; code = c }) (drop w (b ∷ bs)) (node_seen before (b ∷ bs) q).1 e)
+    go (Err f) q ih e = stopped_here before (b ∷ bs) (fault_number f) (omega arith) (line-why before (b ∷ bs) f p (omega arith) (seen before (b ∷ bs) q)) e
+    go (Ok node) q ih e = let record { level = l; code = c; size = w } = node in stopped_line before (b ∷ bs) p q (ih (record { level = l; code = c }) (drop w (b ∷ bs)) (node_seen before (b ∷ bs) q).1 e)
 
 -- A text of some bytes that is refused is refused at its first line at fault, by that line's number.
 pub first-fault : (s : List ℕ) (n line : ℕ) → 0 < length s → form_of s ≡ fault n line → FirstFault s n line
@@ -171,7 +171,7 @@ abbrev Refuses : List Line → List ℕ → ℕ → Type 0
 Refuses before rest n = (length before ≤ most_nodes) × (read_lines (most_nodes - length before) before rest ≡ fault n (suc (length before)))
 
 -- A line at fault for which there is room is refused so.
-fault-refuses : (before : List Line) (rest : List ℕ) (n : ℕ) (f : Fault) → 0 < length rest → n ≡ fault_number f → length before < most_nodes → line_of before rest ≡ Refused f → Refuses before rest n
+fault-refuses : (before : List Line) (rest : List ℕ) (n : ℕ) (f : Fault) → 0 < length rest → n ≡ fault_number f → length before < most_nodes → line_of before rest ≡ Err f → Refuses before rest n
 fault-refuses before rest n f o q h e =
     let z : most_nodes - length before ≡ suc (most_nodes - suc (length before)) = omega arith in (
       omega arith,

@@ -1,4 +1,5 @@
 -- Codes are decimal, and a form has no other bytes than digits, spaces and LF (01, "Order form text"). Assumes nothing.
+use Rattle.std.specs.Prelude.{Err, Ok}
 use mathlib.Core.Path.{◌≡◌, refl, ap, sym, subst, ◌∙◌}
 use mathlib.Core.Bool.{Bool, true, false}
 use mathlib.Core.List.{List, [], ◌∷◌, ◌++◌}
@@ -16,7 +17,6 @@ use Rattle.form.specs.Text.{digit_0, space, line_feed, digit, code_size, Line, l
 use Rattle.form.specs.Reading.{is_digit, value, is_code, code_behind, spelt_of, allowed, siblings, line_of, Form, fault, form, read_lines, form_of, children, words_of_lines, read_of}
 use Rattle.form.specs.Faults.{greatest_level, misspelt, FirstFault}
 use Rattle.form.specs.declared.reading.Fault.TheVariants.{Misspelt}
-use Rattle.form.specs.declared.reading.LineRead.TheVariants.{Node, Refused}
 use Rattle.form.proofs.Tests.{Passes}
 use Rattle.form.proofs.Faults.{fine_line, read_done, read-on, some_bytes}
 use Rattle.form.proofs.Digits.{figure-digit, is_digit_lem, space-no_digit, is-code, level-read}
@@ -34,7 +34,7 @@ decimal a b c d = omega arith
 
 -- A line of four digits is read as the node whose code they are, whatever follows.
 pub code-decimal : (l : ℕ) (a b c d : ℕ) (rest : List ℕ) → l ≤ greatest_level → a < 10 → b < 10 → c < 10 → d < 10
-    → spelt_of (level_text l ++ (space ∷ (digit_0 + a) ∷ (digit_0 + b) ∷ (digit_0 + c) ∷ (digit_0 + d) ∷ line_feed ∷ rest)) ≡ Node l (a * 1000 + b * 100 + c * 10 + d) (length (level_text l) + code_size)
+    → spelt_of (level_text l ++ (space ∷ (digit_0 + a) ∷ (digit_0 + b) ∷ (digit_0 + c) ∷ (digit_0 + d) ∷ line_feed ∷ rest)) ≡ Ok (record { level = l; code = a * 1000 + b * 100 + c * 10 + d; size = length (level_text l) + code_size })
 unfolding code_behind when◌then◌else◌
 code-decimal l a b c d rest h p q r s =
     level-read l space _ h space-no_digit
@@ -53,7 +53,7 @@ decimal-read a b c d p q r s h out =
     let n : ℕ = a * 1000 + b * 100 + c * 10 + d in
     let x : Line = record { level = 0; code = n } in
     let t : List ℕ = digit_0 ∷ space ∷ (digit_0 + a) ∷ (digit_0 + b) ∷ (digit_0 + c) ∷ (digit_0 + d) ∷ line_feed ∷ [] in
-    let l : line_of [] t ≡ Node 0 n 7 = fine_line [] t (code-decimal 0 a b c d [] (omega arith) p q r s) (first-line n h) in
+    let l : line_of [] t ≡ Ok (record { level = 0; code = n; size = 7 }) = fine_line [] t (code-decimal 0 a b c d [] (omega arith) p q r s) (first-line n h) in
     form-write t (x ∷ []) out (some_bytes t (omega arith) ∙ read-on (most_nodes - 1) [] t l ∙ read_done (most_nodes - 1) (x ∷ []))
 
 -- ---- a code with another byte in it
@@ -74,7 +74,7 @@ no_code a b c d e (third h) = fails_right (is_digit a) _ (fails_right (is_digit 
 no_code a b c d e (fourth h) = fails_right (is_digit a) _ (fails_right (is_digit b) _ (fails_right (is_digit c) _ (rw h)))
 
 -- Nothing is read behind the level, even where the text ends.
-none-behind : (l w a b c d : ℕ) (rest : List ℕ) → NotFour a b c d → code_behind l w (space ∷ a ∷ b ∷ c ∷ d ∷ rest) ≡ Refused Misspelt
+none-behind : (l w a b c d : ℕ) (rest : List ℕ) → NotFour a b c d → code_behind l w (space ∷ a ∷ b ∷ c ∷ d ∷ rest) ≡ Err Misspelt
 unfolding code_behind when◌then◌else◌
 none-behind l w a b c d [] n = refl
 none-behind l w a b c d (e ∷ rest) n = rw (no_code a b c d e n)

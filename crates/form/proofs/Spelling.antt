@@ -1,4 +1,5 @@
 -- What the bytes at a place say of a line. Assumes nothing.
+use Rattle.std.specs.Prelude.{Err, Ok}
 use mathlib.Core.Path.{◌≡◌, refl, ap, ◌∙◌}
 use mathlib.Core.List.{List, [], ◌∷◌}
 use mathlib.Core.Bool.{true, false}
@@ -14,7 +15,6 @@ use Rattle.order.proofs.Writing.{two}
 use Rattle.form.specs.Text.{digit_0, digit_9, space, line_feed, code_size}
 use Rattle.form.specs.Reading.{is_digit, figure, is_code, value, code_behind, spelt_of}
 use Rattle.form.specs.declared.reading.Fault.TheVariants.{Misspelt}
-use Rattle.form.specs.declared.reading.LineRead.TheVariants.{Node, Refused}
 use Rattle.form.proofs.Faults.{within_both}
 
 -- ---- digits
@@ -69,7 +69,7 @@ six_at s p h =
     ∙ ap (λ (l : List ℕ). get_or s (p + 4) 0 ∷ l) (more_at s p 5 (omega arith)))))
 
 -- Fewer bytes are no code.
-code-none : (l w : ℕ) (s : List ℕ) → length s < code_size → code_behind l w s ≡ Refused Misspelt
+code-none : (l w : ℕ) (s : List ℕ) → length s < code_size → code_behind l w s ≡ Err Misspelt
 unfolding code_behind
 code-none l w [] h = refl
 code-none l w (s ∷ []) h = refl
@@ -80,7 +80,7 @@ code-none l w (s ∷ a ∷ b ∷ c ∷ d ∷ []) h = refl
 code-none l w (s ∷ a ∷ b ∷ c ∷ d ∷ e ∷ r) h = absurd (omega arith)
 
 -- Fewer than two bytes are no line.
-line-none : (s : List ℕ) → length s < 2 → spelt_of s ≡ Refused Misspelt
+line-none : (s : List ℕ) → length s < 2 → spelt_of s ≡ Err Misspelt
 unfolding spelt_of
 line-none [] h = refl
 line-none (x ∷ []) h = refl
@@ -90,18 +90,18 @@ line-none (x ∷ y ∷ r) h = absurd (omega arith)
 
 module _ (l w p : ℕ) (s : List ℕ) where
   -- There are too few.
-  pub code-short : length s - p < code_size → Refused Misspelt ≡ code_behind l w (drop p s)
+  pub code-short : length s - p < code_size → Err Misspelt ≡ code_behind l w (drop p s)
   code-short h = rw (code-none l w (drop p s) (rw length-drop (omega arith)))
 
   -- They are no code.
   pub code-bad : p + code_size ≤ length s → is_code (get_or s p 0) (get_or s (p + 1) 0) (get_or s (p + 2) 0) (get_or s (p + 3) 0) (get_or s (p + 4) 0) (get_or s (p + 5) 0) ≡ false
-      → Refused Misspelt ≡ code_behind l w (drop p s)
+      → Err Misspelt ≡ code_behind l w (drop p s)
   unfolding code_behind when◌then◌else◌
   code-bad h e = rw (six_at s p h) (rw e refl)
 
   -- They are a code.
   pub code-good : p + code_size ≤ length s → is_code (get_or s p 0) (get_or s (p + 1) 0) (get_or s (p + 2) 0) (get_or s (p + 3) 0) (get_or s (p + 4) 0) (get_or s (p + 5) 0) ≡ true
-      → Node l (value (get_or s (p + 1) 0) (get_or s (p + 2) 0) (get_or s (p + 3) 0) (get_or s (p + 4) 0)) (w + code_size) ≡ code_behind l w (drop p s)
+      → Ok (record { level = l; code = value (get_or s (p + 1) 0) (get_or s (p + 2) 0) (get_or s (p + 3) 0) (get_or s (p + 4) 0); size = w + code_size }) ≡ code_behind l w (drop p s)
   unfolding code_behind when◌then◌else◌
   code-good h e = rw (six_at s p h) (rw e refl)
 
@@ -109,11 +109,11 @@ module _ (l w p : ℕ) (s : List ℕ) where
 
 module _ (at : ℕ) (s : List ℕ) where
   -- There are too few.
-  pub line-short : length s - at < 2 → Refused Misspelt ≡ spelt_of (drop at s)
+  pub line-short : length s - at < 2 → Err Misspelt ≡ spelt_of (drop at s)
   line-short h = rw (line-none (drop at s) (rw length-drop (omega arith)))
 
   -- The first is no digit.
-  pub line-bad : at + 2 ≤ length s → is_digit (get_or s at 0) ≡ false → Refused Misspelt ≡ spelt_of (drop at s)
+  pub line-bad : at + 2 ≤ length s → is_digit (get_or s at 0) ≡ false → Err Misspelt ≡ spelt_of (drop at s)
   unfolding spelt_of when◌then◌else◌
   line-bad h e = rw (two s at h) (rw e refl)
 
@@ -123,7 +123,7 @@ module _ (at : ℕ) (s : List ℕ) where
   line-one h e f = rw (two s at h, more_at s at 1 (omega arith)) (rw (e, f) refl)
 
   -- The level has two digits, the first of them 0.
-  pub line-zero : at + 2 ≤ length s → is_digit (get_or s at 0) ≡ true → is_digit (get_or s (at + 1) 0) ≡ true → get_or s at 0 ≡ digit_0 → Refused Misspelt ≡ spelt_of (drop at s)
+  pub line-zero : at + 2 ≤ length s → is_digit (get_or s at 0) ≡ true → is_digit (get_or s (at + 1) 0) ≡ true → get_or s at 0 ≡ digit_0 → Err Misspelt ≡ spelt_of (drop at s)
   unfolding spelt_of when◌then◌else◌
   line-zero h e f g = rw (two s at h) (rw (e, f, eq-eqb _ _ g) refl)
 

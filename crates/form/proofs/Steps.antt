@@ -1,5 +1,6 @@
 -- The inner functions of reading, return by return: which level may follow, what the next line is read as, and what becomes of a
 -- parent's number of children. Assumes nothing.
+use Rattle.std.specs.Prelude.{Err, Ok, Result}
 use mathlib.Core.Path.{◌≡◌, refl, ap, sym, subst, ◌∙◌}
 use mathlib.Core.Bool.{Bool, true, false}
 use mathlib.Core.List.{List}
@@ -8,6 +9,7 @@ use native.Mathlib.Omega.{arith}
 use lib.Dec.{leb, ltb, eqb}
 use lib.ListN.{length, get_or, set, length-set}
 use borrow.Author.Tests.{lt-leb, le-leb, lt-ltb, le-ltb, eq-eqb, ne_eqb, eqb-true, eqb-false, ltb-true, ltb-false}
+use Rattle.form.specs.declared.reading.Node.{Node}
 use Rattle.words.specs.Base.{◌and◌, when◌then◌else◌, within}
 use Rattle.words.proofs.Tests.{no_test}
 use Rattle.figures.specs.Limits.{most_nodes, most_children, greatest_depth}
@@ -15,8 +17,6 @@ use Rattle.form.specs.Reading.{spelt_of, by_line}
 use Rattle.form.specs.Turns.{follows, next_of, count_place, Parent, may_adopt, adopted, Parents, under_parent, counted_in}
 use Rattle.form.specs.declared.reading.Fault.{Fault}
 use Rattle.form.specs.declared.reading.Fault.TheVariants.{PastLast, NoOption, LevelNotAllowed, TooDeep, NinthChild}
-use Rattle.form.specs.declared.reading.LineRead.{LineRead}
-use Rattle.form.specs.declared.reading.LineRead.TheVariants.{Node, Refused}
 use Rattle.form.proofs.Faults.{no_node, within_both}
 
 -- ---- which level may follow
@@ -49,38 +49,38 @@ follows-seen greatest level = go (eqb greatest 0) refl
 
 module _ (n greatest : ℕ) (s : List ℕ) where
   -- It is past the last.
-  pub next_past : most_nodes ≤ n → Refused PastLast ≡ next_of n greatest s
+  pub next_past : most_nodes ≤ n → Err PastLast ≡ next_of n greatest s
   unfolding next_of when◌then◌else◌
   next_past h = rw (le-leb most_nodes n h)
 
   -- It is misspelt, as the call that read the spelling answered.
-  pub next-misspelt : n < most_nodes → {r : LineRead} {f : Fault} → r ≡ spelt_of s → r ≡ Refused f → r ≡ next_of n greatest s
+  pub next-misspelt : n < most_nodes → {r : Result Node Fault} {f : Fault} → r ≡ spelt_of s → r ≡ Err f → r ≡ next_of n greatest s
   unfolding next_of by_line when◌then◌else◌
-  next-misspelt h {r} {f} e q = let x : spelt_of s ≡ Refused f = sym e ∙ q in q ∙ rw (lt-leb most_nodes n h, x) refl
+  next-misspelt h {r} {f} e q = let x : spelt_of s ≡ Err f = sym e ∙ q in q ∙ rw (lt-leb most_nodes n h, x) refl
 
 -- It is spelt.
-module _ (n greatest : ℕ) (s : List ℕ) {r : LineRead} {l c w : ℕ} (h : n < most_nodes) (e : r ≡ spelt_of s) (q : r ≡ Node l c w) where
+module _ (n greatest : ℕ) (s : List ℕ) {r : Result Node Fault} {l c w : ℕ} (h : n < most_nodes) (e : r ≡ spelt_of s) (q : r ≡ Ok (record { level = l; code = c; size = w })) where
   -- As it is spelt.
-  spelt : spelt_of s ≡ Node l c w
+  spelt : spelt_of s ≡ Ok (record { level = l; code = c; size = w })
   spelt = sym e ∙ q
 
   -- The code is 0000.
-  pub next-zero : c ≡ 0 → Refused NoOption ≡ next_of n greatest s
+  pub next-zero : c ≡ 0 → Err NoOption ≡ next_of n greatest s
   unfolding next_of by_line when◌then◌else◌
   next-zero z = rw (lt-leb most_nodes n h, spelt, eq-eqb c 0 z) refl
 
   -- The level is not allowed.
-  pub next_level : (c ≡ 0 → ⊥) → follows greatest l ≡ false → Refused LevelNotAllowed ≡ next_of n greatest s
+  pub next_level : (c ≡ 0 → ⊥) → follows greatest l ≡ false → Err LevelNotAllowed ≡ next_of n greatest s
   unfolding next_of by_line when◌then◌else◌
   next_level z f = rw (lt-leb most_nodes n h, spelt, ne_eqb c 0 z, f) refl
 
   -- The level is over 12.
-  pub next-deep : (c ≡ 0 → ⊥) → follows greatest l ≡ true → greatest_depth < l → Refused TooDeep ≡ next_of n greatest s
+  pub next-deep : (c ≡ 0 → ⊥) → follows greatest l ≡ true → greatest_depth < l → Err TooDeep ≡ next_of n greatest s
   unfolding next_of by_line when◌then◌else◌
   next-deep z f d = rw (lt-leb most_nodes n h, spelt, ne_eqb c 0 z, f, lt-ltb greatest_depth l d) refl
 
   -- It has none of these faults.
-  pub next-node : (c ≡ 0 → ⊥) → follows greatest l ≡ true → l ≤ greatest_depth → Node l c w ≡ next_of n greatest s
+  pub next-node : (c ≡ 0 → ⊥) → follows greatest l ≡ true → l ≤ greatest_depth → Ok (record { level = l; code = c; size = w }) ≡ next_of n greatest s
   unfolding next_of by_line when◌then◌else◌
   next-node z f d = rw (lt-leb most_nodes n h, spelt, ne_eqb c 0 z, f, le-ltb greatest_depth l d) refl
 
@@ -129,54 +129,54 @@ module _ (words latest : List ℕ) (level : ℕ) where
 
 -- ---- a line under its parent, as the calls that read and counted it answered
 
-module _ (words latest : List ℕ) {x y : LineRead} (e : x ≡ y) where
+module _ (words latest : List ℕ) {x y : Result Node Fault} (e : x ≡ y) where
   -- A refusal is handed on, and nothing is counted.
-  pub under-refused : {f : Fault} → x ≡ Refused f → (x ≡ under_parent words latest y) × (words ≡ counted_in words latest y)
+  pub under-refused : {f : Fault} → x ≡ Err f → (x ≡ under_parent words latest y) × (words ≡ counted_in words latest y)
   unfolding under_parent counted_in
-  under-refused {f} q = let z : y ≡ Refused f = sym e ∙ q in (q ∙ rw z refl, rw z refl)
+  under-refused {f} q = let z : y ≡ Err f = sym e ∙ q in (q ∙ rw z refl, rw z refl)
 
-  module _ {l c w : ℕ} (q : x ≡ Node l c w) where
+  module _ {l c w : ℕ} (q : x ≡ Ok (record { level = l; code = c; size = w })) where
     -- It is a node.
-    is-node : y ≡ Node l c w
+    is-node : y ≡ Ok (record { level = l; code = c; size = w })
     is-node = sym e ∙ q
 
     -- What counting it asks for.
     pub its_parent : Parents y words latest → Parent words latest l
-    its_parent p = subst (λ (r : LineRead). Parents r words latest) is-node p
+    its_parent p = subst (λ (r : Result Node Fault). Parents r words latest) is-node p
 
     -- The parent may have no child more.
-    pub under-full : (last : List ℕ) → may_adopt words latest l ≡ false → last ≡ adopted words latest l → (Refused NinthChild ≡ under_parent words latest y) × (last ≡ counted_in words latest y)
+    pub under-full : (last : List ℕ) → may_adopt words latest l ≡ false → last ≡ adopted words latest l → (Err NinthChild ≡ under_parent words latest y) × (last ≡ counted_in words latest y)
     unfolding under_parent counted_in when◌then◌else◌
     under-full last m a = rw is-node (rw m refl, a)
 
     -- The parent may have a child more.
-    pub under_one : (last : List ℕ) → may_adopt words latest l ≡ true → last ≡ adopted words latest l → (Node l c w ≡ under_parent words latest y) × (last ≡ counted_in words latest y)
+    pub under_one : (last : List ℕ) → may_adopt words latest l ≡ true → last ≡ adopted words latest l → (Ok (record { level = l; code = c; size = w }) ≡ under_parent words latest y) × (last ≡ counted_in words latest y)
     unfolding under_parent counted_in when◌then◌else◌
     under_one last m a = rw is-node (rw m refl, a)
 
 -- ---- and what the answer says
 
 -- Why a line is refused under its parent: it was refused before, or its parent may have no child more.
-pub data Unadopted (words latest : List ℕ) (y : LineRead) (f : Fault) : Type 0 where
-  handed : y ≡ Refused f → Unadopted words latest y f
-  full : (l c w : ℕ) → y ≡ Node l c w → may_adopt words latest l ≡ false → f ≡ NinthChild → Unadopted words latest y f
+pub data Unadopted (words latest : List ℕ) (y : Result Node Fault) (f : Fault) : Type 0 where
+  handed : y ≡ Err f → Unadopted words latest y f
+  full : (l c w : ℕ) → y ≡ Ok (record { level = l; code = c; size = w }) → may_adopt words latest l ≡ false → f ≡ NinthChild → Unadopted words latest y f
 
 -- `Unadopted` holds of a refusal.
-pub unadopted_seen : (words latest : List ℕ) (y : LineRead) {f : Fault} → under_parent words latest y ≡ Refused f → Unadopted words latest y f
+pub unadopted_seen : (words latest : List ℕ) (y : Result Node Fault) {f : Fault} → under_parent words latest y ≡ Err f → Unadopted words latest y f
 unfolding under_parent when◌then◌else◌
-unadopted_seen words latest (Refused g) e = handed e
-unadopted_seen words latest (Node l c w) {f} e = go (may_adopt words latest l) refl e
+unadopted_seen words latest (Err g) e = handed e
+unadopted_seen words latest (Ok node) {f} e = let record { level = l; code = c; size = w } = node in go (may_adopt words latest l) refl e
   where
-    go : (b : Bool) → may_adopt words latest l ≡ b → (when b then Node l c w else Refused NinthChild) ≡ Refused f → Unadopted words latest (Node l c w) f
+    go : (b : Bool) → may_adopt words latest l ≡ b → (when b then Ok (record { level = l; code = c; size = w }) else Err NinthChild) ≡ Err f → Unadopted words latest (Ok (record { level = l; code = c; size = w })) f
     go true q e = no_node (sym e)
     go false q e = full l c w refl q (let z : f ≡ NinthChild = cc in z)
 
 -- A node under its parent was one before, and its parent had room for it.
-pub adopted-seen : (words latest : List ℕ) (y : LineRead) {l c w : ℕ} → under_parent words latest y ≡ Node l c w → (y ≡ Node l c w) × (may_adopt words latest l ≡ true)
+pub adopted-seen : (words latest : List ℕ) (y : Result Node Fault) {l c w : ℕ} → under_parent words latest y ≡ Ok (record { level = l; code = c; size = w }) → (y ≡ Ok (record { level = l; code = c; size = w })) × (may_adopt words latest l ≡ true)
 unfolding under_parent when◌then◌else◌
-adopted-seen words latest (Refused g) e = no_node e
-adopted-seen words latest (Node i d v) {l} {c} {w} e = go (may_adopt words latest i) refl e
+adopted-seen words latest (Err g) e = no_node e
+adopted-seen words latest (Ok node) {l} {c} {w} e = let record { level = i; code = d; size = v } = node in go (may_adopt words latest i) refl e
   where
-    go : (b : Bool) → may_adopt words latest i ≡ b → (when b then Node i d v else Refused NinthChild) ≡ Node l c w → (Node i d v ≡ Node l c w) × (may_adopt words latest l ≡ true)
+    go : (b : Bool) → may_adopt words latest i ≡ b → (when b then Ok (record { level = i; code = d; size = v }) else Err NinthChild) ≡ Ok (record { level = l; code = c; size = w }) → (Ok (record { level = i; code = d; size = v }) ≡ Ok (record { level = l; code = c; size = w })) × (may_adopt words latest l ≡ true)
     go true q e = (e, ap (may_adopt words latest) (let z : l ≡ i = cc in z) ∙ q)
     go false q e = no_node e

@@ -1,4 +1,5 @@
 -- A turn of the reader: what is still to be read decides what the whole text is. Assumes nothing.
+use Rattle.std.specs.Prelude.{Err, Ok, Result}
 use mathlib.Core.Path.{◌≡◌, refl, ap, sym, subst, ◌∙◌}
 use mathlib.Core.List.{List, [], ◌∷◌, ◌++◌, append_assoc, reverse}
 use mathlib.Core.Bool.{Bool, true, false, not}
@@ -10,6 +11,7 @@ use lib.Dec.{leb, ltb, eqb}
 use lib.ListN.{length, take, drop, get_or, set, replicate, length-append, length-reverse, length-set, length-drop, drop_of_length-le}
 use lib.Seq.{take-suc-set, take-set-lt, get_or-take, drop-drop}
 use borrow.Author.Tests.{ne_eqb, eqb-false, leb-true, leb-false, ltb-false}
+use Rattle.form.specs.declared.reading.Node.{Node}
 use Rattle.words.specs.Base.{◌and◌, when◌then◌else◌}
 use Rattle.words.proofs.Tests.{no_test}
 use Rattle.figures.specs.Limits.{least_code, most_nodes, most_words, most_children, greatest_depth}
@@ -21,8 +23,6 @@ use Rattle.form.specs.Reading.{fault_number, read_number, spelt_of, by_line, all
 use Rattle.form.specs.Turns.{follows, next_of, count_place, Parent, may_adopt, adopted, Parents, under_parent, counted_in, Got}
 use Rattle.form.specs.declared.reading.Fault.{Fault}
 use Rattle.form.specs.declared.reading.Fault.TheVariants.{PastLast, NoOption, LevelNotAllowed, TooDeep, NinthChild}
-use Rattle.form.specs.declared.reading.LineRead.{LineRead}
-use Rattle.form.specs.declared.reading.LineRead.TheVariants.{Node, Refused}
 use Rattle.form.proofs.Faults.{fault-number, fine_line, ninth_line, read_done, read_past, read-fault, read-on, some_bytes}
 use Rattle.form.proofs.LineBytes.{line-size}
 use Rattle.form.proofs.Unique.{line-back}
@@ -34,7 +34,7 @@ use Rattle.form.proofs.Counts.{length-words, Adopts, adopts, Kept, kept_on}
 -- A node without a fault that can be told without its siblings.
 pub record NextIs (n greatest : ℕ) (s : List ℕ) (l c w : ℕ) : Type 0 where
   pub room : n < most_nodes
-  pub spelt : spelt_of s ≡ Node l c w
+  pub spelt : spelt_of s ≡ Ok (record { level = l; code = c; size = w })
   pub option : least_code ≤ c
   pub may : follows greatest l ≡ true
   pub shallow : l ≤ greatest_depth
@@ -42,25 +42,25 @@ pub record NextIs (n greatest : ℕ) (s : List ℕ) (l c w : ℕ) : Type 0 where
 -- What a refusal of the next line says: there is no room for it, or it is refused behind any lines before it that allow the same levels.
 pub data NextNot (n greatest : ℕ) (s : List ℕ) (f : Fault) : Type 0 where
   past : most_nodes ≤ n → f ≡ PastLast → NextNot n greatest s f
-  faulty : n < most_nodes → ((before : List Line) → ((l : ℕ) → allowed l before ≡ follows greatest l) → line_of before s ≡ Refused f) → NextNot n greatest s f
+  faulty : n < most_nodes → ((before : List Line) → ((l : ℕ) → allowed l before ≡ follows greatest l) → line_of before s ≡ Err f) → NextNot n greatest s f
 
 -- The next line is one or the other.
-abbrev Next : ℕ → ℕ → List ℕ → LineRead → Type 0
-Next n greatest s (Node l c w) = NextIs n greatest s l c w
-Next n greatest s (Refused f) = NextNot n greatest s f
+abbrev Next : ℕ → ℕ → List ℕ → Result Node Fault → Type 0
+Next n greatest s (Ok node) = NextIs n greatest s node.level node.code node.size
+Next n greatest s (Err f) = NextNot n greatest s f
 
 -- `Next` holds of a spelt line within the limit, by cases.
-next-of : (n greatest : ℕ) (s : List ℕ) (r : LineRead) → n < most_nodes → spelt_of s ≡ r → Next n greatest s (by_line r (λ level code size.
-    when eqb code 0 then Refused NoOption else
-    when not (follows greatest level) then Refused LevelNotAllowed else
-    when ltb greatest_depth level then Refused TooDeep else
-    Node level code size) Refused)
+next-of : (n greatest : ℕ) (s : List ℕ) (r : Result Node Fault) → n < most_nodes → spelt_of s ≡ r → Next n greatest s (by_line r (λ level code size.
+    when eqb code 0 then Err NoOption else
+    when not (follows greatest level) then Err LevelNotAllowed else
+    when ltb greatest_depth level then Err TooDeep else
+    Ok (record { level = level; code = code; size = size })) Err)
 unfolding by_line line_of when◌then◌else◌
-next-of n greatest s (Refused f) h q = faulty h (λ before m. rw q refl)
-next-of n greatest s (Node level code size) h q = go (eqb code 0) (follows greatest level) (ltb greatest_depth level) refl refl refl
+next-of n greatest s (Err f) h q = faulty h (λ before m. rw q refl)
+next-of n greatest s (Ok node) h q = let record { level = level; code = code; size = size } = node in go (eqb code 0) (follows greatest level) (ltb greatest_depth level) refl refl refl
   where
     go : (z a d : Bool) → eqb code 0 ≡ z → follows greatest level ≡ a → ltb greatest_depth level ≡ d
-        → Next n greatest s (when z then Refused NoOption else when not a then Refused LevelNotAllowed else when d then Refused TooDeep else Node level code size)
+        → Next n greatest s (when z then Err NoOption else when not a then Err LevelNotAllowed else when d then Err TooDeep else Ok (record { level = level; code = code; size = size }))
     go true a d p₀ p₁ p₂ = faulty h (λ before m. rw (q, p₀) refl)
     go false false d p₀ p₁ p₂ = faulty h (λ before m. rw (q, p₀, m level, p₁) refl)
     go false true true p₀ p₁ p₂ = faulty h (λ before m. rw (q, p₀, m level, p₁, p₂) refl)
@@ -73,11 +73,11 @@ next-is : (n greatest : ℕ) (s : List ℕ) → Next n greatest s (next_of n gre
 unfolding next_of when◌then◌else◌
 next-is n greatest s = go (leb most_nodes n) refl
   where
-    go : (b : Bool) → leb most_nodes n ≡ b → Next n greatest s (when b then Refused PastLast else by_line (spelt_of s) (λ level code size.
-        when eqb code 0 then Refused NoOption else
-        when not (follows greatest level) then Refused LevelNotAllowed else
-        when ltb greatest_depth level then Refused TooDeep else
-        Node level code size) Refused)
+    go : (b : Bool) → leb most_nodes n ≡ b → Next n greatest s (when b then Err PastLast else by_line (spelt_of s) (λ level code size.
+        when eqb code 0 then Err NoOption else
+        when not (follows greatest level) then Err LevelNotAllowed else
+        when ltb greatest_depth level then Err TooDeep else
+        Ok (record { level = level; code = code; size = size })) Err)
     go true e = past (leb-true _ _ e) refl
     go false e = next-of n greatest s (spelt_of s) (leb-false _ _ e) refl
 
@@ -171,7 +171,7 @@ module _ {text words latest : List ℕ} {at n greatest : ℕ} (s : State text wo
       s.reads ∙ ap (λ (r : ℕ). read_lines r s.before (drop at text)) z
 
   -- A line that is refused behind those before it refuses the text.
-  refuses : (r : Written) (w : List ℕ) {f : Fault} → at < length text → n < most_nodes → line_of s.before (drop at text) ≡ Refused f → r ≡ refused_at (fault_number f) (n + 1) → Got (form_of text) r w
+  refuses : (r : Written) (w : List ℕ) {f : Fault} → at < length text → n < most_nodes → line_of s.before (drop at text) ≡ Err f → r ≡ refused_at (fault_number f) (n + 1) → Got (form_of text) r w
   refuses r w {f} h k e a =
       got_fault (form_of text) w (n + 1) r (one_more k ∙ read-fault (most_nodes - suc n) s.before (drop at text) (left h) e) (omega (arith, s.lines)) (fault-number f) a
 
@@ -184,7 +184,7 @@ module _ {text words latest : List ℕ} {at n greatest : ℕ} (s : State text wo
   next-refused r w f (faulty k g) h a = refuses r w h k (g s.before s.may) a
 
   -- The next line is a node.
-  module _ {level code size : ℕ} (e : next_of n greatest (drop at text) ≡ Node level code size) where
+  module _ {level code size : ℕ} (e : next_of n greatest (drop at text) ≡ Ok (record { level = level; code = code; size = size })) where
     -- The line that says it.
     abbrev line : Line
     line = record { level = level; code = code }
@@ -244,7 +244,7 @@ module _ {text words latest : List ℕ} {at n greatest : ℕ} (s : State text wo
         ]
 
     -- It may stand behind those before it.
-    read-so : may_adopt words latest level ≡ true → line_of s.before (drop at text) ≡ Node level code size
+    read-so : may_adopt words latest level ≡ true → line_of s.before (drop at text) ≡ Ok (record { level = level; code = code; size = size })
     read-so m = fine_line s.before (drop at text) node.spelt (record { option = node.option; follows = fits; shallow = node.shallow; child = few m })
 
     -- Behind the words so far, with the child counted, its own two are those of a line more.
@@ -297,12 +297,12 @@ module _ {text words latest : List ℕ} {at n greatest : ℕ} (s : State text wo
   pub parents : Parents (next_of n greatest (drop at text)) words latest
   parents = go (next_of n greatest (drop at text)) refl
     where
-      go : (y : LineRead) → next_of n greatest (drop at text) ≡ y → Parents y words latest
-      go (Node level code size) e = has-parent e
-      go (Refused f) e = tt
+      go : (y : Result Node Fault) → next_of n greatest (drop at text) ≡ y → Parents y words latest
+      go (Ok node) e = let record { level = level; code = code; size = size } = node in has-parent e
+      go (Err f) e = tt
 
   -- A line that is refused refuses the text, as the calls answered.
-  pub bad_line : (r : Written) (w : List ℕ) {x : LineRead} {f : Fault} (k : ℕ) → at < length text → x ≡ under_parent words latest (next_of n greatest (drop at text)) → x ≡ Refused f → r ≡ refused_at k (n + 1) → k ≡ read_number x → Got (form_of text) r w
+  pub bad_line : (r : Written) (w : List ℕ) {x : Result Node Fault} {f : Fault} (k : ℕ) → at < length text → x ≡ under_parent words latest (next_of n greatest (drop at text)) → x ≡ Err f → r ≡ refused_at k (n + 1) → k ≡ read_number x → Got (form_of text) r w
   bad_line r w {x} {f} k h e q a b = go (unadopted_seen words latest (next_of n greatest (drop at text)) (sym e ∙ q))
     where
       answer : r ≡ refused_at (fault_number f) (n + 1)
@@ -313,9 +313,9 @@ module _ {text words latest : List ℕ} {at n greatest : ℕ} (s : State text wo
       go (full l c z u m g) = bad_child u r w h m (answer ∙ ap (λ (g : Fault). refused_at (fault_number g) (n + 1)) g)
 
   -- A line that is read, as the calls answered: its node, its bytes, and the next turn.
-  module _ {x : LineRead} {level code size : ℕ} (e : x ≡ under_parent words latest (next_of n greatest (drop at text))) (q : x ≡ Node level code size) where
+  module _ {x : Result Node Fault} {level code size : ℕ} (e : x ≡ under_parent words latest (next_of n greatest (drop at text))) (q : x ≡ Ok (record { level = level; code = code; size = size })) where
     -- It is a node whose parent had room for it.
-    counted : (next_of n greatest (drop at text) ≡ Node level code size) × (may_adopt words latest level ≡ true)
+    counted : (next_of n greatest (drop at text) ≡ Ok (record { level = level; code = code; size = size })) × (may_adopt words latest level ≡ true)
     counted = adopted-seen words latest (next_of n greatest (drop at text)) (sym e ∙ q)
 
     -- There is room for it and for its level.

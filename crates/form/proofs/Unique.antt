@@ -1,4 +1,5 @@
 -- A line that is read has only one spelling, and so a text that is read without fault is the text of its lines. Assumes nothing.
+use Rattle.std.specs.Prelude.{Err, Ok, Result}
 use mathlib.Core.Path.{◌≡◌, refl, ap, ap₂, sym, subst, ◌∙◌}
 use mathlib.Core.List.{List, [], ◌∷◌, ◌++◌, append_assoc, append-nil, reverse, reverse-cons}
 use mathlib.Core.Bool.{Bool, true, false, not}
@@ -9,6 +10,7 @@ use lib.Dec.{eqb}
 use lib.ListN.{length, drop}
 use lib.Seq.{drop_at}
 use borrow.Author.Tests.{eqb-false}
+use Rattle.form.specs.declared.reading.Node.{Node}
 use Rattle.words.proofs.Tests.{never}
 use Rattle.words.specs.Base.{when◌then◌else◌}
 use Rattle.figures.specs.Limits.{greatest_code, most_nodes}
@@ -16,8 +18,6 @@ use Rattle.form.specs.Text.{digit_0, digit, code_size, Line, level_text, code_te
 use Rattle.form.specs.Reading.{fault_number, is_digit, figure, value, is_code, code_behind, spelt_of, by_line, line_of, fault, form, read_lines, form_of}
 use Rattle.form.specs.Faults.{greatest_level}
 use Rattle.form.specs.declared.reading.Fault.TheVariants.{Misspelt}
-use Rattle.form.specs.declared.reading.LineRead.{LineRead}
-use Rattle.form.specs.declared.reading.LineRead.TheVariants.{Node, Refused}
 use Rattle.form.proofs.Tests.{AllPass}
 use Rattle.form.proofs.Faults.{no_node, node_seen}
 use Rattle.form.proofs.Spelling.{of-digit, of_code}
@@ -91,7 +91,7 @@ record Coded (s : List ℕ) (l w level code size : ℕ) : Type 0 where
   same_size : w + code_size ≡ size
 
 -- `Coded` holds of whatever is read as a node behind a level.
-code-back : (l w : ℕ) (s : List ℕ) {level code size : ℕ} → code_behind l w s ≡ Node level code size → Coded s l w level code size
+code-back : (l w : ℕ) (s : List ℕ) {level code size : ℕ} → code_behind l w s ≡ Ok (record { level = level; code = code; size = size }) → Coded s l w level code size
 unfolding code_behind when◌then◌else◌
 code-back l w [] e = no_node e
 code-back l w (s ∷ []) e = no_node e
@@ -101,7 +101,7 @@ code-back l w (s ∷ a ∷ b ∷ c ∷ []) e = no_node e
 code-back l w (s ∷ a ∷ b ∷ c ∷ d ∷ []) e = no_node e
 code-back l w (s ∷ a ∷ b ∷ c ∷ d ∷ n ∷ r) {level} {code} {size} e = go (is_code s a b c d n) refl e
   where
-    go : (t : Bool) → is_code s a b c d n ≡ t → (when t then Node l (value a b c d) (w + code_size) else Refused Misspelt) ≡ Node level code size → Coded (s ∷ a ∷ b ∷ c ∷ d ∷ n ∷ r) l w level code size
+    go : (t : Bool) → is_code s a b c d n ≡ t → (when t then Ok (record { level = l; code = value a b c d; size = w + code_size }) else Err Misspelt) ≡ Ok (record { level = level; code = code; size = size }) → Coded (s ∷ a ∷ b ∷ c ∷ d ∷ n ∷ r) l w level code size
     go false q e = no_node e
     go true q e =
         let k = is-text s a b c d n r q in
@@ -154,14 +154,14 @@ lined front s l {level} {code} {size} e h k =
     }
 
 -- `Lined` holds of whatever is read as a node.
-pub line-back : (s : List ℕ) {level code size : ℕ} → spelt_of s ≡ Node level code size → Lined s level code size
+pub line-back : (s : List ℕ) {level code size : ℕ} → spelt_of s ≡ Ok (record { level = level; code = code; size = size }) → Lined s level code size
 unfolding spelt_of when◌then◌else◌
 line-back [] e = no_node e
 line-back (x ∷ []) e = no_node e
 line-back (x ∷ y ∷ r) {level} {code} {size} e = go (is_digit x) (is_digit y) (eqb x digit_0) refl refl refl e
   where
     go : (a b t : Bool) → is_digit x ≡ a → is_digit y ≡ b → eqb x digit_0 ≡ t
-        → (when not a then Refused Misspelt else when not b then code_behind (figure x) 1 (y ∷ r) else when t then Refused Misspelt else code_behind (figure x * 10 + figure y) 2 r) ≡ Node level code size → Lined (x ∷ y ∷ r) level code size
+        → (when not a then Err Misspelt else when not b then code_behind (figure x) 1 (y ∷ r) else when t then Err Misspelt else code_behind (figure x * 10 + figure y) 2 r) ≡ Ok (record { level = level; code = code; size = size }) → Lined (x ∷ y ∷ r) level code size
     go false b t q₀ q₁ q₂ e = no_node e
     go true false t q₀ q₁ q₂ e = let h = of-digit x q₀ in lined (x ∷ []) (y ∷ r) (figure x) (digit-level x q₀) (omega (arith, h.1)) (code-back (figure x) 1 (y ∷ r) e)
     go true true true q₀ q₁ q₂ e = no_node e
@@ -192,7 +192,7 @@ again_none room before xs e =
     record { ys = []; joined = q ∙ sym (append-nil (reverse before)); text = refl; legal = tt; rooms = omega arith }
 
 -- It holds of a line that is read, if it holds behind it.
-again_line : (room : ℕ) (before : List Line) (s : List ℕ) (xs : List Line) {l c w : ℕ} → line_of before s ≡ Node l c w → Again room (record { level = l; code = c } ∷ before) (drop w s) xs → Again (suc room) before s xs
+again_line : (room : ℕ) (before : List Line) (s : List ℕ) (xs : List Line) {l c w : ℕ} → line_of before s ≡ Ok (record { level = l; code = c; size = w }) → Again room (record { level = l; code = c } ∷ before) (drop w s) xs → Again (suc room) before s xs
 unfolding spell
 again_line room before s xs {l} {c} {w} e a =
     let n = node_seen before s e in
@@ -214,10 +214,10 @@ again zero before (b ∷ bs) xs e = not_read e
 again (suc room) before [] xs e = again_none (suc room) before xs e
 again (suc room) before (b ∷ bs) xs e = go (line_of before (b ∷ bs)) refl (λ x t. again room (x ∷ before) t xs) e
   where
-    go : (r : LineRead) → line_of before (b ∷ bs) ≡ r → ((x : Line) (s : List ℕ) → read_lines room (x ∷ before) s ≡ form xs → Again room (x ∷ before) s xs)
+    go : (r : Result Node Fault) → line_of before (b ∷ bs) ≡ r → ((x : Line) (s : List ℕ) → read_lines room (x ∷ before) s ≡ form xs → Again room (x ∷ before) s xs)
         → by_line r (λ level code size. read_lines room (record { level = level; code = code } ∷ before) (drop size (b ∷ bs))) (λ f. fault (fault_number f) (suc (length before))) ≡ form xs → Again (suc room) before (b ∷ bs) xs
-    go (Refused f) q ih e = not_read e
-    go (Node l c w) q ih e = again_line room before (b ∷ bs) xs q (ih (record { level = l; code = c }) (drop w (b ∷ bs)) e)
+    go (Err f) q ih e = not_read e
+    go (Ok node) q ih e = let record { level = l; code = c; size = w } = node in again_line room before (b ∷ bs) xs q (ih (record { level = l; code = c }) (drop w (b ∷ bs)) e)
 
 -- Bytes that are read without fault are the text of their lines, each of which passes, and for which there was room.
 pub read-text : (room : ℕ) (s : List ℕ) (xs : List Line) → read_lines room [] s ≡ form xs → (spell xs ≡ s) × AllPass [] xs × (length xs ≤ room)

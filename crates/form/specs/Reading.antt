@@ -1,5 +1,6 @@
 -- Order form text, read (01, "Order form text", and "Text" under "Order of checks"). Assumes nothing: these are definitions.
-use Rattle.std.specs.Prelude.{ℕ, zero, suc, ◌+◌, ◌*◌, ◌-◌, Bool, not, List, [], ◌∷◌, reverse, leb, ltb, eqb, length, drop}
+use Rattle.std.specs.Prelude.{ℕ, zero, suc, ◌+◌, ◌*◌, ◌-◌, Bool, not, List, [], ◌∷◌, reverse, leb, ltb, eqb, length, drop, Err, Ok, Result}
+use Rattle.form.specs.declared.reading.Node.{Node}
 use Rattle.words.specs.Base.{◌and◌, when◌then◌else◌, within}
 use Rattle.figures.specs.Limits.{most_nodes, most_children, greatest_depth}
 use Rattle.figures.specs.Numbers.{done, too_large, no_form}
@@ -8,8 +9,6 @@ use Rattle.order.specs.Answers.{Writing, writing, write}
 use Rattle.form.specs.Text.{digit_0, digit_9, space, line_feed, code_size, Line}
 use Rattle.form.specs.declared.reading.Fault.{Fault}
 use Rattle.form.specs.declared.reading.Fault.TheVariants.{PastLast, Misspelt, NoOption, LevelNotAllowed, TooDeep, NinthChild}
-use Rattle.form.specs.declared.reading.LineRead.{LineRead}
-use Rattle.form.specs.declared.reading.LineRead.TheVariants.{Node, Refused}
 
 -- ---- numbers
 
@@ -24,9 +23,9 @@ fault_number TooDeep = too_large
 fault_number NinthChild = no_form
 
 -- 01's number for what a line is read as: 0 for a node.
-abbrev pub read_number : LineRead → ℕ
-read_number (Node level code size) = done
-read_number (Refused f) = fault_number f
+abbrev pub read_number : Result Node Fault → ℕ
+read_number (Ok node) = done
+read_number (Err f) = fault_number f
 
 -- ---- spelling
 
@@ -47,30 +46,30 @@ unfoldable pub is_code : ℕ → ℕ → ℕ → ℕ → ℕ → ℕ → Bool
 is_code s a b c d e = eqb s space and is_digit a and is_digit b and is_digit c and is_digit d and eqb e line_feed
 
 -- The line of a level of w bytes, by the bytes behind it: the node, and how many bytes the whole line takes.
-unfoldable pub code_behind : ℕ → ℕ → List ℕ → LineRead
+unfoldable pub code_behind : ℕ → ℕ → List ℕ → Result Node Fault
 code_behind level w (s ∷ a ∷ b ∷ c ∷ d ∷ e ∷ rest) =
-    when is_code s a b c d e then Node level (value a b c d) (w + code_size) else Refused Misspelt
-code_behind level w [] = Refused Misspelt
-code_behind level w (s ∷ []) = Refused Misspelt
-code_behind level w (s ∷ a ∷ []) = Refused Misspelt
-code_behind level w (s ∷ a ∷ b ∷ []) = Refused Misspelt
-code_behind level w (s ∷ a ∷ b ∷ c ∷ []) = Refused Misspelt
-code_behind level w (s ∷ a ∷ b ∷ c ∷ d ∷ []) = Refused Misspelt
+    when is_code s a b c d e then Ok (record { level = level; code = value a b c d; size = w + code_size }) else Err Misspelt
+code_behind level w [] = Err Misspelt
+code_behind level w (s ∷ []) = Err Misspelt
+code_behind level w (s ∷ a ∷ []) = Err Misspelt
+code_behind level w (s ∷ a ∷ b ∷ []) = Err Misspelt
+code_behind level w (s ∷ a ∷ b ∷ c ∷ []) = Err Misspelt
+code_behind level w (s ∷ a ∷ b ∷ c ∷ d ∷ []) = Err Misspelt
 
 -- "Level is one digit, or two of which the first is not 0": the line at the front of the bytes, as it is spelt.
-unfoldable pub spelt_of : List ℕ → LineRead
-spelt_of [] = Refused Misspelt
-spelt_of (x ∷ []) = Refused Misspelt
+unfoldable pub spelt_of : List ℕ → Result Node Fault
+spelt_of [] = Err Misspelt
+spelt_of (x ∷ []) = Err Misspelt
 spelt_of (x ∷ y ∷ rest) =
-    when not (is_digit x) then Refused Misspelt else
+    when not (is_digit x) then Err Misspelt else
     when not (is_digit y) then code_behind (figure x) 1 (y ∷ rest) else
-    when eqb x digit_0 then Refused Misspelt else
+    when eqb x digit_0 then Err Misspelt else
     code_behind (figure x * 10 + figure y) 2 rest
 
 -- What follows a node, and what follows a refusal.
-unfoldable pub by_line : {A : Type 0} → LineRead → (ℕ → ℕ → ℕ → A) → (Fault → A) → A
-by_line (Node level code size) f g = f level code size
-by_line (Refused e) f g = g e
+unfoldable pub by_line : {A : Type 0} → Result Node Fault → (ℕ → ℕ → ℕ → A) → (Fault → A) → A
+by_line (Ok node) f g = f node.level node.code node.size
+by_line (Err e) f g = g e
 
 -- ---- a line behind those before it, which are listed the last first
 
@@ -88,14 +87,14 @@ siblings l (x ∷ xs) =
     siblings l xs
 
 -- "spelling, 0000, level not allowed, level over 12, ninth child": the line at the front of the bytes, or its first fault.
-unfoldable pub line_of : List Line → List ℕ → LineRead
+unfoldable pub line_of : List Line → List ℕ → Result Node Fault
 line_of before bytes =
     by_line (spelt_of bytes) (λ level code size.
-    when eqb code 0 then Refused NoOption else
-    when not (allowed level before) then Refused LevelNotAllowed else
-    when ltb greatest_depth level then Refused TooDeep else
-    when leb most_children (siblings level before) then Refused NinthChild else
-    Node level code size) Refused
+    when eqb code 0 then Err NoOption else
+    when not (allowed level before) then Err LevelNotAllowed else
+    when ltb greatest_depth level then Err TooDeep else
+    when leb most_children (siblings level before) then Err NinthChild else
+    Ok (record { level = level; code = code; size = size })) Err
 
 -- ---- all lines
 

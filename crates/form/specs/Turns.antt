@@ -1,6 +1,7 @@
 -- Inner: no promise rests on these definitions.
 -- What the inner functions of reading and writing give, in the terms that the code has at hand. Assumes nothing: these are definitions.
-use Rattle.std.specs.Prelude.{ℕ, suc, ◌+◌, ◌*◌, ◌-◌, ◌≤◌, ◌<◌, ◌≡◌, Bool, true, not, List, [], ◌∷◌, leb, ltb, eqb, length, take, get_or, set}
+use Rattle.std.specs.Prelude.{ℕ, suc, ◌+◌, ◌*◌, ◌-◌, ◌≤◌, ◌<◌, ◌≡◌, Bool, true, not, List, [], ◌∷◌, leb, ltb, eqb, length, take, get_or, set, Err, Ok, Result}
+use Rattle.form.specs.declared.reading.Node.{Node}
 use Rattle.words.specs.Base.{when◌then◌else◌, within}
 use Rattle.figures.specs.Limits.{most_nodes, most_words, most_children, greatest_depth}
 use Rattle.figures.specs.Numbers.{done}
@@ -10,8 +11,6 @@ use Rattle.figures.specs.declared.Written.{Written}
 use Rattle.form.specs.Text.{Line, lines_of}
 use Rattle.form.specs.Reading.{spelt_of, by_line, Form, fault, form, words_of_lines}
 use Rattle.form.specs.declared.reading.Fault.TheVariants.{PastLast, NoOption, LevelNotAllowed, TooDeep, NinthChild}
-use Rattle.form.specs.declared.reading.LineRead.{LineRead}
-use Rattle.form.specs.declared.reading.LineRead.TheVariants.{Node, Refused}
 
 -- ---- reading
 
@@ -20,14 +19,14 @@ unfoldable pub follows : ℕ → ℕ → Bool
 follows greatest level = when eqb greatest 0 then eqb level 0 else within 1 greatest level
 
 -- A line's faults that can be told without its siblings, behind n lines.
-unfoldable pub next_of : ℕ → ℕ → List ℕ → LineRead
+unfoldable pub next_of : ℕ → ℕ → List ℕ → Result Node Fault
 next_of n greatest bytes =
-    when leb most_nodes n then Refused PastLast else
+    when leb most_nodes n then Err PastLast else
     by_line (spelt_of bytes) (λ level code size.
-    when eqb code 0 then Refused NoOption else
-    when not (follows greatest level) then Refused LevelNotAllowed else
-    when ltb greatest_depth level then Refused TooDeep else
-    Node level code size) Refused
+    when eqb code 0 then Err NoOption else
+    when not (follows greatest level) then Err LevelNotAllowed else
+    when ltb greatest_depth level then Err TooDeep else
+    Ok (record { level = level; code = code; size = size })) Err
 
 -- Where the parent of a line of that level has its number of children.
 abbrev pub count_place : List ℕ → ℕ → ℕ
@@ -54,19 +53,19 @@ adopted words latest level =
     else words
 
 -- What counting a line asks for, if it is a node.
-abbrev pub Parents : LineRead → List ℕ → List ℕ → Type 0
-Parents (Node level code size) words latest = Parent words latest level
-Parents (Refused f) words latest = Unit {0}
+abbrev pub Parents : Result Node Fault → List ℕ → List ℕ → Type 0
+Parents (Ok node) words latest = Parent words latest node.level
+Parents (Err f) words latest = Unit {0}
 
 -- A node whose parent may have no child more is a ninth child.
-unfoldable pub under_parent : List ℕ → List ℕ → LineRead → LineRead
-under_parent words latest (Node level code size) = when may_adopt words latest level then Node level code size else Refused NinthChild
-under_parent words latest (Refused f) = Refused f
+unfoldable pub under_parent : List ℕ → List ℕ → Result Node Fault → Result Node Fault
+under_parent words latest (Ok node) = when may_adopt words latest node.level then Ok node else Err NinthChild
+under_parent words latest (Err f) = Err f
 
 -- The words, with a node counted under its parent.
-unfoldable pub counted_in : List ℕ → List ℕ → LineRead → List ℕ
-counted_in words latest (Node level code size) = adopted words latest level
-counted_in words latest (Refused f) = words
+unfoldable pub counted_in : List ℕ → List ℕ → Result Node Fault → List ℕ
+counted_in words latest (Ok node) = adopted words latest node.level
+counted_in words latest (Err f) = words
 
 -- What reading the lines answers, with their words at the front of w.
 abbrev pub Got : Form → Written → List ℕ → Type 0

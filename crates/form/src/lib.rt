@@ -4,7 +4,7 @@
 
 mod reading;
 
-pub use reading::{Fault, LineRead};
+pub use reading::{Fault, Node};
 
 // How many bytes follow a level on its line: a space, four digits and LF.
 pub const CODE_SIZE: usize = 6;

@@ -1,6 +1,6 @@
 // What a line of a form is read as, and why it is refused. Assumes nothing.
 ghost use Rattle.std.specs.Prelude.{◌≡◌};
-ghost use Rattle.form.specs.Reading.{fault_number, read_number};
+ghost use Rattle.form.specs.Reading.{fault_number};
 
 use figures::numbers;
 
@@ -31,29 +31,10 @@ impl Fault {
     }
 }
 
-// What a line is read as: a node and the number of bytes that its line takes, or its first fault.
+// What a line is read as that has no fault: a node, and the number of bytes that its line takes.
 #[derive(Clone, Copy)]
-pub enum LineRead {
-    Node {
-        level: usize,
-        code: u16,
-        size: usize,
-    },
-    Refused(Fault),
-}
-
-impl LineRead {
-    // 01's number for a line: 0 for a node.
-    pub fn number(self) -> u16
-        ensures { result ≡ read_number self }
-    {
-        match self {
-            LineRead::Node {
-                level: _,
-                code: _,
-                size: _,
-            } => numbers::DONE,
-            LineRead::Refused(fault) => fault.number(),
-        }
-    }
+pub struct Node {
+    pub level: usize,
+    pub code: u16,
+    pub size: usize,
 }

@@ -8,7 +8,7 @@ ghost use Rattle.form.specs.Reading.{form_of, read_of};
 ghost use Rattle.form.specs.Turns.{follows, next_of, Parent, may_adopt, adopted, Parents, under_parent, counted_in, Got};
 
 use figures::{Written, limits, numbers, refused, wrote};
-use form::{Fault, LineRead};
+use form::{Fault, Node};
 use form_read_line::spelt_at;
 use words::copy;
 
@@ -30,32 +30,24 @@ fn may_follow(greatest: usize, level: usize) -> bool
 
 // The line that starts at `at`, behind n lines, where `greatest` is the greatest level allowed: a node, or the first of its faults that
 // can be told without the line's siblings.
-fn next_line(text: &[u8], at: usize, n: usize, greatest: usize) -> LineRead
+fn next_line(text: &[u8], at: usize, n: usize, greatest: usize) -> Result<Node, Fault>
     requires { at ≤ length text.now }
     ensures { result ≡ next_of n greatest (drop at text.now) }
 {
     if limits::MOST_NODES <= n {
-        return LineRead::Refused(Fault::PastLast);
+        return Err(Fault::PastLast);
     }
-    let read = spelt_at(text, at);
-    let LineRead::Node {
-        level,
-        code,
-        size: _,
-    } = read
-    else {
-        return read;
-    };
-    if code == 0 {
-        return LineRead::Refused(Fault::NoOption);
+    let node = spelt_at(text, at)?;
+    if node.code == 0 {
+        return Err(Fault::NoOption);
     }
-    if !may_follow(greatest, level) {
-        return LineRead::Refused(Fault::LevelNotAllowed);
+    if !may_follow(greatest, node.level) {
+        return Err(Fault::LevelNotAllowed);
     }
-    if limits::GREATEST_DEPTH < level {
-        return LineRead::Refused(Fault::TooDeep);
+    if limits::GREATEST_DEPTH < node.level {
+        return Err(Fault::TooDeep);
     }
-    read
+    Ok(node)
 }
 
 // Counts a line of this level as one more child of its parent, which is the line that `latest` has for the level above. Answers whether
@@ -86,25 +78,17 @@ fn line_at(
     greatest: usize,
     words: &mut [u16; limits::MOST_WORDS],
     latest: &[usize; LEVELS],
-) -> LineRead
+) -> Result<Node, Fault>
     requires { (at ≤ length text.now) × Parents (next_of n greatest (drop at text.now)) words.old latest.now }
     ensures answered { result ≡ under_parent words.old latest.now (next_of n greatest (drop at text.now)) }
     ensures counted { words.new ≡ counted_in words.old latest.now
         (next_of n greatest (drop at text.now)) }
 {
-    let read = next_line(text, at, n, greatest);
-    let LineRead::Node {
-        level,
-        code: _,
-        size: _,
-    } = read
-    else {
-        return read;
-    };
-    if !adopt(words, latest, level) {
-        return LineRead::Refused(Fault::NinthChild);
+    let node = next_line(text, at, n, greatest)?;
+    if !adopt(words, latest, node.level) {
+        return Err(Fault::NinthChild);
     }
-    read
+    Ok(node)
 }
 
 // The lines of a text, in one pass: how many words they come to, which stand at the front of `words`, or the first line at fault. A node's
@@ -122,9 +106,9 @@ fn lines(text: &[u8], words: &mut [u16; limits::MOST_WORDS]) -> Written
     let mut greatest = 0;
     while at < text.len() {
         let line = n + 1;
-        let read = line_at(text, at, n, greatest, words, &latest);
-        let LineRead::Node { level, code, size } = read else {
-            return refused(read.number(), line);
+        let Node { level, code, size } = match line_at(text, at, n, greatest, words, &latest) {
+            Ok(node) => node,
+            Err(fault) => return refused(fault.number(), line),
         };
         let here = 2 * n;
         words[here] = code;

@@ -4,7 +4,7 @@
 ghost use Rattle.std.specs.Prelude.{true, ◌≡◌, ◌+◌, ◌≤◌, ◌<◌, length, drop};
 ghost use Rattle.form.specs.Reading.{is_digit, figure, is_code, value, code_behind, spelt_of};
 
-use form::{CODE_SIZE, Fault, LineRead};
+use form::{CODE_SIZE, Fault, Node};
 
 // Whether a byte is a decimal digit.
 fn is_digit(b: u8) -> bool
@@ -55,13 +55,13 @@ fn value_of(a: u8, b: u8, c: u8, d: u8) -> u16
 }
 
 // The line of a level of `w` bytes that stands at `at`, by the bytes behind the level.
-fn code_at(text: &[u8], at: usize, level: usize, w: usize) -> LineRead
+fn code_at(text: &[u8], at: usize, level: usize, w: usize) -> Result<Node, Fault>
     requires { at + w ≤ length text.now }
     ensures { result ≡ code_behind level w (drop (at + w) text.now) }
 {
     let p = at + w;
     if text.len() - p < CODE_SIZE {
-        return LineRead::Refused(Fault::Misspelt);
+        return Err(Fault::Misspelt);
     }
     let s = text[p];
     let a = text[p + 1];
@@ -70,32 +70,32 @@ fn code_at(text: &[u8], at: usize, level: usize, w: usize) -> LineRead
     let d = text[p + 4];
     let e = text[p + 5];
     if !is_code(s, a, b, c, d, e) {
-        return LineRead::Refused(Fault::Misspelt);
+        return Err(Fault::Misspelt);
     }
     let code = value_of(a, b, c, d);
     let size = w + CODE_SIZE;
-    LineRead::Node { level, code, size }
+    Ok(Node { level, code, size })
 }
 
 // The line that starts at `at`, as it is spelt.
-pub fn spelt_at(text: &[u8], at: usize) -> LineRead
+pub fn spelt_at(text: &[u8], at: usize) -> Result<Node, Fault>
     requires { at ≤ length text.now }
     ensures { result ≡ spelt_of (drop at text.now) }
 {
     if text.len() - at < 2 {
-        return LineRead::Refused(Fault::Misspelt);
+        return Err(Fault::Misspelt);
     }
     let x = text[at];
     let y = text[at + 1];
     if !is_digit(x) {
-        return LineRead::Refused(Fault::Misspelt);
+        return Err(Fault::Misspelt);
     }
     let first = figure_of(x);
     if !is_digit(y) {
         return code_at(text, at, first as usize, 1);
     }
     if x == b'0' {
-        return LineRead::Refused(Fault::Misspelt);
+        return Err(Fault::Misspelt);
     }
     let level = first * 10 + figure_of(y);
     code_at(text, at, level as usize, 2)

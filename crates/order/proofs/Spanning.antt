@@ -1,5 +1,5 @@
 -- A row of trees gone over by the spans of its subtrees: what is left after each child, and what all lines say of the tree that words are. Assumes nothing.
-use Rattle.std.specs.Prelude.{None, Some}
+use Rattle.std.specs.Prelude.{None, Some, Option}
 use Prim.Native.Nat.{ℕ, zero, suc, ◌+◌, ◌*◌, ◌-◌, ◌/◌, ◌≤◌, ◌<◌, max}
 use mathlib.Core.Path.{◌≡◌, refl, sym, ap, ap₂, ◌∙◌}
 use mathlib.Core.Bool.{Bool, true, false}
@@ -10,6 +10,7 @@ use borrow.Author.Tests.{le-leb, lt-leb, leb-true}
 use lib.Dec.{leb}
 use lib.ListN.{length, take, drop, get_or, set, length-set, length-append, length-drop, length-take, drop_of_length-le}
 use lib.Seq.{drop-drop, drop-append_seam, get_or-drop, get_or-take, get_or-set_same, get_or-set_other, take-set-lt, drop-set-add}
+use Rattle.order.specs.declared.Spanned.{Spanned}
 use Rattle.words.proofs.Tests.{never}
 use Rattle.words.specs.Base.{when◌then◌else◌}
 use Rattle.figures.specs.Limits.{most_words}
@@ -22,8 +23,6 @@ use Rattle.order.proofs.Orders.{FoundDeep, words-read}
 use Rattle.order.proofs.Causes.{has-tree}
 use Rattle.order.proofs.Leaves.{leaves-few, leaves-short, leaves_lines, leaves-deep, leaf_more, leaf_none}
 use Rattle.order.proofs.Rowing.{node-words, leb_less, subtrees-split, tree-row, row-tree, row-missing, lacks_child, fault-missing}
-use Rattle.order.specs.declared.Spanned.{Spanned}
-use Rattle.order.specs.declared.Spanned.TheVariants.{Lacking, To}
 
 -- ---- lines and spans
 
@@ -152,16 +151,16 @@ module _ (os ss : List ℕ) (from children : ℕ) (even : 2 * (length os / 2) �
             }
 
     -- With no line left a child is lacking.
-    pub over-lacking : length os / 2 ≤ at → 0 < left → spanned_by from children (row_of (drop (2 * from) os)) ≡ Lacking
+    pub over-lacking : length os / 2 ≤ at → 0 < left → spanned_by from children (row_of (drop (2 * from) os)) ≡ None
     unfolding spanned_by when◌then◌else◌ count lines_f
     over-lacking past more = rw o.is (go o.rest refl)
       where
-        go : (g : Forest) → o.rest ≡ g → (when leb children (count o.row) then To (from + lines_f (first_trees children o.row)) (depth_f (first_trees children o.row)) else Lacking) ≡ Lacking
+        go : (g : Forest) → o.rest ≡ g → when◌then◌else◌ {A = Option Spanned} (leb children (count o.row)) (Some (record { end = from + lines_f (first_trees children o.row); depth = depth_f (first_trees children o.row) })) None ≡ None
         go bare e = rw (o.enough ∙ lt-leb left (count o.rest) (omega (arith, ap count e))) refl
         go (cons t f) e = absurd (omega (arith, o.ends, ap lines_f e, some-line t))
 
     -- Past the last child all are taken.
-    pub over-all : left ≡ 0 → spanned_by from children (row_of (drop (2 * from) os)) ≡ To at depth₀
+    pub over-all : left ≡ 0 → spanned_by from children (row_of (drop (2 * from) os)) ≡ Some (record { end = at; depth = depth₀ })
     unfolding spanned_by when◌then◌else◌ first_trees lines_f depth_f
     over-all none =
         let deep : depth₀ ≡ depth_f (first_trees children o.row) = omega (arith, rw none at (o.deep (omega arith))) in
@@ -172,7 +171,7 @@ module _ (os ss : List ℕ) (from children : ℕ) (even : 2 * (length os / 2) �
 module _ (os ss : List ℕ) (from first top run children : ℕ) (even : 2 * (length os / 2) ≡ length os) (room : length os ≤ length ss)
     (low : 2 * from ≤ length os) (are : SpansAre from (drop (2 * from) (take (length os) ss)) (row_of (drop (2 * from) os))) (k : FirstSpan os ss from first top run) (more : 0 < children) where
   -- Where there is no line behind the node, it lacks a child.
-  pub first-lacking : length os / 2 ≤ from → spanned_by from children (row_of (drop (2 * from) os)) ≡ Lacking
+  pub first-lacking : length os / 2 ≤ from → spanned_by from children (row_of (drop (2 * from) os)) ≡ None
   first-lacking past = over-lacking os ss from children even room from 0 children (over-start os ss from children even room low are) past more
 
   -- The other children are left.
@@ -205,13 +204,13 @@ two_words : (os : List ℕ) (at : ℕ) → 2 * at + 2 ≤ length os → drop (2 
 two_words os at h = node-words os (2 * at) (2 * (at + 1)) (omega arith) (omega arith)
 
 -- What a node comes to.
-abbrev end_of : Spanned → ℕ
-end_of Lacking = 0
-end_of (To e d) = e
+abbrev end_of : Option Spanned → ℕ
+end_of None = 0
+end_of (Some to) = to.end
 
-abbrev depth-of : Spanned → ℕ
-depth-of Lacking = 0
-depth-of (To e d) = d
+abbrev depth-of : Option Spanned → ℕ
+depth-of None = 0
+depth-of (Some to) = to.depth
 
 -- Two words stored before those of the lines behind.
 stored : (ss : List ℕ) (len at line x y : ℕ) → at + 1 ≡ line → 2 * line ≤ len → len ≤ length ss
@@ -252,11 +251,11 @@ front-written os ss at x y run h l = record {
 }
 
 -- A node over leaves alone ends past the last of them and is one deep.
-pub front-leaves : (os ss : List ℕ) (i first top run n : ℕ) → FirstSpan os ss i first top run → 0 < n → n ≤ run → spanned_by i n (row_of (drop (2 * i) os)) ≡ To (i + n) 1
+pub front-leaves : (os ss : List ℕ) (i first top run n : ℕ) → FirstSpan os ss i first top run → 0 < n → n ≤ run → spanned_by i n (row_of (drop (2 * i) os)) ≡ Some (record { end = i + n; depth = 1 })
 unfolding spanned_by when◌then◌else◌
 front-leaves os ss i first top run n k more few = go (row_of (drop (2 * i) os)) k.leaves
   where
-    go : (r : Rowed) → LeavesAre run r → spanned_by i n r ≡ To (i + n) 1
+    go : (r : Rowed) → LeavesAre run r → spanned_by i n r ≡ Some (record { end = i + n; depth = 1 })
     go faulty h = absurd h
     go (rowed f) h =
         let all : n ≤ leaves_f f = omega (arith, h) in
@@ -287,7 +286,7 @@ module _ (os ss₀ ss : List ℕ) (line : ℕ) (b : Back os ss₀ ss line) (at c
   back_unsound e = fault-here (row_here ∙ rw e refl)
 
   -- A node that lacks a child.
-  pub back_lacking : Lacking ≡ spanned_by line n (row_of (drop (2 * line) os)) → tree_of os ≡ missing
+  pub back_lacking : None ≡ spanned_by line n (row_of (drop (2 * line) os)) → tree_of os ≡ missing
   unfolding spanned_by node_before when◌then◌else◌
   back_lacking e = go (row_of (drop (2 * line) os)) refl
     where
@@ -300,7 +299,7 @@ module _ (os ss₀ ss : List ℕ) (line : ℕ) (b : Back os ss₀ ss line) (at c
       go (rowed f) r = by_count f r (leb n (count f)) refl
 
   -- A node that has its children.
-  pub back_next : (end₁ deep₁ : ℕ) → sound_node c n ≡ true → To end₁ deep₁ ≡ spanned_by line n (row_of (drop (2 * line) os)) → Back os ss₀ (set (set ss (2 * at) end₁) (2 * at + 1) deep₁) at
+  pub back_next : (end₁ deep₁ : ℕ) → sound_node c n ≡ true → Some (record { end = end₁; depth = deep₁ }) ≡ spanned_by line n (row_of (drop (2 * line) os)) → Back os ss₀ (set (set ss (2 * at) end₁) (2 * at + 1) deep₁) at
   unfolding spanned_by node_before when◌then◌else◌
   back_next end₁ deep₁ e g = go (row_of (drop (2 * line) os)) refl
     where
@@ -320,7 +319,7 @@ module _ (os ss₀ ss : List ℕ) (line : ℕ) (b : Back os ss₀ ss line) (at c
 
       by_count : (f : Forest) → row_of (drop (2 * line) os) ≡ rowed f → (x : Bool) → leb n (count f) ≡ x → Back os ss₀ (set (set ss (2 * at) end₁) (2 * at + 1) deep₁) at
       by_count f r true l =
-          let same : To end₁ deep₁ ≡ To (line + lines_f (first_trees n f)) (depth_f (first_trees n f)) = rw (r, l) at g in
+          let same : Some (record { end = end₁; depth = deep₁ }) ≡ Some (record { end = line + lines_f (first_trees n f); depth = depth_f (first_trees n f) }) = rw (r, l) at g in
           made f r l (ap end_of same) (ap depth-of same)
       by_count f r false l = never (cc (rw (r, l) at g))
 
@@ -329,11 +328,11 @@ module _ (os ss₀ ss : List ℕ) (line : ℕ) (b : Back os ss₀ ss line) (at c
       go (rowed f) r = by_count f r (leb n (count f)) refl
 
   -- A leaf ends where the next line begins.
-  pub leaf_spans : n ≡ 0 → To line 0 ≡ spanned_by line n (row_of (drop (2 * line) os))
+  pub leaf_spans : n ≡ 0 → Some (record { end = line; depth = 0 }) ≡ spanned_by line n (row_of (drop (2 * line) os))
   unfolding spanned_by when◌then◌else◌ first_trees lines_f depth_f
   leaf_spans e = go (row_of (drop (2 * line) os)) b.are
     where
-      go : (r : Rowed) → SpansAre line (drop (2 * line) (take (length os) ss)) r → To line 0 ≡ spanned_by line n r
+      go : (r : Rowed) → SpansAre line (drop (2 * line) (take (length os) ss)) r → Some (record { end = line; depth = 0 }) ≡ spanned_by line n r
       go faulty h = absurd h
       go (rowed f) h = rw (e, le-leb 0 (count f) (omega arith), add-zero line) refl
 
@@ -349,7 +348,7 @@ module _ (os ss₀ ss : List ℕ) (line : ℕ) (b : Back os ss₀ ss line) (at c
           rw is (omega (arith, h, leaf_more c f))
 
   -- A node that has children is no leaf.
-  pub front-node : (first top run end₁ deep₁ : ℕ) → FirstSpan os ss line first top run → sound_node c n ≡ true → 0 < n → To end₁ deep₁ ≡ spanned_by line n (row_of (drop (2 * line) os))
+  pub front-node : (first top run end₁ deep₁ : ℕ) → FirstSpan os ss line first top run → sound_node c n ≡ true → 0 < n → Some (record { end = end₁; depth = deep₁ }) ≡ spanned_by line n (row_of (drop (2 * line) os))
       → FirstSpan os (set (set ss (2 * at) end₁) (2 * at + 1) deep₁) at end₁ deep₁ 0
   unfolding spanned_by node_before when◌then◌else◌
   front-node first top run end₁ deep₁ k e z g = front-written os ss at end₁ deep₁ 0 (omega (arith, b.low, b.room)) (go (row_of (drop (2 * line) os)) refl k.leaves)
@@ -370,13 +369,13 @@ pub back_equal : (os ss₀ ss ss₁ : List ℕ) (line first first₁ top top₁ 
 back_equal os ss₀ ss ss₁ line first first₁ top top₁ run run₁ a b c d h = rw (a, b, c, d) h
 
 -- What a node comes to is no more than there are lines.
-pub back_small : (os ss₀ ss : List ℕ) (line n e d : ℕ) → Back os ss₀ ss line → To e d ≡ spanned_by line n (row_of (drop (2 * line) os)) → (e ≤ length os / 2) × (d ≤ length os / 2)
+pub back_small : (os ss₀ ss : List ℕ) (line n e d : ℕ) → Back os ss₀ ss line → Some (record { end = e; depth = d }) ≡ spanned_by line n (row_of (drop (2 * line) os)) → (e ≤ length os / 2) × (d ≤ length os / 2)
 unfolding spanned_by when◌then◌else◌
 back_small os ss₀ ss line n e d b g = go (row_of (drop (2 * line) os)) refl
   where
     by_count : (f : Forest) → row_of (drop (2 * line) os) ≡ rowed f → (x : Bool) → leb n (count f) ≡ x → (e ≤ length os / 2) × (d ≤ length os / 2)
     by_count f r true l =
-        let same : To e d ≡ To (line + lines_f (first_trees n f)) (depth_f (first_trees n f)) = rw (r, l) at g in
+        let same : Some (record { end = e; depth = d }) ≡ Some (record { end = line + lines_f (first_trees n f); depth = depth_f (first_trees n f) }) = rw (r, l) at g in
         let are : drop (2 * line) (take (length os) ss) ≡ spans_from line (subtrees_f f) = rw r at b.are in
         let long = lines_left os ss line f b.room are in
         (omega (arith, ap end_of same, first-lines n f, b.even, b.low), omega (arith, ap depth-of same, depth_f_lines (first_trees n f), first-lines n f, b.even, b.low))

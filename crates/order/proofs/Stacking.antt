@@ -1,5 +1,5 @@
 -- A row of trees by the stack of their depths: what taking a node's children from it leaves, and what is found once all nodes are gone over. Assumes nothing.
-use Rattle.std.specs.Prelude.{None, Some}
+use Rattle.std.specs.Prelude.{None, Some, Option}
 use Prim.Native.Nat.{ℕ, zero, suc, ◌+◌, ◌*◌, ◌-◌, ◌/◌, ◌≤◌, ◌<◌, max}
 use mathlib.Core.Path.{◌≡◌, refl, sym, ap, subst, ◌∙◌}
 use mathlib.Core.Bool.{Bool, true, false}
@@ -9,6 +9,7 @@ use borrow.Author.Tests.{le-leb, lt-leb, leb-true}
 use lib.Dec.{leb}
 use lib.ListN.{length, take, drop, get_or, set, length-set, length-append, length-drop, drop_of_length-le, get_or-append}
 use lib.Seq.{length-take-le, take_all, take-nil, take-take, take-append-le, drop-append-le, get_or_at, get_or-take, get_or-drop, take-suc-set}
+use Rattle.order.specs.declared.Popped.{Popped}
 use Rattle.words.proofs.Tests.{never, by_test}
 use Rattle.words.specs.Base.{when◌then◌else◌}
 use Rattle.figures.specs.Nodes.{sound_node}
@@ -16,8 +17,6 @@ use Rattle.figures.specs.Limits.{most_words}
 use Rattle.order.specs.Trees.{node, Forest, bare, cons, count, depth, depth_f}
 use Rattle.order.specs.Reading.{first_trees, later_trees, missing, tree_of}
 use Rattle.order.specs.Spans.{Rowed, faulty, rowed, node_before, row_of, leaves_f, measured_of, stack_of, StackIs, popped_by}
-use Rattle.order.specs.declared.Popped.{Popped}
-use Rattle.order.specs.declared.Popped.TheVariants.{Short, Left}
 use Rattle.order.proofs.Rowing.{row-tree, row-missing, lacks_child, fault-missing, node-words}
 use Rattle.order.proofs.Leaves.{leaves-few, leaves-deep, leaf_more, leaf_none}
 
@@ -60,7 +59,7 @@ module _ (many top run : ℕ) (ss : List ℕ) (f : Forest) (b : StackIs many top
   word_of i = ap (λ (l : List ℕ). get_or l i 0) (sym b.depths) ∙ get_or-drop 1 (take many ss ++ (top ∷ [])) i 0
 
   -- All children are leaves.
-  pub leaves-popped : (n taken : ℕ) → taken ≡ n → n ≤ run → 0 < n → Left (many + 1 - taken) 1 ≡ popped_by n f
+  pub leaves-popped : (n taken : ℕ) → taken ≡ n → n ≤ run → 0 < n → Some (record { many = many + 1 - taken; depth = 1 }) ≡ popped_by n f
   unfolding popped_by when◌then◌else◌
   leaves-popped n taken w h more =
       let l : n ≤ leaves_f f = omega (arith, b.leaves) in
@@ -68,7 +67,7 @@ module _ (many top run : ℕ) (ss : List ℕ) (f : Forest) (b : StackIs many top
       rw (le-leb n (count f) (omega (arith, leaves-few f)), leaves-deep n f l more, k) refl
 
   -- A child is lacking.
-  pub none-popped : (n : ℕ) → many < n → Short ≡ popped_by n f
+  pub none-popped : (n : ℕ) → many < n → None ≡ popped_by n f
   unfolding popped_by when◌then◌else◌
   none-popped n h = rw (lt-leb n (count f) (omega (arith, b.counted))) refl
 
@@ -96,13 +95,13 @@ module _ (many top run : ℕ) (ss : List ℕ) (f : Forest) (b : StackIs many top
         rw (z, m, e) refl
 
   -- All children are taken.
-  pub all-popped : (n taken at deep : ℕ) → taken ≡ n → 0 < n → taken ≤ many → at ≡ many + 1 - taken → deep ≡ depth_f (first_trees (suc (many - at)) f) → Left (many + 1 - taken) deep ≡ popped_by n f
+  pub all-popped : (n taken at deep : ℕ) → taken ≡ n → 0 < n → taken ≤ many → at ≡ many + 1 - taken → deep ≡ depth_f (first_trees (suc (many - at)) f) → Some (record { many = many + 1 - taken; depth = deep }) ≡ popped_by n f
   unfolding popped_by when◌then◌else◌
   all-popped n taken at deep w more h a e =
       let k : count f + 1 - n ≡ many + 1 - taken = omega (arith, b.counted) in
       let m : suc (many - at) ≡ n = omega arith in
       let d : deep ≡ depth_f (first_trees n f) = e ∙ ap (λ (j : ℕ). depth_f (first_trees j f)) m in
-      rw (le-leb n (count f) (omega (arith, b.counted)), k) (ap (Left (many + 1 - taken)) d)
+      rw (le-leb n (count f) (omega (arith, b.counted)), k) (ap (λ (d : ℕ). Some (record { many = many + 1 - taken; depth = d })) d)
 
 -- ---- what is known once a node is put before a row
 
@@ -225,27 +224,27 @@ unfolding measured_of
 broken os e = rw e refl
 
 -- What is taken.
-abbrev many-of : Popped → ℕ
-many-of Short = 0
-many-of (Left a d) = a
+abbrev many-of : Option Popped → ℕ
+many-of None = 0
+many-of (Some left) = left.many
 
-abbrev depth-of : Popped → ℕ
-depth-of Short = 0
-depth-of (Left a d) = d
+abbrev depth-of : Option Popped → ℕ
+depth-of None = 0
+depth-of (Some left) = left.depth
 
 -- What a node takes of a row that has its children.
-had : (n rest deep : ℕ) (f : Forest) → Left rest deep ≡ popped_by n f → (n ≤ count f) × (rest ≡ count f + 1 - n) × (deep ≡ depth_f (first_trees n f))
+had : (n rest deep : ℕ) (f : Forest) → Some (record { many = rest; depth = deep }) ≡ popped_by n f → (n ≤ count f) × (rest ≡ count f + 1 - n) × (deep ≡ depth_f (first_trees n f))
 unfolding popped_by when◌then◌else◌
 had n rest deep f e = go (leb n (count f)) refl
   where
     go : (x : Bool) → leb n (count f) ≡ x → (n ≤ count f) × (rest ≡ count f + 1 - n) × (deep ≡ depth_f (first_trees n f))
     go true l =
-        let same : Left rest deep ≡ Left (count f + 1 - n) (depth_f (first_trees n f)) = rw l at e in
+        let same : Some (record { many = rest; depth = deep }) ≡ Some (record { many = count f + 1 - n; depth = depth_f (first_trees n f) }) = rw l at e in
         (leb-true _ _ l, ap many-of same, ap depth-of same)
     go false l = never (cc (rw l at e))
 
 -- A node before a row that lacks a child is a fault.
-lacked : (x : Bool) (c n : ℕ) (f : Forest) → Short ≡ popped_by n f → node_before x c n (rowed f) ≡ faulty
+lacked : (x : Bool) (c n : ℕ) (f : Forest) → None ≡ popped_by n f → node_before x c n (rowed f) ≡ faulty
 unfolding popped_by when◌then◌else◌
 lacked x c n f e = by_test (leb n (count f)) (λ l. never (cc (rw l at e))) (lacks_child x c n f)
 
@@ -289,7 +288,7 @@ module _ (os ss₀ ss : List ℕ) (at many top run : ℕ) (b : Stacked os ss₀ 
     stacked_unsound e = fault-here (row_here ∙ rw e refl)
 
     -- A node that lacks a child.
-    pub stacked_short : Short ≡ popped_by n b.row → None ≡ measured_of (tree_of os)
+    pub stacked_short : None ≡ popped_by n b.row → None ≡ measured_of (tree_of os)
     stacked_short e = fault-here (row_here ∙ lacked (sound_node c n) c n b.row e)
 
     -- A node that has its children is put before the trees behind them.
@@ -314,7 +313,7 @@ module _ (os ss₀ ss : List ℕ) (at many top run : ℕ) (b : Stacked os ss₀ 
         }
 
     -- A node that has its children.
-    pub stacked_next : (rest deep : ℕ) → sound_node c n ≡ true → 0 < n → Left rest deep ≡ popped_by n b.row → Stacked os ss₀ ss here rest deep 0
+    pub stacked_next : (rest deep : ℕ) → sound_node c n ≡ true → 0 < n → Some (record { many = rest; depth = deep }) ≡ popped_by n b.row → Stacked os ss₀ ss here rest deep 0
     stacked_next rest deep s some e =
         let h = had n rest deep b.row e in
         record {

@@ -2,16 +2,14 @@
 -- Orders gone over from the last node to the first: where the subtree of each line ends and how deep it is, and the row of trees that words
 -- spell. Assumes nothing: these are definitions.
 use Rattle.std.specs.Prelude.{List, [], ◌∷◌, ◌++◌, Bool, true, false, ◌≡◌, ℕ, zero, suc, ◌+◌, ◌*◌, ◌-◌, ◌/◌, ◌≤◌, ◌<◌, leb, length, take, drop, get_or, set, None, Option, Some}
+use Rattle.order.specs.declared.Popped.{Popped}
+use Rattle.order.specs.declared.Spanned.{Spanned}
 use Rattle.words.specs.Base.{when◌then◌else◌}
 use Rattle.figures.specs.Limits.{most_words}
 use Rattle.figures.specs.Nodes.{sound_node}
 use Rattle.figures.specs.Numbers.{done}
 use Rattle.order.specs.Trees.{Tree, node, Forest, bare, cons, count, depth, depth_f, subtrees, subtrees_f}
 use Rattle.order.specs.Reading.{first_trees, later_trees, TreeFound, missing, found, by_order, order_of, cause_of}
-use Rattle.order.specs.declared.Spanned.{Spanned}
-use Rattle.order.specs.declared.Spanned.TheVariants.{Lacking, To}
-use Rattle.order.specs.declared.Popped.{Popped}
-use Rattle.order.specs.declared.Popped.TheVariants.{Short, Left}
 
 -- ---- what the scratch says of an order's lines
 
@@ -91,9 +89,9 @@ pub record FirstSpan (os ss : List ℕ) (i first top run : ℕ) : Type 0 where
   pub leaves : LeavesAre run (row_of (drop (2 * i) os))
 
 -- What a node comes to whose children are the first n trees of a row, which stands on lines from i on.
-unfoldable pub spanned_by : ℕ → ℕ → Rowed → Spanned
-spanned_by i n faulty = Lacking
-spanned_by i n (rowed f) = when leb n (count f) then To (i + lines_f (first_trees n f)) (depth_f (first_trees n f)) else Lacking
+unfoldable pub spanned_by : ℕ → ℕ → Rowed → Option Spanned
+spanned_by i n faulty = None
+spanned_by i n (rowed f) = when leb n (count f) then Some (record { end = i + lines_f (first_trees n f); depth = depth_f (first_trees n f) }) else None
 
 -- ---- by a stack of depths
 
@@ -111,8 +109,8 @@ pub record StackIs (many top run : ℕ) (ss : List ℕ) (f : Forest) : Type 0 wh
 
 -- What a node comes to that takes the first n trees of a row as its children: it lacks one; or there are so many trees then, itself the
 -- first, and it is so deep.
-unfoldable pub popped_by : ℕ → Forest → Popped
-popped_by n f = when leb n (count f) then Left (count f + 1 - n) (depth_f (first_trees n f)) else Short
+unfoldable pub popped_by : ℕ → Forest → Option Popped
+popped_by n f = when leb n (count f) then Some (record { many = count f + 1 - n; depth = depth_f (first_trees n f) }) else None
 
 -- ---- the levels of lines by their spans
 

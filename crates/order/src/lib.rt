@@ -4,19 +4,18 @@
 
 use figures::Written;
 
-// What a node comes to that has so many children: it lacks one; or the line past its subtree, and how deep that is.
+// What a node comes to that has all its children: the line past its subtree, and how deep that is.
 #[derive(Clone, Copy)]
-pub enum Spanned {
-    Lacking,
-    To { end: usize, depth: usize },
+pub struct Spanned {
+    pub end: usize,
+    pub depth: usize,
 }
 
-// What a node comes to that takes its children from a row of trees: there are too few; or so many trees are there then, itself the first, and it
-// is so deep.
+// What a node comes to that has taken its children from a row of trees: so many trees are there then, itself the first, and it is so deep.
 #[derive(Clone, Copy)]
-pub enum Popped {
-    Short,
-    Left { many: usize, depth: usize },
+pub struct Popped {
+    pub many: usize,
+    pub depth: usize,
 }
 
 // Where a line of an order stands.

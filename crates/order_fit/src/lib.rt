@@ -17,20 +17,20 @@ use order_spans::{deeper, wide};
 // Takes a node's children from a row of `many` trees: the first is `top` deep, the first `run` are leaves, and the depths of the trees behind the
 // first are the words of the stack from word 1 to before word `many`, that of the last tree first. Where all children are among the leaves
 // nothing is read.
-fn pop(stack: &[u16], many: usize, top: usize, run: u16, children: u16) -> Popped
+fn pop(stack: &[u16], many: usize, top: usize, run: u16, children: u16) -> Option<Popped>
     requires { (many ≤ length stack.now) × (run ≤ many) × (0 < children) × (top ≤ most_words) }
     ensures { (f : Forest) → StackIs many top run stack.now f → result ≡ popped_by children f }
 {
     let taken = wide(children);
     if children <= run {
         let rest = many + 1 - taken;
-        return Popped::Left {
+        return Some(Popped {
             many: rest,
             depth: 1,
-        };
+        });
     }
     if many < taken {
-        return Popped::Short;
+        return None;
     }
     let rest = many + 1 - taken;
     let mut at = many;
@@ -39,7 +39,7 @@ fn pop(stack: &[u16], many: usize, top: usize, run: u16, children: u16) -> Poppe
         at -= 1;
         depth = deeper(depth, stack[at]);
     }
-    Popped::Left { many: rest, depth }
+    Some(Popped { many: rest, depth })
 }
 
 // How deep the tree is that words are, from the last node to the first, by the depths of the trees behind: `top` is that of the first, and those
@@ -66,7 +66,7 @@ pub fn deep(order: &[u16], stack: &mut [u16]) -> Option<usize>
             top = 0;
             run += 1;
         } else {
-            let Popped::Left { many: rest, depth } = pop(stack, many, top, run, children) else {
+            let Some(Popped { many: rest, depth }) = pop(stack, many, top, run, children) else {
                 return None;
             };
             many = rest;

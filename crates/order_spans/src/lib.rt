@@ -34,7 +34,7 @@ fn put_span(spans: &mut [u16], line: usize, end: usize, depth: usize)
     spans[2 * line - 1] = depth as u16;
 }
 
-// What a node comes to that has so many children, by the lines from `from` on, which were gone over: the first of them ends before line `first`
+// What a node comes to that has so many children, if it lacks none, by the lines from `from` on, which were gone over: the first of them ends before line `first`
 // and is `top` deep, and there are `run` leaves first. Children that are all leaves are not gone over again.
 fn over_children(
     order: &[u16],
@@ -44,7 +44,7 @@ fn over_children(
     top: u16,
     run: u16,
     children: u16,
-) -> Spanned
+) -> Option<Spanned>
     requires measurable { Measurable order.now spans.now × (2 * from ≤ length order.now) × (0 < children) }
     requires spans_are { SpansAre from (drop (2 * from) (take (length order.now) spans.now)) (row_of (drop (2 * from) order.now)) }
     requires first_span { FirstSpan order.now spans.now from first top run }
@@ -52,24 +52,24 @@ fn over_children(
 {
     if children <= run {
         let end = from + wide(children);
-        return Spanned::To { end, depth: 1 };
+        return Some(Spanned { end, depth: 1 });
     }
     let n = order.len() / 2;
     if n <= from {
-        return Spanned::Lacking;
+        return None;
     }
     let mut at = first;
     let mut depth = wide(top) + 1;
     let mut left = children - 1;
     while 0 < left {
         if n <= at {
-            return Spanned::Lacking;
+            return None;
         }
         depth = deeper(depth, spans[2 * at + 1]);
         at = wide(spans[2 * at]);
         left -= 1;
     }
-    Spanned::To { end: at, depth }
+    Some(Spanned { end: at, depth })
 }
 
 // What a row of trees comes to, by the spans of its lines: one tree, or not.
@@ -117,7 +117,7 @@ pub fn measure(order: &[u16], spans: &mut [u16]) -> Option<usize>
             if !node_ok(code, children) {
                 return None;
             }
-            let Spanned::To { end, depth } = over_children(
+            let Some(Spanned { end, depth }) = over_children(
                 order, spans, line, first, top, run, children,
             ) else {
                 return None;

@@ -4,6 +4,7 @@
 -- form is answered by another number than 0, 2 and 10, below T 6, below W 8, and below J 20, 21 and 22. By a fault its line is all that is printed.
 --
 -- The orders that remain are those of demand 3, by the calls that the forms make (`made_by`, specs/AtTheDesk.antt). Assumes nothing.
+use Rattle.std.specs.Prelude.{Err}
 use Prim.Native.Nat.{ℕ, ◌+◌, ◌≤◌, ◌<◌}
 use mathlib.Core.Path.{◌≡◌, refl, sym, ap, ap₂, subst, ◌∙◌}
 use mathlib.Core.Bool.{Bool, true, false}
@@ -36,7 +37,6 @@ use Rattle.book_teaching.specs.Calls.{teach_of, withdraw_of}
 use Rattle.book_teaching.proofs.Conditions.{teach-refusal_leaves, withdraw-refusal_leaves}
 use Rattle.desk_line.specs.Replies.{reply}
 use Rattle.desk_input.specs.Sheets.{letter_K, letter_byte, FormCall, Handed, faulty, handed, handed_in, opening_by, opening_of, front_answer}
-use Rattle.desk_input.specs.declared.Front.TheVariants.{Fault}
 use Rattle.desk_input.specs.declared.Letter.{Letter}
 use Rattle.desk_input.specs.declared.Letter.TheVariants.{Teach, Withdraw, Judge}
 use Rattle.desk_call.specs.Asking.{ask_of, call_of}
@@ -91,7 +91,7 @@ verdict-number b t = go (least_to_fix b 1 (subtrees t))
 -- ---- faults and refusals
 
 -- By a fault: "That line is then the whole output."
-pub fault-alone : (input : List ℕ) (a : Answer) → opening_of input ≡ Fault a → desk_of input ≡ reply letter_K a 0
+pub fault-alone : (input : List ℕ) (a : Answer) → opening_of input ≡ Err a → desk_of input ≡ reply letter_K a 0
 unfolding opening_of desk_of printed_for
 fault-alone input a e = go (handed_in input) refl
   where
@@ -318,7 +318,7 @@ first-answer input = go (handed_in input) refl
     -- By what is handed in.
     go : (h : Handed) → handed_in input ≡ h → (used : ℕ) × (rest : List ℕ) × (desk_of input ≡ reply letter_K (front_answer (opening_by (handed_in input))) used ++ rest)
     go (faulty a) q =
-        let f : opening_of input ≡ Fault a = ap opening_by q in
+        let f : opening_of input ≡ Err a = ap opening_by q in
         (0, [], fault-alone input a f ∙ sym (append-nil (reply letter_K a 0)) ∙ ap (λ (h : Handed). reply letter_K (front_answer (opening_by h)) 0 ++ []) (sym q))
     go (handed k cs) q =
         (head_words, lines_for cs (opened input k cs q), first-line_printed input k cs q ∙ ap (λ (h : Handed). reply letter_K (front_answer (opening_by h)) head_words ++ lines_for cs (opened input k cs q)) (sym q))

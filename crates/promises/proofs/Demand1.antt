@@ -7,7 +7,7 @@
 -- same theorem: so `order_check::check`, `order_cuts::subtree`, `book_form::in_form`, `book_judge::judge`, `book_choose::choose`, `book_check::check`
 -- and `desk_input::opening`, which are lent nothing to write (promises_code/proofs/Lent.antt), change nothing. Of what the others leave this file
 -- speaks. Assumes nothing.
-use Rattle.std.specs.Prelude.{None, Option}
+use Rattle.std.specs.Prelude.{None, Option, Err, Result}
 use Prim.Native.Nat.{ℕ, suc, ◌-◌, ◌≤◌, ◌<◌}
 use mathlib.Core.Path.{◌≡◌, refl, sym, ap, subst, ◌∙◌}
 use mathlib.Core.Bool.{Bool, true, false}
@@ -52,8 +52,6 @@ use Rattle.desk_line.specs.Replies.{reply_room}
 use Rattle.desk_input.specs.Sheets.{Handed, faulty, handed, handed_in, opening_by, opening_of}
 use Rattle.desk_input.specs.Places.{letter_at}
 use Rattle.desk_input.specs.Whys.{WhyFront}
-use Rattle.desk_input.specs.declared.Front.{Front}
-use Rattle.desk_input.specs.declared.Front.TheVariants.{Fault}
 use Rattle.desk_input.proofs.Reasons.{opening-why, opening-only}
 use Rattle.desk_step.specs.Steps.{Stepping, stepping, idle, begun_by, begin_of, step_of}
 use Rattle.desk_step.specs.declared.Printed.{Printed}
@@ -290,7 +288,7 @@ module _ (ws os text file out : List ℕ) (k line d : ℕ) where
   one-read_file = two_outcomes
 
   -- `desk_input::opening`
-  pub one-opening : {r s : Front} → r ≡ opening_of text → s ≡ opening_of text → r ≡ s
+  pub one-opening : {r s : Result ℕ Answer} → r ≡ opening_of text → s ≡ opening_of text → r ≡ s
   one-opening = same
 
   -- `desk_step::begin`
@@ -358,12 +356,12 @@ module _ (ws os text file out : List ℕ) (k line d : ℕ) where
 -- refused (`desk_leaves`, proofs/AtTheDesk.antt); a step that prints no line leaves all, and one that does the bytes behind its line.
 module _ (ws text out : List ℕ) where
   -- `desk_step::begin`: by a fault the words of the book's slice stay.
-  pub begin_leaves : (a : Answer) → opening_of text ≡ Fault a → (begin_of text ws out).book ≡ ws
+  pub begin_leaves : (a : Answer) → opening_of text ≡ Err a → (begin_of text ws out).book ≡ ws
   unfolding opening_of begin_of begun_by when◌then◌else◌
   begin_leaves a = go (ltb (length out) reply_room) (handed_in text)
     where
       -- By the room for a line and what is handed in.
-      go : (t : Bool) (h : Handed) → opening_by h ≡ Fault a → (when t then idle ws out else begun_by (length text) h ws out).book ≡ ws
+      go : (t : Bool) (h : Handed) → opening_by h ≡ Err a → (when t then idle ws out else begun_by (length text) h ws out).book ≡ ws
       go true h e = refl
       go false (faulty b) e = refl
       go false (handed j cs) e = never cc

@@ -4,6 +4,7 @@
 --
 -- García's paper is document 000. Its r, l and p are `IsR`, `IsL` and `IsP` (order/specs/Paper.antt), said by positions and labels. A tree is in a section if one of its
 -- entries has the tree's words (`In`, book_judging/specs/Verdicts.antt). Assumes nothing.
+use Rattle.std.specs.Prelude.{Ok}
 use Prim.Native.Nat.{ℕ, suc, ◌+◌, ◌*◌, ◌-◌, ◌/◌, ◌%◌, ◌≤◌, ◌<◌}
 use mathlib.Core.Path.{◌≡◌, refl, sym, ap, subst, ◌∙◌}
 use mathlib.Core.Bool.{false}
@@ -29,7 +30,6 @@ use Rattle.form.specs.Text.{Line, digit_0, space, line_feed, code_size, lines_of
 use Rattle.form.specs.Reading.{is_digit, spelt_of, form, read_lines, children, words_of_lines, read_of}
 use Rattle.form.specs.Faults.{ChildrenBehind, greatest_level}
 use Rattle.form.specs.Writing.{write_of}
-use Rattle.form.specs.declared.reading.LineRead.TheVariants.{Node}
 use Rattle.form.proofs.Digits.{value-digits, line_read}
 use Rattle.form.proofs.LineBytes.{line-size}
 use Rattle.form.proofs.Letters.{NotFour, NotRead, decimal, code-decimal, decimal-read, code-refused, byte_refused}
@@ -134,14 +134,14 @@ levels_in_tens l most = (level-tens l most, tens_level l)
 
 -- and a level in tens is read as that level, before any code.
 pub levels_read-in_tens : (l : ℕ) (text : List ℕ) → LevelInTens l text → (c : ℕ) → c ≤ greatest_code → (rest : List ℕ)
-    → spelt_of (text ++ (code_text c ++ rest)) ≡ Node l c (length text + code_size)
+    → spelt_of (text ++ (code_text c ++ rest)) ≡ Ok (record { level = l; code = c; size = length text + code_size })
 unfolding line_text
 levels_read-in_tens l text tens c most rest =
     let x : Line = record { level = l; code = c } in
     let is : text ++ (code_text c ++ rest) ≡ line_text x ++ rest =
     ap (λ (s : List ℕ). s ++ (code_text c ++ rest)) (tens_level l text tens) ∙ sym (append_assoc (level_text l) (code_text c) rest) in
     ap spelt_of is ∙ line_read x rest (tens_most l text tens) most
-    ∙ ap (Node l c) (line-size x ∙ ap (λ (s : List ℕ). length s + code_size) (sym (tens_level l text tens)))
+    ∙ ap (λ (n : ℕ). Ok (record { level = l; code = c; size = n })) (line-size x ∙ ap (λ (s : List ℕ). length s + code_size) (sym (tens_level l text tens)))
 
 -- So it is on every line of the text that is written of an order, and, since a text is read exactly if it is the text of an order (`read-rows`), on
 -- every line that is read: each line stands in the order's text, with its level and its code in tens. The text is that of its lines (`text_of`), line i
@@ -159,7 +159,7 @@ every_line-in_tens os t o x m =
 
 -- On a line of any level four digits are read as the number that they are in tens.
 pub read-in_tens : (l a b c d : ℕ) (rest : List ℕ) → l ≤ greatest_level → a < 10 → b < 10 → c < 10 → d < 10
-    → spelt_of (level_text l ++ (space ∷ (digit_0 + a) ∷ (digit_0 + b) ∷ (digit_0 + c) ∷ (digit_0 + d) ∷ line_feed ∷ rest)) ≡ Node l (a * 1000 + b * 100 + c * 10 + d) (length (level_text l) + code_size)
+    → spelt_of (level_text l ++ (space ∷ (digit_0 + a) ∷ (digit_0 + b) ∷ (digit_0 + c) ∷ (digit_0 + d) ∷ line_feed ∷ rest)) ≡ Ok (record { level = l; code = a * 1000 + b * 100 + c * 10 + d; size = length (level_text l) + code_size })
 read-in_tens = code-decimal
 
 -- "0 0010" is ten: a form of one line is the node whose code is its digits in tens.

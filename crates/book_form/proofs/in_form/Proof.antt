@@ -46,55 +46,55 @@ shallow : (c : tie.In-Some) → (depth c).k ≤ greatest_depth
 shallow c = omega (arith, (head c).is, leb-true (get_or (words c) 0 0) greatest_k (and_right _ _ (head c).allows))
 
 -- Where k became known, from where section R starts.
-abbrev to-k : tie.In-InOrder → tie.In-Some
+abbrev to-k : tie.In-Some → tie.In-Some
 to-k c = c.before.before.before.before.before.before.before
 
 -- Where section R starts.
-abbrev tops : tie.In-InOrder → ℕ
-tops c = c.in-InOrder.tops
+abbrev tops : tie.In-Some → ℕ
+tops c = c.in-Some.tops
 
 -- The sum of the counts in section T.
-abbrev live : tie.In-InOrder → ℕ
-live c = c.in-InOrder.live
+abbrev live : tie.In-Some → ℕ
+live c = c.in-Some.live
 
 -- Section T is in order.
-at-tops : (c : tie.In-InOrder) → Ran (words (to-k c)) Taught (tops c) (live c)
-at-tops c = section-found _ _ (head (to-k c)) Taught _ _ _ refl refl refl _ c.pass.ensures.0 _ _ c.in-InOrder.is
+at-tops : (c : tie.In-Some) → Ran (words (to-k c)) Taught (tops c) (live c)
+at-tops c = section-found _ _ (head (to-k c)) Taught _ _ _ refl refl refl _ c.pass.ensures.0 _ _ c.in-Some.is
 
 -- Where section R was found, from where section L starts.
-abbrev to-tops : tie.In-InOrder-pass → tie.In-InOrder
+abbrev to-tops : tie.In-Some-pass → tie.In-Some
 to-tops c = c.before.before.before.before.before
 
 -- Section R is in order.
-at-lows : (c : tie.In-InOrder-pass) → Ran (words (to-k (to-tops c))) Tops c.in-InOrder-pass.lows c.in-InOrder-pass.field-1
+at-lows : (c : tie.In-Some-pass) → Ran (words (to-k (to-tops c))) Tops c.in-Some-pass.lows c.in-Some-pass.field-1
 at-lows c =
     let t = to-tops c in
-    section-found _ _ (head (to-k t)) Tops _ _ _ (at-tops t).next refl t.of_tops-low.ensures _ c.pass-2.ensures.0 _ _ c.in-InOrder-pass.is
+    section-found _ _ (head (to-k t)) Tops _ _ _ (at-tops t).next refl t.of_tops-low.ensures _ c.pass-2.ensures.0 _ _ c.in-Some-pass.is
 
 -- Where section L starts, from where section P starts.
-abbrev to-lows : tie.In-InOrder-pass-2 → tie.In-InOrder-pass
+abbrev to-lows : tie.In-Some-pass-2 → tie.In-Some-pass
 to-lows c = c.before.before.before.before.before
 
 -- Section L is in order.
-at-middles : (c : tie.In-InOrder-pass-2) → Ran (words (to-k (to-tops (to-lows c)))) Lows c.in-InOrder-pass-2.middles c.in-InOrder-pass-2.field-1
+at-middles : (c : tie.In-Some-pass-2) → Ran (words (to-k (to-tops (to-lows c)))) Lows c.in-Some-pass-2.middles c.in-Some-pass-2.field-1
 at-middles c =
     let l = to-lows c in
     let t = to-tops l in
-    section-found _ _ (head (to-k t)) Lows _ _ _ (at-lows l).next refl t.of_tops-low.ensures _ c.pass-3.ensures.0 _ _ c.in-InOrder-pass-2.is
+    section-found _ _ (head (to-k t)) Lows _ _ _ (at-lows l).next refl t.of_tops-low.ensures _ c.pass-3.ensures.0 _ _ c.in-Some-pass-2.is
 
 -- Where section P starts, from its end.
-abbrev to-middles : tie.In-InOrder-pass-3 → tie.In-InOrder-pass-2
+abbrev to-middles : tie.In-Some-pass-3 → tie.In-Some-pass-2
 to-middles c = c.before.before.before.before.before
 
 -- Section P is in order.
-at-end : (c : tie.In-InOrder-pass-3) → Ran (words (to-k (to-tops (to-lows (to-middles c))))) Middles c.in-InOrder-pass-3.used c.in-InOrder-pass-3.field-1
+at-end : (c : tie.In-Some-pass-3) → Ran (words (to-k (to-tops (to-lows (to-middles c))))) Middles c.in-Some-pass-3.used c.in-Some-pass-3.field-1
 at-end c =
     let m = to-middles c in
     let t = to-tops (to-lows m) in
-    section-found _ _ (head (to-k t)) Middles _ _ _ (at-middles m).next t.of_middles-middle.ensures t.of_middles-middle.ensures _ c.pass-4.ensures.0 _ _ c.in-InOrder-pass-3.is
+    section-found _ _ (head (to-k t)) Middles _ _ _ (at-middles m).next t.of_middles-middle.ensures t.of_middles-middle.ensures _ c.pass-4.ensures.0 _ _ c.in-Some-pass-3.is
 
 -- All four are.
-sections : (c : tie.In-InOrder-pass-3) → Sections (words (to-k (to-tops (to-lows (to-middles c))))) (live (to-tops (to-lows (to-middles c)))) (tops (to-tops (to-lows (to-middles c)))) (to-lows (to-middles c)).in-InOrder-pass.lows (to-middles c).in-InOrder-pass-2.middles c.in-InOrder-pass-3.used
+sections : (c : tie.In-Some-pass-3) → Sections (words (to-k (to-tops (to-lows (to-middles c))))) (live (to-tops (to-lows (to-middles c)))) (tops (to-tops (to-lows (to-middles c)))) (to-lows (to-middles c)).in-Some-pass.lows (to-middles c).in-Some-pass-2.middles c.in-Some-pass-3.used
 sections c =
     let m = to-middles c in
     let l = to-lows m in

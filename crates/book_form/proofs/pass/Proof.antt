@@ -38,16 +38,16 @@ abbrev last-key : tie.At-loop-left invariant-loop decreases-loop → List ℕ
 last-key k = take (k.loop-left.last_end - k.loop-left.last) (drop k.loop-left.last (book k))
 
 -- The loop's head, from the place where the entry is told.
-abbrev top : tie.In-Ends invariant-loop decreases-loop → tie.At-loop-left invariant-loop decreases-loop
+abbrev top : tie.In-Some invariant-loop decreases-loop → tie.At-loop-left invariant-loop decreases-loop
 top c = c.before.before.before
 
 -- The word past the entry.
-abbrev end : tie.In-Ends invariant-loop decreases-loop → ℕ
-end c = c.in-Ends.end
+abbrev end : tie.In-Some invariant-loop decreases-loop → ℕ
+end c = c.in-Some.end
 
 -- Its count.
-abbrev count : tie.In-Ends invariant-loop decreases-loop → ℕ
-count c = c.in-Ends.count
+abbrev count : tie.In-Some invariant-loop decreases-loop → ℕ
+count c = c.in-Some.count
 
 -- The words of an entry's key are even in number.
 even : (ws : List ℕ) (at end count : ℕ) → Told ws at end count →
@@ -56,11 +56,11 @@ even : (ws : List ℕ) (at end count : ℕ) → Told ws at end count →
 even ws at end count i = simp (length-take, length-drop) (omega (arith, i.ends, i.fits))
 
 -- The entry is there.
-there : (c : tie.In-Ends invariant-loop decreases-loop) → Told (book (top c)) (top c).loop-left.at (end c) (count c)
-there c = told _ _ _ c.whole_at.ensures _ _ c.in-Ends.is
+there : (c : tie.In-Some invariant-loop decreases-loop) → Told (book (top c)) (top c).loop-left.at (end c) (count c)
+there c = told _ _ _ c.whole_at.ensures _ _ c.in-Some.is
 
 -- Its count is a word.
-small : (c : tie.In-Ends invariant-loop decreases-loop) → count c ≤ greatest_count
+small : (c : tie.In-Some invariant-loop decreases-loop) → count c ≤ greatest_count
 small c = omega (arith, (there c).counts, (top c).shared_slice_known-1.given ((top c).loop-left.at + 1))
 
 loop-holds : tie.Need-loop-left-init invariant-loop decreases-loop

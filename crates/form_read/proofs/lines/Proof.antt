@@ -15,14 +15,14 @@ abbrev decreases-loop : tie.decreases-loop-at
 decreases-loop text words₀ latest₀ at₀ n₀ greatest₀ words latest at n greatest = length text - at
 
 -- There is room for the line that was read, and for its level.
-room : (c : tie.In-Node invariant-loop decreases-loop) → (c.loop-at.n < most_nodes) × (c.in-Node.level ≤ greatest_depth)
-room c = room_for c.loop-at.invariant c.line_at-read.ensures.0 c.in-Node.is
+room : (c : tie.In-Ok invariant-loop decreases-loop) → (c.loop-at.n < most_nodes) × (c.in-Ok.level ≤ greatest_depth)
+room c = room_for c.loop-at.invariant c.line_at-read.ensures.0 c.in-Ok.is
 
 -- The line takes some bytes, and no more than there are.
-bytes : (c : tie.In-Node invariant-loop decreases-loop) →
-    let size = c.in-Node.size in
+bytes : (c : tie.In-Ok invariant-loop decreases-loop) →
+    let size = c.in-Ok.size in
     (0 < size) × (c.loop-at.at + size ≤ length c.args.text.now)
-bytes c = bytes_of c.loop-at.invariant c.line_at-read.ensures.0 c.in-Node.is
+bytes c = bytes_of c.loop-at.invariant c.line_at-read.ensures.0 c.in-Ok.is
 
 returns : tie.Need-returns-then-text-eq0 invariant-loop decreases-loop
 returns c = empty-text _ _ _ c.if-text-eq0.true c.refused.ensures
@@ -61,7 +61,7 @@ loop-less : tie.Need-loop-at-smaller invariant-loop decreases-loop
 loop-less c = omega (arith, bytes c.before)
 
 loop-again : tie.Need-loop-at-preserved invariant-loop decreases-loop
-loop-again c = turn c.loop-at.invariant c.line_at-read.ensures.0 c.in-Node.is _ c.line_at-read.ensures.1
+loop-again c = turn c.loop-at.invariant c.line_at-read.ensures.0 c.in-Ok.is _ c.line_at-read.ensures.1
 
 returns-3 : tie.Need-returns invariant-loop decreases-loop
 returns-3 c = all_read c.loop-at.invariant _ c.loop-at-test.false c.wrote.ensures

@@ -88,7 +88,7 @@ loop-less-2 c = omega (arith, c.loop-at-test.true)
 loop-again-2 : tie.Need-loop-at-preserved invariant-loop decreases-loop
 loop-again-2 c =
     let l = c.loop-at in
-    stacked_next _ _ _ _ _ _ _ l.invariant c.loop-at-test.true _ _ _ refl refl refl _ _ (sym c.node_ok.ensures ∙ c.if-not-node_ok.false) (omega (arith, c.if-children-eq0.false)) (sym c.in-Left.is ∙ c.pop.ensures l.invariant.row l.invariant.stands)
+    stacked_next _ _ _ _ _ _ _ l.invariant c.loop-at-test.true _ _ _ refl refl refl _ _ (sym c.node_ok.ensures ∙ c.if-not-node_ok.false) (omega (arith, c.if-children-eq0.false)) (sym c.in-Some.is ∙ c.pop.ensures l.invariant.row l.invariant.stands)
 
 returns-3 : tie.Need-returns-then-many-ne1 invariant-loop decreases-loop
 returns-3 c =

@@ -55,12 +55,12 @@ returns-3 c =
     (m.0, (m.1, l.invariant.0.kept))
 
 -- What the node comes to is small.
-small : (c : tie.In-To invariant-loop decreases-loop) →
+small : (c : tie.In-Some invariant-loop decreases-loop) →
     let n = length c.args.order.now / 2 in
-    (c.in-To.end ≤ n) × (c.in-To.depth ≤ n)
+    (c.in-Some.end ≤ n) × (c.in-Some.depth ≤ n)
 small c =
     let l = c.loop-line in
-    back_small _ _ _ _ _ _ _ l.invariant.0 (sym c.in-To.is ∙ c.over_children.ensures)
+    back_small _ _ _ _ _ _ _ l.invariant.0 (sym c.in-Some.is ∙ c.over_children.ensures)
 
 put-span-requires-2 : tie.Need-put_span-requires-else-children-eq0 invariant-loop decreases-loop
 put-span-requires-2 c κs =
@@ -85,7 +85,7 @@ loop-again c =
     ))
     (λ w.
     let e = sym w.node_ok-else-children-eq0.ensures ∙ w.if-not-node_ok-2.false in
-    let g = sym w.in-To.is ∙ w.over_children.ensures in
+    let g = sym w.in-Some.is ∙ w.over_children.ensures in
     back_equal _ _ _ _ _ _ _ _ _ _ _ (w.spans-is ∙ w.put_span-else-children-eq0.ensures) w.first-is w.top-is w.run-is (
       back_next _ _ _ _ l.invariant.0 _ _ _ more refl refl refl _ _ e g,
       front-node _ _ _ _ l.invariant.0 _ _ _ more refl refl refl _ _ _ _ _ l.invariant.1 e (omega (arith, w.if-children-eq0.false)) g,

@@ -1,12 +1,12 @@
 -- `order_spans::over_children` meets its contract: children that are all leaves are known, and else before each turn the spans from `at` on are those of the trees
 -- that are left. Assumes nothing.
+use Rattle.std.specs.Prelude.{Some}
 use Prim.Native.Nat.{ℕ, ◌+◌, ◌*◌, ◌/◌, ◌≤◌}
 use mathlib.Core.Path.{◌≡◌, refl, sym, ap, ◌∙◌}
 use native.Mathlib.Omega.{arith}
 use lib.ListN.{length}
 use borrow.Author.Rules.{rules}
 use Rattle.figures.specs.Limits.{most_words}
-use Rattle.order.specs.declared.Spanned.TheVariants.{To}
 use Rattle.order.proofs.Spanning.{Over, over-next, over-lacking, over-all, front-leaves, first-lacking, first-over}
 use Rattle.order_spans.proofs.over_children.Statement.{statement}
 use Rattle.order_spans.proofs.over_children.Tie as tie
@@ -21,7 +21,7 @@ decreases-loop order spans from first top run children n at₀ depth₀ left₀ 
 returns : tie.Need-returns-then-children-run invariant-loop decreases-loop
 returns c =
     let p = c.requires in
-    sym (front-leaves _ _ _ _ _ _ _ p.1.1 p.0.2 c.if-children-run.true ∙ ap (λ (n : ℕ). To (c.args.from + n) 1) (sym c.wide.ensures))
+    sym (front-leaves _ _ _ _ _ _ _ p.1.1 p.0.2 c.if-children-run.true ∙ ap (λ (n : ℕ). Some (record { end = c.args.from + n; depth = 1 })) (sym c.wide.ensures))
 
 returns-2 : tie.Need-returns-then-n-from invariant-loop decreases-loop
 returns-2 c =

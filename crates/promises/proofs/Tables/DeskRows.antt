@@ -1,5 +1,6 @@
 -- The run that 01 prints for the desk, byte by byte, the lines of its opening and of its faults for any input, and rows for these. What is small is
 -- computed. The desk's slice of 8,192 words is not: a call on a slice goes by the book that is laid in it, and these books are small. Assumes nothing.
+use Rattle.std.specs.Prelude.{Err}
 use Prim.Native.Nat.{ℕ, suc, ◌≤◌, ◌<◌}
 use mathlib.Core.Path.{◌≡◌, refl, sym, ap, ap₂, ◌∙◌}
 use mathlib.Core.Bool.{true}
@@ -36,7 +37,6 @@ use Rattle.book_teaching.specs.Conditions.{BookAndOrder}
 use Rattle.book_teaching.proofs.Calling.{teach-does, withdraw-does}
 use Rattle.desk_line.specs.Replies.{reply}
 use Rattle.desk_input.specs.Sheets.{letter_K, letter_byte, FormCall, faulty, handed, handed_in, opening_of}
-use Rattle.desk_input.specs.declared.Front.TheVariants.{Fault}
 use Rattle.desk_input.specs.declared.Letter.{Letter}
 use Rattle.desk_input.specs.declared.Letter.TheVariants.{Teach, Withdraw, Judge}
 use Rattle.desk_call.specs.Asking.{ask_of, call_of}
@@ -301,7 +301,7 @@ no_bytes-printed =
 -- ---- the three faults
 
 -- What is handed in at fault is the fault of the opening.
-front-fault : (input : List ℕ) (a : Answer) → handed_in input ≡ faulty a → opening_of input ≡ Fault a
+front-fault : (input : List ℕ) (a : Answer) → handed_in input ≡ faulty a → opening_of input ≡ Err a
 unfolding opening_of
 front-fault input a e = rw e
 
@@ -334,11 +334,11 @@ pub too_long : (input : List ℕ) → most_input < length input → desk_of inpu
 too_long input h = let a : Answer = answered too_large in fault-alone input a (front-fault input a (long-faulty input h)) ∙ faults_said.0
 
 -- "a first line otherwise spelt, no input, or k out of range, "K 3 0 0""
-otherwise-printed : (input : List ℕ) → opening_of input ≡ Fault (answered k_outside) → desk_of input ≡ says-3
+otherwise-printed : (input : List ℕ) → opening_of input ≡ Err (answered k_outside) → desk_of input ≡ says-3
 otherwise-printed input e = fault-alone input (answered k_outside) e ∙ faults_said.1
 
 -- "bytes between line 1 and the first letter, or bytes and no letter, "K 10 2 0""
-stray_printed : (input : List ℕ) → opening_of input ≡ Fault (record { number = no_form; line = 2 }) → desk_of input ≡ says-10
+stray_printed : (input : List ℕ) → opening_of input ≡ Err (record { number = no_form; line = 2 }) → desk_of input ≡ says-10
 stray_printed input e = fault-alone input (record { number = no_form; line = 2 }) e ∙ faults_said.2
 
 -- What stands behind the first 32,769 bytes does not matter.
