@@ -57,15 +57,15 @@ next-of : (n greatest : ℕ) (s : List ℕ) (r : Result Node Fault) → n < most
     Ok (record { level = level; code = code; size = size })) Err)
 unfolding by_line line_of when◌then◌else◌
 next-of n greatest s (Err f) h q = faulty h (λ before m. rw q refl)
-next-of n greatest s (Ok node) h q = let record { level = level; code = code; size = size } = node in go (eqb code 0) (follows greatest level) (ltb greatest_depth level) refl refl refl
+next-of n greatest s (Ok node) h q = go (eqb node.code 0) (follows greatest node.level) (ltb greatest_depth node.level) refl refl refl
   where
-    go : (z a d : Bool) → eqb code 0 ≡ z → follows greatest level ≡ a → ltb greatest_depth level ≡ d
-        → Next n greatest s (when z then Err NoOption else when not a then Err LevelNotAllowed else when d then Err TooDeep else Ok (record { level = level; code = code; size = size }))
+    go : (z a d : Bool) → eqb node.code 0 ≡ z → follows greatest node.level ≡ a → ltb greatest_depth node.level ≡ d
+        → Next n greatest s (when z then Err NoOption else when not a then Err LevelNotAllowed else when d then Err TooDeep else Ok node)
     go true a d p₀ p₁ p₂ = faulty h (λ before m. rw (q, p₀) refl)
-    go false false d p₀ p₁ p₂ = faulty h (λ before m. rw (q, p₀, m level, p₁) refl)
-    go false true true p₀ p₁ p₂ = faulty h (λ before m. rw (q, p₀, m level, p₁, p₂) refl)
+    go false false d p₀ p₁ p₂ = faulty h (λ before m. rw (q, p₀, m node.level, p₁) refl)
+    go false true true p₀ p₁ p₂ = faulty h (λ before m. rw (q, p₀, m node.level, p₁, p₂) refl)
     go false true false p₀ p₁ p₂ =
-        let o : code ≡ 0 → ⊥ = eqb-false _ _ p₀ in
+        let o : node.code ≡ 0 → ⊥ = eqb-false _ _ p₀ in
         record { room = h; spelt = q; option = omega arith; may = p₁; shallow = ltb-false _ _ p₂ }
 
 -- `Next` holds of any bytes.
