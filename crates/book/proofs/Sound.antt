@@ -43,7 +43,7 @@ module _ (least greatest : ℕ) (e : Entry) where
   entry-sound f =
       let c = and_left (within least_count greatest_count e.count) _ f in
       record {
-        Some = leb-true _ _ (and_left _ _ c);
+        some = leb-true _ _ (and_left _ _ c);
         few = leb-true _ _ (and_right _ _ c);
         tree = fits-tree least greatest e.key (and_right _ _ f);
       }

@@ -19,7 +19,7 @@ use Rattle.figures.specs.Numbers.{done, no_form}
 use Rattle.figures.specs.Answers.{refused_at, wrote}
 use Rattle.figures.specs.declared.Written.{Written}
 use Rattle.form.specs.Text.{code_size, Line, level_text, line_text}
-use Rattle.form.specs.Reading.{fault_number, read_number, spelt_of, by_line, allowed, siblings, line_of, Form, fault, form, read_lines, form_of, children, words_of_lines}
+use Rattle.form.specs.Reading.{fault_number, spelt_of, by_line, allowed, siblings, line_of, Form, fault, form, read_lines, form_of, children, words_of_lines}
 use Rattle.form.specs.Turns.{follows, next_of, count_place, Parent, may_adopt, adopted, Parents, under_parent, counted_in, Got}
 use Rattle.form.specs.declared.reading.Fault.{Fault}
 use Rattle.form.specs.declared.reading.Fault.TheVariants.{PastLast, NoOption, LevelNotAllowed, TooDeep, NinthChild}
@@ -302,11 +302,11 @@ module _ {text words latest : List ℕ} {at n greatest : ℕ} (s : State text wo
       go (Err f) e = tt
 
   -- A line that is refused refuses the text, as the calls answered.
-  pub bad_line : (r : Written) (w : List ℕ) {x : Result Node Fault} {f : Fault} (k : ℕ) → at < length text → x ≡ under_parent words latest (next_of n greatest (drop at text)) → x ≡ Err f → r ≡ refused_at k (n + 1) → k ≡ read_number x → Got (form_of text) r w
+  pub bad_line : (r : Written) (w : List ℕ) {x : Result Node Fault} {f : Fault} (k : ℕ) → at < length text → x ≡ under_parent words latest (next_of n greatest (drop at text)) → x ≡ Err f → r ≡ refused_at k (n + 1) → k ≡ fault_number f → Got (form_of text) r w
   bad_line r w {x} {f} k h e q a b = go (unadopted_seen words latest (next_of n greatest (drop at text)) (sym e ∙ q))
     where
       answer : r ≡ refused_at (fault_number f) (n + 1)
-      answer = a ∙ ap (λ (m : ℕ). refused_at m (n + 1)) (b ∙ ap read_number q)
+      answer = a ∙ ap (λ (m : ℕ). refused_at m (n + 1)) b
 
       go : Unadopted words latest (next_of n greatest (drop at text)) f → Got (form_of text) r w
       go (handed u) = next-refused r w f (subst (Next n greatest (drop at text)) u (next-is n greatest (drop at text))) h answer
