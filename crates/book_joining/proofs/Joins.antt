@@ -14,11 +14,10 @@ use Rattle.figures.specs.Limits.{head_words, most_book_words, greatest_count}
 use Rattle.figures.specs.Numbers.{done, book_size, not_in_form, no_room, too_many, not_agreeing, other_k}
 use Rattle.figures.specs.Answers.{answered}
 use Rattle.book.specs.Book.{Book, used, live, lay}
-use Rattle.book.specs.Decoding.{decode, book_form_of, on_book}
+use Rattle.book.specs.Decoding.{decode, book_form_of, on_book, Refused}
 use Rattle.book.specs.Sound.{IsBook, WhyForm, shorter, longer, formless, book}
 use Rattle.book.specs.Taught.{book_of, agreeing}
 use Rattle.book.specs.Opening.{Outcome, outcome, leave, write_book, open_of}
-use Rattle.book.specs.declared.BookForm.TheVariants.{Refused}
 use Rattle.book.proofs.Meaning.{lay-long, used-fits}
 use Rattle.book.proofs.Holding.{refused-book}
 use Rattle.book.proofs.Openings.{opened-book, number_is, words_are}

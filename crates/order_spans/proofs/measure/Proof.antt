@@ -43,7 +43,7 @@ returns-2 c =
     let m = no_tree _ l.spans (back_unsound _ _ _ _ l.invariant.0 _ _ _ more refl refl refl e) in
     (m.0, (m.1, l.invariant.0.kept))
 
-enum_told : tie.Need-enum_told-1 invariant-loop decreases-loop
+enum_told : tie.Need-enum_told_at-1 invariant-loop decreases-loop
 enum_told c = search rules
 
 returns-3 : tie.Need-returns-in_default invariant-loop decreases-loop
@@ -57,7 +57,7 @@ returns-3 c =
 -- What the node comes to is small.
 small : (c : tie.In-Some invariant-loop decreases-loop) →
     let n = length c.args.order.now / 2 in
-    (c.in-Some.end ≤ n) × (c.in-Some.depth ≤ n)
+    (c.in-Some.field-0.end ≤ n) × (c.in-Some.field-0.depth ≤ n)
 small c =
     let l = c.loop-line in
     back_small _ _ _ _ _ _ _ l.invariant.0 (sym c.in-Some.is ∙ c.over_children.ensures)
