@@ -59,7 +59,12 @@ pub fn size(place: i64) -> usize
 pub fn standing(a: &[u16], b: &[u16]) -> Ordering
     ensures { result ≡ compare_of a.now b.now }
 {
-    a.cmp(&b)
+    for (x, y) in a.iter().zip(b) {
+        if x != y {
+            return x.cmp(y);
+        }
+    }
+    a.len().cmp(&b.len())
 }
 
 // The first word, or 0 where there is none.
