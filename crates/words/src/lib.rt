@@ -13,20 +13,16 @@ use std::cmp::Ordering;
 pub fn compare(a: &[u16], b: &[u16]) -> i64
     ensures { result ≡ signed_of a.now b.now }
 {
-    for (i, x) in a.iter().enumerate() {
-        let Some(y) = b.get(i) else {
-            return above(i);
-        };
-        match x.cmp(y) {
-            Ordering::Less => return below(i),
-            Ordering::Equal => {}
-            Ordering::Greater => return above(i),
+    for (i, (x, y)) in a.iter().zip(b).enumerate() {
+        if x != y {
+            return if x < y { below(i) } else { above(i) };
         }
     }
-    if a.len() < b.len() {
-        return below(a.len());
+    match a.len().cmp(&b.len()) {
+        Ordering::Less => below(a.len()),
+        Ordering::Equal => 0,
+        Ordering::Greater => above(b.len()),
     }
-    0
 }
 
 // The signed place of word i, words counted from 0, where the first slice is higher.
