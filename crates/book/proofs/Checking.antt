@@ -7,10 +7,9 @@ use Rattle.figures.specs.Numbers.{done, not_agreeing}
 use Rattle.figures.specs.Answers.{answered}
 use Rattle.figures.specs.declared.Answer.{Answer}
 use Rattle.book.specs.Book.{Book}
-use Rattle.book.specs.Decoding.{book_form_of}
+use Rattle.book.specs.Decoding.{book_form_of, Refused}
 use Rattle.book.specs.Sound.{IsBook}
 use Rattle.book.specs.Taught.{agreeing}
-use Rattle.book.specs.declared.BookForm.TheVariants.{Refused}
 use Rattle.book.proofs.Holding.{refused-book}
 use Rattle.book.proofs.Sound.{on-any, by_book_lem}
 use Rattle.book.specs.Checking.{agree_of}

@@ -16,12 +16,11 @@ use Rattle.figures.specs.Numbers.{book_size, not_in_form}
 use Rattle.figures.specs.declared.depths.Depth.{Depth}
 use Rattle.section.specs.Entries.{entries, span, total}
 use Rattle.book.specs.Book.{Book, section_of, shallowest, deepest}
-use Rattle.book.specs.Decoding.{tops_at, lows_at, middles_at, end_at, book_in, formed, decode, by_book, sized, on_book, places_of, start_of, slot_of, book_form_of}
+use Rattle.book.specs.Decoding.{tops_at, lows_at, middles_at, end_at, book_in, formed, decode, by_book, sized, on_book, places_of, start_of, slot_of, book_form_of, Refused, InForm}
 use Rattle.book.specs.Passes.{stretch, stretch_of, head_of}
 use Rattle.book.specs.declared.Section.{Section}
 use Rattle.book.specs.declared.Section.TheVariants.{Taught, Tops, Lows, Middles}
 use Rattle.book.specs.declared.Places.{Places}
-use Rattle.book.specs.declared.BookForm.TheVariants.{Refused, InForm}
 use Rattle.book.proofs.Passing.{each_all, one-fails, places_in, run_of, passes, section-in}
 use Rattle.book.proofs.Meaning.{formed-passes, formed-passed, is-places}
 

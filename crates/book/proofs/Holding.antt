@@ -16,12 +16,11 @@ use Rattle.words.proofs.Tests.{and_left, and_right, and_both, never}
 use Rattle.figures.specs.Limits.{head_words, least_k, greatest_k}
 use Rattle.section.specs.Entries.{Entry, span, Below, Sorted}
 use Rattle.book.specs.Book.{Book, section_of, used, shallowest, deepest, entry_in_form, ascending_from, section_in_form}
-use Rattle.book.specs.Decoding.{lows_at, middles_at, end_at, book_in, formed, decode, sized, on_book, places_of, start_of, slot_of, book_form_of}
+use Rattle.book.specs.Decoding.{lows_at, middles_at, end_at, book_in, formed, decode, sized, on_book, places_of, start_of, slot_of, book_form_of, Refused, InForm}
 use Rattle.book.specs.Holding.{Holds}
 use Rattle.book.specs.declared.Section.{Section}
 use Rattle.book.specs.declared.Section.TheVariants.{Taught, Tops, Lows, Middles}
 use Rattle.book.specs.declared.Places.{Places}
-use Rattle.book.specs.declared.BookForm.TheVariants.{Refused, InForm}
 use Rattle.book.proofs.Passing.{places_in, section-in}
 use Rattle.book.proofs.Meaning.{form-proper, formed-passed, is-places, is-used, is-laid, is-formed, used-fits}
 use Rattle.book.proofs.Heads.{on-unsized, on-unformed, form-unsized, form-unformed, form-formed, section-end, end_of}

@@ -22,14 +22,12 @@ use Rattle.order.proofs.Orders.{size}
 use Rattle.order.proofs.Fitting.{fits-tree, tree-fits, fits-some}
 use Rattle.section.specs.Entries.{Entry, entry_words, total, Below, Sorted}
 use Rattle.book.specs.Book.{Book, section_of, shallowest, deepest, used, live, encode, lay, entry_in_form, ascending_from, section_in_form, in_form}
-use Rattle.book.specs.Decoding.{book_in, formed, decode, by_book, on_book, places_of, book_form_of}
+use Rattle.book.specs.Decoding.{book_in, formed, decode, by_book, on_book, places_of, book_form_of, BookForm, Refused, InForm}
 use Rattle.book.specs.Sound.{SoundEntry, SoundSection, SoundBook, IsBook, WhyForm, shorter, longer, formless, book}
 use Rattle.book.specs.Holding.{Holds}
 use Rattle.book.specs.declared.Places.{Places}
 use Rattle.book.specs.declared.Section.{Section}
 use Rattle.book.specs.declared.Section.TheVariants.{Taught, Tops, Lows, Middles}
-use Rattle.book.specs.declared.BookForm.{BookForm}
-use Rattle.book.specs.declared.BookForm.TheVariants.{Refused, InForm}
 use Rattle.book.proofs.Meaning.{form-proper, proper_form, decoded, laid-decoded, one-book, no_book, used_is, lay-long}
 use Rattle.book.proofs.Heads.{too_short, too_long, is-sized, form-unsized, form-unformed}
 use Rattle.book.proofs.Holding.{holds, ascending_sorted, ascending_entry, sorted-ascending, refused-book}
@@ -43,7 +41,7 @@ module _ (least greatest : ℕ) (e : Entry) where
   entry-sound f =
       let c = and_left (within least_count greatest_count e.count) _ f in
       record {
-        Some = leb-true _ _ (and_left _ _ c);
+        some = leb-true _ _ (and_left _ _ c);
         few = leb-true _ _ (and_right _ _ c);
         tree = fits-tree least greatest e.key (and_right _ _ f);
       }

@@ -1,18 +1,18 @@
 -- The book that words hold, whatever they are; which words are a book in form, and where its sections start. Assumes nothing: these are
 -- definitions.
-use Rattle.std.specs.Prelude.{ℕ, ◌+◌, Bool, not, List, length, get_or, drop, Option, None, Some}
+use Rattle.std.specs.Prelude.{ℕ, ◌+◌, Bool, not, List, length, get_or, drop, Option, None, Some, Result, Ok, Err}
 use Rattle.words.specs.Base.{◌and◌, when◌then◌else◌, within, same_words}
 use Rattle.figures.specs.Limits.{head_words, k_word, taught_word, tops_word, lows_word, middles_word, most_book_words}
 use Rattle.figures.specs.Numbers.{done, book_size, not_in_form}
 use Rattle.figures.specs.Answers.{answered}
+use Rattle.figures.specs.Refusals.{refusal_number}
+use Rattle.figures.specs.declared.refusals.Refusal.{Refusal}
 use Rattle.figures.specs.declared.Answer.{Answer}
 use Rattle.section.specs.Entries.{section_words, entries, span}
 use Rattle.book.specs.Book.{Book, lay, in_form, used}
 use Rattle.book.specs.declared.Section.{Section}
 use Rattle.book.specs.declared.Section.TheVariants.{Taught, Tops, Lows, Middles}
 use Rattle.book.specs.declared.Places.{Places}
-use Rattle.book.specs.declared.BookForm.{BookForm}
-use Rattle.book.specs.declared.BookForm.TheVariants.{Refused, InForm}
 
 -- The word past the entries that start at `from`, as many as word `slot` of the head says.
 abbrev pub past_entries : ℕ → ℕ → List ℕ → ℕ
@@ -91,6 +91,21 @@ slot_of Lows = lows_word
 slot_of Middles = middles_word
 
 -- What a look at a book's form gives: the number of its refusal, or where its sections start.
+pub data BookForm : Type 0 where
+  Refused : ℕ → BookForm
+  InForm : Places → BookForm
+
+-- What a look gives, as it is told: a refusal by its number.
+abbrev pub looked : Result Places Refusal → BookForm
+looked (Err r) = Refused (refusal_number r)
+looked (Ok p) = InForm p
+
+-- What a look at a slice that has the size of a book gives, as it is told: there are places, or it is not in form.
+abbrev pub looked_at : Option Places → BookForm
+looked_at None = Refused not_in_form
+looked_at (Some p) = InForm p
+
+-- What the words are as a book.
 unfoldable pub book_form_of : List ℕ → BookForm
 book_form_of ws = on_book Refused ws (λ b. InForm (places_of b))
 

@@ -8,9 +8,7 @@ use Rattle.figures.specs.Numbers.{book_size, not_in_form}
 use Rattle.section.specs.Entries.{Entry}
 use Rattle.order.specs.Fits.{Fits}
 use Rattle.book.specs.Book.{Book, live, lay}
-use Rattle.book.specs.Decoding.{places_of}
-use Rattle.book.specs.declared.BookForm.{BookForm}
-use Rattle.book.specs.declared.BookForm.TheVariants.{Refused, InForm}
+use Rattle.book.specs.Decoding.{places_of, BookForm, Refused, InForm}
 
 -- "count (1 to 65,535), the tree's words", "every tree well formed and within limits", of a depth between the two.
 pub record SoundEntry (least greatest : ℕ) (e : Entry) : Type 0 where

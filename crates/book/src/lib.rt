@@ -29,13 +29,6 @@ pub struct Places {
     pub used: usize,
 }
 
-// What a look at a book's form gives.
-#[derive(Clone, Copy)]
-pub enum BookForm {
-    Refused(u16),
-    InForm(Places),
-}
-
 // An entry all of whose words are there: the word past it, and its count.
 #[derive(Clone, Copy)]
 pub struct Whole {

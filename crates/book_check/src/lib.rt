@@ -11,7 +11,7 @@ ghost use Rattle.book.specs.Taught.{agreeing};
 ghost use Rattle.book.specs.Checking.{agree_of};
 ghost use Rattle.book_check.specs.Agreeing.{small_book, agreeing_in, Roomy};
 
-use book::{BookForm, Places, Section};
+use book::{Places, Section};
 use figures::{Answer, answered, limits, numbers};
 
 // No section has more entries: the shortest entry, that of a single node, takes four words.
@@ -142,7 +142,7 @@ pub fn check(book: &[u16]) -> Answer
     ensures { result ≡ agree_of book.now }
 {
     match book_form::in_form(book) {
-        BookForm::Refused(number) => answered(number),
-        BookForm::InForm(places) => check_sections(book, places),
+        Err(refusal) => answered(refusal.number()),
+        Ok(places) => check_sections(book, places),
     }
 }

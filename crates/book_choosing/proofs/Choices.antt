@@ -20,9 +20,8 @@ use Rattle.order.specs.Causes.{Cause}
 use Rattle.order.proofs.Fitting.{order-read}
 use Rattle.order.proofs.Causes.{cause_refuses}
 use Rattle.book.specs.Book.{Book}
-use Rattle.book.specs.Decoding.{book_in, book_form_of}
+use Rattle.book.specs.Decoding.{book_in, book_form_of, Refused}
 use Rattle.book.specs.Sound.{IsBook}
-use Rattle.book.specs.declared.BookForm.TheVariants.{Refused}
 use Rattle.book.proofs.Holding.{refused-book}
 use Rattle.book.proofs.Sound.{why-only as form-only, on-any, head_says}
 use Rattle.book_judging.specs.Judging.{verdict, judge_of}

@@ -9,7 +9,7 @@ ghost use Rattle.book.specs.Holding.{Holds};
 ghost use Rattle.book.specs.Opening.{outcome};
 ghost use Rattle.book_filing.specs.Files.{mark, version, front_bytes, write_file_of, is_marked, read_rest_of, stored_number, read_file_of};
 
-use book::{BookForm, Places};
+use book::Places;
 use figures::{Answer, Written, answered, limits, numbers, wrote};
 
 // How many bytes the mark has.
@@ -95,7 +95,7 @@ fn stored_number(words: &[u16], places: Places) -> u16
 fn read_words(words: &[u16], book: &mut [u16]) -> Answer
     ensures { outcome result book.new ≡ read_rest_of (bytes_of words.now) book.old }
 {
-    let BookForm::InForm(places) = book_form::in_form(words) else {
+    let Ok(places) = book_form::in_form(words) else {
         return answered(numbers::NO_STORED_BOOK);
     };
     let number = stored_number(words, places);

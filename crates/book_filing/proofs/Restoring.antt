@@ -14,12 +14,11 @@ use Rattle.figures.specs.Limits.{most_book_words}
 use Rattle.figures.specs.Numbers.{done, no_room, not_agreeing, no_stored_book}
 use Rattle.figures.specs.Answers.{answered}
 use Rattle.book.specs.Book.{Book, used, encode, lay}
-use Rattle.book.specs.Decoding.{book_in, by_book, places_of, book_form_of, sized}
+use Rattle.book.specs.Decoding.{book_in, by_book, places_of, book_form_of, sized, Refused, InForm}
 use Rattle.book.specs.Opening.{outcome, leave, write_book, Outcome}
 use Rattle.book.specs.Sound.{book}
 use Rattle.book.specs.Taught.{agreeing}
 use Rattle.book.specs.declared.Places.{Places}
-use Rattle.book.specs.declared.BookForm.TheVariants.{Refused, InForm}
 use Rattle.book.proofs.Holding.{holds}
 use Rattle.book.proofs.Sound.{encode-length, held_book, why-only}
 use Rattle.book.proofs.Openings.{no_line}

@@ -19,10 +19,9 @@ use Rattle.octets.proofs.Bytes.{bytes-long}
 use Rattle.order.specs.Answers.{writing, refuse, write, Writing}
 use Rattle.order.proofs.Writing.{write-line, write-count}
 use Rattle.book.specs.Book.{Book, used, encode, lay}
-use Rattle.book.specs.Decoding.{book_form_of}
+use Rattle.book.specs.Decoding.{book_form_of, Refused}
 use Rattle.book.specs.Sound.{IsBook, WhyForm, shorter, longer, formless, book}
 use Rattle.book.specs.Taught.{agreeing}
-use Rattle.book.specs.declared.BookForm.TheVariants.{Refused}
 use Rattle.book.proofs.Meaning.{used-fits}
 use Rattle.book.proofs.Holding.{refused-book}
 use Rattle.book.proofs.Sound.{on-any, why-is, head_says, encode-length, by_book_lem}

@@ -2,13 +2,13 @@
 // inner function's `requires`.
 #![tactic(auto)]
 
-ghost use Rattle.std.specs.Prelude.{◌≡◌, ◌≤◌, length, drop};
+ghost use Rattle.std.specs.Prelude.{true, ◌≡◌, ◌≤◌, length, drop};
 ghost use Rattle.figures.specs.Limits.{most_nodes, greatest_depth, head_words};
-ghost use Rattle.book.specs.Decoding.{book_form_of};
+ghost use Rattle.book.specs.Decoding.{sized, looked, looked_at, book_form_of};
 ghost use Rattle.book.specs.Passes.{whole_at, stretch_of, zeros, head_of};
 
-use book::{BookForm, Places, Stretch, Whole, is_book_size};
-use figures::{Depth, limits, numbers};
+use book::{Places, Stretch, Whole, is_book_size};
+use figures::{Depth, Refusal, limits};
 
 // The entry at word `at`, if all its words are there.
 fn whole_at(book: &[u16], at: usize) -> Option<Whole>
@@ -104,61 +104,40 @@ fn head_right(book: &[u16], live: usize, used: usize) -> bool
     zeros_from(book, used)
 }
 
-// Whether the words are a book in form, in one pass over them, and where its sections start: 4, 5, or the places.
-pub fn in_form(book: &[u16]) -> BookForm
-    ensures { result ≡ book_form_of book.now }
+// Where the sections of a book start, if words of its size are one in form: a pass over each section, and a look at the head.
+fn sections(book: &[u16]) -> Option<Places>
+    requires { sized book.now ≡ true }
+    ensures { looked_at result ≡ book_form_of book.now }
 {
-    if !is_book_size(book.len()) {
-        return BookForm::Refused(numbers::BOOK_SIZE);
-    }
-    let Some(k) = Depth::new(book[limits::K_WORD]) else {
-        return BookForm::Refused(numbers::NOT_IN_FORM);
-    };
+    let k = Depth::new(book[limits::K_WORD])?;
     let low = k.of_tops();
     let middle = k.of_middles();
     let mut stack = [0u16; limits::MOST_NODES];
-    let Some(Stretch {
-        end: tops,
-        sum: live,
-    }) = pass(
-        book,
-        limits::HEAD_WORDS,
-        book[limits::TAUGHT_WORD],
-        0,
-        limits::GREATEST_DEPTH,
-        &mut stack,
-    ) else {
-        return BookForm::Refused(numbers::NOT_IN_FORM);
-    };
-    let Some(Stretch { end: lows, sum: _ }) = pass(book, tops, book[limits::TOPS_WORD], 0, low, &mut stack)
-    else {
-        return BookForm::Refused(numbers::NOT_IN_FORM);
-    };
-    let Some(Stretch {
-        end: middles,
-        sum: _,
-    }) = pass(book, lows, book[limits::LOWS_WORD], 0, low, &mut stack)
-    else {
-        return BookForm::Refused(numbers::NOT_IN_FORM);
-    };
-    let Some(Stretch { end: used, sum: _ }) = pass(
-        book,
-        middles,
-        book[limits::MIDDLES_WORD],
-        middle,
-        middle,
-        &mut stack,
-    ) else {
-        return BookForm::Refused(numbers::NOT_IN_FORM);
-    };
-    if !head_right(book, live, used) {
-        return BookForm::Refused(numbers::NOT_IN_FORM);
+    let many = book[limits::TAUGHT_WORD];
+    let taught = pass(book, limits::HEAD_WORDS, many, 0, limits::GREATEST_DEPTH, &mut stack)?;
+    let tops = taught.end;
+    let lows = pass(book, tops, book[limits::TOPS_WORD], 0, low, &mut stack)?.end;
+    let middles = pass(book, lows, book[limits::LOWS_WORD], 0, low, &mut stack)?.end;
+    let many = book[limits::MIDDLES_WORD];
+    let used = pass(book, middles, many, middle, middle, &mut stack)?.end;
+    if !head_right(book, taught.sum, used) {
+        return None;
     }
-    BookForm::InForm(Places {
+    Some(Places {
         k,
         tops,
         lows,
         middles,
         used,
     })
+}
+
+// Whether the words are a book in form, in one pass over them, and where its sections start: 4, 5, or the places.
+pub fn in_form(book: &[u16]) -> Result<Places, Refusal>
+    ensures { looked result ≡ book_form_of book.now }
+{
+    if !is_book_size(book.len()) {
+        return Err(Refusal::BookSize);
+    }
+    sections(book).ok_or(Refusal::NotInForm)
 }

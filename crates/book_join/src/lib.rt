@@ -7,7 +7,7 @@ ghost use Rattle.book.specs.Holding.{Holds};
 ghost use Rattle.book.specs.Opening.{outcome};
 ghost use Rattle.book_joining.specs.Joining.{join_of};
 
-use book::{BookForm, Places};
+use book::Places;
 use figures::{Answer, answered, limits, numbers};
 
 // Joins a book in form to a book in form.
@@ -40,10 +40,10 @@ pub fn join(book: &mut [u16], other: &[u16]) -> Answer
     ensures { outcome result book.new ≡ join_of book.old other.now }
 {
     match book_form::in_form(book) {
-        BookForm::Refused(number) => answered(number),
-        BookForm::InForm(places) => match book_form::in_form(other) {
-            BookForm::Refused(number) => answered(number),
-            BookForm::InForm(others) => join_books(book, places, other, others),
+        Err(refusal) => answered(refusal.number()),
+        Ok(places) => match book_form::in_form(other) {
+            Err(refusal) => answered(refusal.number()),
+            Ok(others) => join_books(book, places, other, others),
         },
     }
 }

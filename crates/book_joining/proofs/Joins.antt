@@ -14,11 +14,10 @@ use Rattle.figures.specs.Limits.{head_words, most_book_words, greatest_count}
 use Rattle.figures.specs.Numbers.{done, book_size, not_in_form, no_room, too_many, not_agreeing, other_k}
 use Rattle.figures.specs.Answers.{answered}
 use Rattle.book.specs.Book.{Book, used, live, lay}
-use Rattle.book.specs.Decoding.{decode, book_form_of, on_book}
+use Rattle.book.specs.Decoding.{decode, book_form_of, on_book, Refused}
 use Rattle.book.specs.Sound.{IsBook, WhyForm, shorter, longer, formless, book}
 use Rattle.book.specs.Taught.{book_of, agreeing}
 use Rattle.book.specs.Opening.{Outcome, outcome, leave, write_book, open_of}
-use Rattle.book.specs.declared.BookForm.TheVariants.{Refused}
 use Rattle.book.proofs.Meaning.{lay-long, used-fits}
 use Rattle.book.proofs.Holding.{refused-book}
 use Rattle.book.proofs.Openings.{opened-book, number_is, words_are}
@@ -287,15 +286,15 @@ join-empty ws vs b i a long short =
     let o : IsBook (open_of vs b.k).words c = opened-book vs b.k long short i.sound.least i.sound.greatest in
     let e : Grown c = grown c (sound-form c o.sound) (taken_agrees b.k [] none-taken) in
     let same : b.k ≡ c.k = unfold book_of in refl in
-    let None : joined b c ≡ b = joined-empty b g in
+    let none : joined b c ≡ b = joined-empty b g in
     let d : Done ws (open_of vs b.k).words = record {
       first = b;
       second = c;
       both = record { is_first = i; is_second = o; same = same; grown_first = g; grown_second = e };
-      few = omega (arith, joined-live b c g e same, ap live None, i.sound.few);
-      room = omega (arith, ap used None, used-fits ws b i.laid);
+      few = omega (arith, joined-live b c g e same, ap live none, i.sound.few);
+      room = omega (arith, ap used none, used-fits ws b i.laid);
     } in
-    done-joins ws (open_of vs b.k).words d ∙ ap (outcome (answered done)) (ap (lay (length ws)) None ∙ i.laid)
+    done-joins ws (open_of vs b.k).words d ∙ ap (outcome (answered done)) (ap (lay (length ws)) none ∙ i.laid)
 
 -- ---- three books
 

@@ -13,12 +13,11 @@ use Rattle.figures.specs.Limits.{greatest_count}
 use Rattle.figures.specs.Numbers.{done, no_room, too_many, not_agreeing, other_k}
 use Rattle.figures.specs.Answers.{answered}
 use Rattle.book.specs.Book.{Book, used, live, lay}
-use Rattle.book.specs.Decoding.{book_in, book_form_of}
+use Rattle.book.specs.Decoding.{book_in, book_form_of, Refused}
 use Rattle.book.specs.Holding.{Holds}
 use Rattle.book.specs.Taught.{agreeing}
 use Rattle.book.specs.Opening.{outcome, leave}
 use Rattle.book.specs.declared.Places.{Places}
-use Rattle.book.specs.declared.BookForm.TheVariants.{Refused}
 use Rattle.book.proofs.Sound.{form-sound, held_book}
 use Rattle.book.proofs.Around.{live_laid}
 use Rattle.book_change.specs.Counts.{within_counts}

@@ -11,7 +11,7 @@ ghost use Rattle.book.specs.Holding.{Holds};
 ghost use Rattle.book_judging.specs.Expecting.{judgement_of};
 ghost use Rattle.book_judging.specs.Seeking.{top_near, line_to_fix, JudgedAt};
 
-use book::{BookForm, Places};
+use book::Places;
 use book_judging::Judgement;
 use book_seek::{first_unknown, plainly};
 use figures::{Answer, limits, numbers};
@@ -92,7 +92,7 @@ pub fn judge(book: &[u16], order: &[u16]) -> Judgement
     ensures { result ≡ judgement_of book.now order.now }
 {
     match book_form::in_form(book) {
-        BookForm::Refused(number) => plainly(number),
-        BookForm::InForm(places) => judge_order(book, places, order),
+        Err(refusal) => plainly(refusal.number()),
+        Ok(places) => judge_order(book, places, order),
     }
 }

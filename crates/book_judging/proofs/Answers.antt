@@ -12,9 +12,8 @@ use Rattle.order.specs.Reading.{cause_of}
 use Rattle.order.proofs.Fitting.{passed-order, order-read}
 use Rattle.order.proofs.Causes.{cause_small, cause_is, Seen, stopped, passed, seen}
 use Rattle.book.specs.Book.{Book}
-use Rattle.book.specs.Decoding.{book_form_of}
+use Rattle.book.specs.Decoding.{book_form_of, Refused}
 use Rattle.book.specs.Sound.{IsBook, WhyForm, shorter, longer, formless, book}
-use Rattle.book.specs.declared.BookForm.TheVariants.{Refused}
 use Rattle.book.proofs.Sound.{refused-4_5, why-is, why-only}
 use Rattle.book_judging.specs.Judging.{verdict, judge_of}
 use Rattle.book_judging.specs.Verdicts.{Passes, Doubted, Lent, PassesBy, TopUnknown, LowUnknown, MiddleUnknown, Verdict, passing, no_top, no_low, no_middle, Judged, no_book, no_order, judged}

@@ -20,11 +20,10 @@ use Rattle.order.specs.Standing.{tree_from}
 use Rattle.order.proofs.Causes.{Passed, has-tree, cause_is, cause_refuses}
 use Rattle.order.proofs.Lines.{place-within, line-spot, from_spot}
 use Rattle.book.specs.Book.{Book}
-use Rattle.book.specs.Decoding.{book_in, book_form_of}
+use Rattle.book.specs.Decoding.{book_in, book_form_of, Refused}
 use Rattle.book.specs.Holding.{Holds}
 use Rattle.book.specs.Sound.{IsBook}
 use Rattle.book.specs.declared.Places.{Places}
-use Rattle.book.specs.declared.BookForm.TheVariants.{Refused}
 use Rattle.book.proofs.Sound.{held_book, on-any}
 use Rattle.book.proofs.Holding.{refused-book}
 use Rattle.book_judging.specs.Judging.{no_doubt, doubt, least_to_fix, verdict_on, verdict, judge_of}

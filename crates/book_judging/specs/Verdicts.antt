@@ -2,6 +2,7 @@
 -- and p and by sound books, apart from the tests of `judge_of`. That judging answers exactly by these rows is shown in proofs/Verdicts.antt.
 -- Assumes nothing: these are definitions.
 use Rattle.std.specs.Prelude.{ℕ, ◌-◌, ◌≤◌, ◌<◌, ◌≡◌, List}
+use Rattle.book.specs.Decoding.{Refused}
 use Rattle.words.specs.Base.{◌∈◌}
 use Rattle.figures.specs.Numbers.{done, top_unknown, low_unknown, middle_unknown}
 use Rattle.figures.specs.Answers.{answered}
@@ -15,7 +16,6 @@ use Rattle.order.specs.Answers.{tree_of_line}
 use Rattle.order.specs.Paper.{StrictlyBelow, IsR, IsL, IsP}
 use Rattle.book.specs.Book.{Book}
 use Rattle.book.specs.Sound.{IsBook, WhyForm}
-use Rattle.book.specs.declared.BookForm.TheVariants.{Refused}
 
 -- A tree is in a section: some entry has its words.
 pub record In (es : List Entry) (t : Tree) : Type 0 where

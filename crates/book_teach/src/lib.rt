@@ -7,7 +7,7 @@ ghost use Rattle.book.specs.Holding.{Holds};
 ghost use Rattle.book.specs.Opening.{outcome};
 ghost use Rattle.book_teaching.specs.Calls.{teach_of, withdraw_of};
 
-use book::{BookForm, Places, Section};
+use book::{Places, Section};
 use book_change::{Change, Lacking};
 use figures::{Answer, answered, limits, numbers};
 
@@ -76,8 +76,8 @@ pub fn teach(book: &mut [u16], order: &[u16]) -> Answer
     ensures { outcome result book.new ≡ teach_of book.old order.now }
 {
     match book_form::in_form(book) {
-        BookForm::Refused(number) => answered(number),
-        BookForm::InForm(places) => teach_order(book, places, order),
+        Err(refusal) => answered(refusal.number()),
+        Ok(places) => teach_order(book, places, order),
     }
 }
 
@@ -86,7 +86,7 @@ pub fn withdraw(book: &mut [u16], order: &[u16]) -> Answer
     ensures { outcome result book.new ≡ withdraw_of book.old order.now }
 {
     match book_form::in_form(book) {
-        BookForm::Refused(number) => answered(number),
-        BookForm::InForm(places) => withdraw_order(book, places, order),
+        Err(refusal) => answered(refusal.number()),
+        Ok(places) => withdraw_order(book, places, order),
     }
 }

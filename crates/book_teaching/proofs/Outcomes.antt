@@ -22,14 +22,13 @@ use Rattle.order.specs.Fits.{Fits}
 use Rattle.order.proofs.Causes.{cause_is, cause_refuses, has-tree}
 use Rattle.order.proofs.Fitting.{passed-fits}
 use Rattle.book.specs.Book.{Book, section_of, used, live, lay, in_form}
-use Rattle.book.specs.Decoding.{book_in, places_of, book_form_of}
+use Rattle.book.specs.Decoding.{book_in, places_of, book_form_of, Refused}
 use Rattle.book.specs.Sound.{IsBook}
 use Rattle.book.specs.Holding.{Holds}
 use Rattle.book.specs.Taught.{taught}
 use Rattle.book.specs.Opening.{Outcome, outcome, leave}
 use Rattle.book.specs.declared.Places.{Places}
 use Rattle.book.specs.declared.Section.TheVariants.{Taught}
-use Rattle.book.specs.declared.BookForm.TheVariants.{Refused}
 use Rattle.book.proofs.Meaning.{laid-read, used-fits}
 use Rattle.book.proofs.Holding.{refused-book, used-room, uses, allowed}
 use Rattle.book.proofs.Sound.{form-sound, held_book, on-any, laid-holds}

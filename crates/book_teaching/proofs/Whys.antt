@@ -12,11 +12,10 @@ use Rattle.order.specs.Fits.{IsOrder}
 use Rattle.order.proofs.Causes.{cause_is, Seen, stopped, passed, seen}
 use Rattle.order.proofs.Fitting.{passed-order, order-read}
 use Rattle.book.specs.Book.{Book}
-use Rattle.book.specs.Decoding.{book_form_of}
+use Rattle.book.specs.Decoding.{book_form_of, Refused}
 use Rattle.book.specs.Sound.{IsBook, WhyForm, shorter, longer, formless, book}
 use Rattle.book.specs.Taught.{taught}
 use Rattle.book.specs.Opening.{Outcome, leave}
-use Rattle.book.specs.declared.BookForm.TheVariants.{Refused}
 use Rattle.book.proofs.Heads.{is-sized}
 use Rattle.book.proofs.Sound.{sound-form, book-decode, why-is, why-only}
 use Rattle.book.proofs.Openings.{outcome-is}

@@ -1,6 +1,7 @@
 -- The rows of 01's table that teaching and withdrawing can answer: by sound books, orders within limits, the counts that are touched, the words
 -- used and what has an entry. That each answers exactly by its rows is shown in proofs/Whys.antt. Assumes nothing: these are definitions.
 use Rattle.std.specs.Prelude.{ℕ, ◌≤◌, ◌<◌, ◌≡◌, true, false, List, length}
+use Rattle.book.specs.Decoding.{Refused}
 use Rattle.figures.specs.Numbers.{done, no_room, too_many, not_taught, not_agreeing}
 use Rattle.section.specs.Entries.{has}
 use Rattle.order.specs.Trees.{Tree, words}
@@ -10,7 +11,6 @@ use Rattle.book.specs.Book.{Book, used}
 use Rattle.book.specs.Sound.{IsBook, WhyForm}
 use Rattle.book.specs.Taught.{taught}
 use Rattle.book.specs.Opening.{Outcome, leave, write_book}
-use Rattle.book.specs.declared.BookForm.TheVariants.{Refused}
 use Rattle.book_teaching.specs.Calls.{withdrawn}
 use Rattle.book_teaching.specs.Conditions.{WouldPass, PartMissing}
 

@@ -9,6 +9,7 @@ use native.Mathlib.Omega.{arith}
 use lib.Dec.{eqb}
 use lib.ListN.{length, drop}
 use borrow.Author.Tests.{eqb-true, leb-true, le-leb}
+use Rattle.figures.specs.declared.Answer.{Answer}
 use Rattle.desk_input.specs.declared.Letter.{Letter}
 use Rattle.words.specs.Base.{◌and◌, when◌then◌else◌, within}
 use Rattle.words.proofs.Tests.{and_left, and_right, and_both, never}

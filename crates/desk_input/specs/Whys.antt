@@ -1,6 +1,7 @@
 -- The front of the input in words (01, "Forms on the desk"): its first line, its first letter line, and why it is answered. Assumes nothing:
 -- these are definitions.
 use Rattle.std.specs.Prelude.{ℕ, ◌+◌, ◌≤◌, ◌<◌, ◌≡◌, List, [], ◌∷◌, length, Err, Ok, Result}
+use Rattle.figures.specs.declared.Answer.{Answer}
 use Rattle.figures.specs.Limits.{least_k, greatest_k, most_input}
 use Rattle.figures.specs.Numbers.{too_large, k_outside, no_form}
 use Rattle.figures.specs.Answers.{answered}

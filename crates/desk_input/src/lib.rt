@@ -55,13 +55,10 @@ pub fn letter_at(text: &[u8], at: usize) -> Option<Letter>
     requires { at ≤ length text.now }
     ensures { result ≡ letter_at (drop at text.now) }
 {
-    if text.len() - at < LETTER_LINE {
-        return None;
+    match &text[at..] {
+        [letter, b'\n', ..] => letter_of(*letter),
+        _ => None,
     }
-    if text[at + 1] != b'\n' {
-        return None;
-    }
-    letter_of(text[at])
 }
 
 // Where the form that starts at `from` ends: at the next letter line, or at the end of the text. A line starts at `from`.
@@ -69,44 +66,26 @@ pub fn form_end(text: &[u8], from: usize) -> usize
     requires { from ≤ length text.now }
     ensures { result ≡ from + size_to true (drop from text.now) }
 {
-    let mut at = from;
     let mut starts = true;
-    while at < text.len() {
-        if starts {
-            if let Some(_) = letter_at(text, at) {
-                return at;
-            }
+    for at in from..text.len() {
+        if starts && letter_at(text, at).is_some() {
+            return at;
         }
         starts = text[at] == b'\n';
-        at += 1;
     }
-    at
+    text.len()
 }
 
 // The k that line 1 asks for, if the line is spelt so and k is 2 to 6.
 fn depth_on(input: &[u8]) -> Option<Depth>
     ensures { result ≡ depth_on input.now }
 {
-    if input.len() < FIRST_LINE {
-        return None;
+    match input {
+        [OPENING_LETTER, b' ', digit, b'\n', ..] if digit.is_ascii_digit() => {
+            Depth::new(u16::from(*digit - b'0'))
+        }
+        _ => None,
     }
-    if input[0] != OPENING_LETTER {
-        return None;
-    }
-    if input[1] != b' ' {
-        return None;
-    }
-    let digit = input[2];
-    if digit < b'0' {
-        return None;
-    }
-    if b'9' < digit {
-        return None;
-    }
-    if input[3] != b'\n' {
-        return None;
-    }
-    Depth::new((digit - b'0') as u16)
 }
 
 // The first of the three faults of an input, or the k that its first line opens a book of.
@@ -116,17 +95,12 @@ pub fn opening(input: &[u8]) -> Result<u16, Answer>
     if limits::MOST_INPUT < input.len() {
         return Err(answered(numbers::TOO_LARGE));
     }
-    let Some(depth) = depth_on(input) else {
-        return Err(answered(numbers::K_OUTSIDE));
-    };
-    if input.len() == FIRST_LINE {
-        return Ok(depth.value());
-    }
-    match letter_at(input, FIRST_LINE) {
-        Some(_) => Ok(depth.value()),
-        None => Err(Answer {
+    let depth = depth_on(input).ok_or(answered(numbers::K_OUTSIDE))?;
+    if input.len() != FIRST_LINE && letter_at(input, FIRST_LINE).is_none() {
+        return Err(Answer {
             number: numbers::NO_FORM,
             line: 2,
-        }),
+        });
     }
+    Ok(depth.value())
 }

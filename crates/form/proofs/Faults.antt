@@ -1,6 +1,6 @@
 -- What a line is read as behind those before it, and what the whole text is then. Assumes nothing.
 use Rattle.std.specs.Prelude.{Err, Ok, Result}
-use mathlib.Core.Path.{◌≡◌, refl, subst}
+use mathlib.Core.Path.{ap, ◌≡◌, refl, subst}
 use mathlib.Core.Bool.{Bool, true, false, not}
 use mathlib.Core.List.{List, [], ◌∷◌, reverse}
 use Prim.Native.Nat.{ℕ, zero, suc, ◌≤◌, ◌<◌}
@@ -22,8 +22,17 @@ use Rattle.form.proofs.Tests.{Passes}
 -- ---- a node or a refusal
 
 -- A refusal is no node.
-pub no_node : {A : Type 0} {f : Fault} {l c w : ℕ} → Err f ≡ Ok (record { level = l; code = c; size = w }) → A
+pub no_node : {A : Type 0} {f : Fault} {l c w : ℕ} → ◌≡◌ {A = Result Node Fault} (Err f) (Ok (record { level = l; code = c; size = w })) → A
 no_node e = never cc
+
+-- The node that a line is read as, or another where it is refused.
+abbrev node_or : Node → Result Node Fault → Node
+node_or other (Ok node) = node
+node_or other (Err f) = other
+
+-- Lines that are read alike are the same node.
+pub the_node : {m n : Node} → ◌≡◌ {A = Result Node Fault} (Ok m) (Ok n) → m ≡ n
+the_node {m} e = ap (node_or m) e
 
 -- No fault has the number 0.
 pub fault-number : (f : Fault) → fault_number f ≡ done → ⊥
@@ -95,13 +104,13 @@ seen_of : (before : List Line) (s : List ℕ) (r : Result Node Fault) → spelt_
     Ok (record { level = level; code = code; size = size })) Err)
 unfolding by_line when◌then◌else◌
 seen_of before s (Err f) q = unspelt q
-seen_of before s (Ok node) q = let record { level = l; code = c; size = w } = node in go (eqb c 0) (allowed l before) (ltb greatest_depth l) (leb most_children (siblings l before)) refl refl refl refl
+seen_of before s (Ok node) q = go (eqb node.code 0) (allowed node.level before) (ltb greatest_depth node.level) (leb most_children (siblings node.level before)) refl refl refl refl
   where
-    some : eqb c 0 ≡ false → least_code ≤ c
-    some e = let o : c ≡ 0 → ⊥ = eqb-false _ _ e in omega arith
+    some : eqb node.code 0 ≡ false → least_code ≤ node.code
+    some e = let o : node.code ≡ 0 → ⊥ = eqb-false _ _ e in omega arith
 
-    go : (z a d n : Bool) → eqb c 0 ≡ z → allowed l before ≡ a → ltb greatest_depth l ≡ d → leb most_children (siblings l before) ≡ n
-        → Seen before s (when z then Err NoOption else when not a then Err LevelNotAllowed else when d then Err TooDeep else when n then Err NinthChild else Ok (record { level = l; code = c; size = w }))
+    go : (z a d n : Bool) → eqb node.code 0 ≡ z → allowed node.level before ≡ a → ltb greatest_depth node.level ≡ d → leb most_children (siblings node.level before) ≡ n
+        → Seen before s (when z then Err NoOption else when not a then Err LevelNotAllowed else when d then Err TooDeep else when n then Err NinthChild else Ok node)
     go true a d n p₀ p₁ p₂ p₃ = zero_code q (eqb-true _ _ p₀)
     go false false d n p₀ p₁ p₂ p₃ = bad_level q (some p₀) p₁
     go false true true n p₀ p₁ p₂ p₃ = deep q (some p₀) p₁ (ltb-true _ _ p₂)

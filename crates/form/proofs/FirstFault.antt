@@ -38,7 +38,7 @@ code-only l w (s ∷ a ∷ b ∷ c ∷ []) e = cc
 code-only l w (s ∷ a ∷ b ∷ c ∷ d ∷ []) e = cc
 code-only l w (s ∷ a ∷ b ∷ c ∷ d ∷ n ∷ r) {f} e = go (is_code s a b c d n) e
   where
-    go : (t : Bool) → (when t then Ok (record { level = l; code = value a b c d; size = w + code_size }) else Err Misspelt) ≡ Err f → f ≡ Misspelt
+    go : (t : Bool) → when◌then◌else◌ {A = Result Node Fault} t (Ok (record { level = l; code = value a b c d; size = w + code_size })) (Err Misspelt) ≡ Err f → f ≡ Misspelt
     go true e = no_node (sym e)
     go false e = cc
 

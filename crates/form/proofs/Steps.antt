@@ -17,7 +17,7 @@ use Rattle.form.specs.Reading.{spelt_of, by_line}
 use Rattle.form.specs.Turns.{follows, next_of, count_place, Parent, may_adopt, adopted, Parents, under_parent, counted_in}
 use Rattle.form.specs.declared.reading.Fault.{Fault}
 use Rattle.form.specs.declared.reading.Fault.TheVariants.{PastLast, NoOption, LevelNotAllowed, TooDeep, NinthChild}
-use Rattle.form.proofs.Faults.{no_node, within_both}
+use Rattle.form.proofs.Faults.{no_node, the_node, within_both}
 
 -- ---- which level may follow
 
@@ -165,18 +165,18 @@ pub data Unadopted (words latest : List ℕ) (y : Result Node Fault) (f : Fault)
 pub unadopted_seen : (words latest : List ℕ) (y : Result Node Fault) {f : Fault} → under_parent words latest y ≡ Err f → Unadopted words latest y f
 unfolding under_parent when◌then◌else◌
 unadopted_seen words latest (Err g) e = handed e
-unadopted_seen words latest (Ok node) {f} e = let record { level = l; code = c; size = w } = node in go (may_adopt words latest l) refl e
+unadopted_seen words latest (Ok node) {f} e = go (may_adopt words latest node.level) refl e
   where
-    go : (b : Bool) → may_adopt words latest l ≡ b → (when b then Ok (record { level = l; code = c; size = w }) else Err NinthChild) ≡ Err f → Unadopted words latest (Ok (record { level = l; code = c; size = w })) f
+    go : (b : Bool) → may_adopt words latest node.level ≡ b → when◌then◌else◌ {A = Result Node Fault} b (Ok node) (Err NinthChild) ≡ Err f → Unadopted words latest (Ok node) f
     go true q e = no_node (sym e)
-    go false q e = full l c w refl q (let z : f ≡ NinthChild = cc in z)
+    go false q e = full node.level node.code node.size refl q (let z : f ≡ NinthChild = cc in z)
 
 -- A node under its parent was one before, and its parent had room for it.
 pub adopted-seen : (words latest : List ℕ) (y : Result Node Fault) {l c w : ℕ} → under_parent words latest y ≡ Ok (record { level = l; code = c; size = w }) → (y ≡ Ok (record { level = l; code = c; size = w })) × (may_adopt words latest l ≡ true)
 unfolding under_parent when◌then◌else◌
 adopted-seen words latest (Err g) e = no_node e
-adopted-seen words latest (Ok node) {l} {c} {w} e = let record { level = i; code = d; size = v } = node in go (may_adopt words latest i) refl e
+adopted-seen words latest (Ok node) {l} {c} {w} e = go (may_adopt words latest node.level) refl e
   where
-    go : (b : Bool) → may_adopt words latest i ≡ b → (when b then Ok (record { level = i; code = d; size = v }) else Err NinthChild) ≡ Ok (record { level = l; code = c; size = w }) → (Ok (record { level = i; code = d; size = v }) ≡ Ok (record { level = l; code = c; size = w })) × (may_adopt words latest l ≡ true)
-    go true q e = (e, ap (may_adopt words latest) (let z : l ≡ i = cc in z) ∙ q)
+    go : (b : Bool) → may_adopt words latest node.level ≡ b → when◌then◌else◌ {A = Result Node Fault} b (Ok node) (Err NinthChild) ≡ Ok (record { level = l; code = c; size = w }) → ◌≡◌ {A = Result Node Fault} (Ok node) (Ok (record { level = l; code = c; size = w })) × (may_adopt words latest l ≡ true)
+    go true q e = (e, ap (may_adopt words latest) (ap (λ (n : Node). n.level) (sym (the_node e))) ∙ q)
     go false q e = no_node e

@@ -19,7 +19,7 @@ use Rattle.figures.specs.Numbers.{done, no_form}
 use Rattle.figures.specs.Answers.{refused_at, wrote}
 use Rattle.figures.specs.declared.Written.{Written}
 use Rattle.form.specs.Text.{code_size, Line, level_text, line_text}
-use Rattle.form.specs.Reading.{fault_number, read_number, spelt_of, by_line, allowed, siblings, line_of, Form, fault, form, read_lines, form_of, children, words_of_lines}
+use Rattle.form.specs.Reading.{fault_number, spelt_of, by_line, allowed, siblings, line_of, Form, fault, form, read_lines, form_of, children, words_of_lines}
 use Rattle.form.specs.Turns.{follows, next_of, count_place, Parent, may_adopt, adopted, Parents, under_parent, counted_in, Got}
 use Rattle.form.specs.declared.reading.Fault.{Fault}
 use Rattle.form.specs.declared.reading.Fault.TheVariants.{PastLast, NoOption, LevelNotAllowed, TooDeep, NinthChild}
@@ -57,15 +57,15 @@ next-of : (n greatest : ℕ) (s : List ℕ) (r : Result Node Fault) → n < most
     Ok (record { level = level; code = code; size = size })) Err)
 unfolding by_line line_of when◌then◌else◌
 next-of n greatest s (Err f) h q = faulty h (λ before m. rw q refl)
-next-of n greatest s (Ok node) h q = let record { level = level; code = code; size = size } = node in go (eqb code 0) (follows greatest level) (ltb greatest_depth level) refl refl refl
+next-of n greatest s (Ok node) h q = go (eqb node.code 0) (follows greatest node.level) (ltb greatest_depth node.level) refl refl refl
   where
-    go : (z a d : Bool) → eqb code 0 ≡ z → follows greatest level ≡ a → ltb greatest_depth level ≡ d
-        → Next n greatest s (when z then Err NoOption else when not a then Err LevelNotAllowed else when d then Err TooDeep else Ok (record { level = level; code = code; size = size }))
+    go : (z a d : Bool) → eqb node.code 0 ≡ z → follows greatest node.level ≡ a → ltb greatest_depth node.level ≡ d
+        → Next n greatest s (when z then Err NoOption else when not a then Err LevelNotAllowed else when d then Err TooDeep else Ok node)
     go true a d p₀ p₁ p₂ = faulty h (λ before m. rw (q, p₀) refl)
-    go false false d p₀ p₁ p₂ = faulty h (λ before m. rw (q, p₀, m level, p₁) refl)
-    go false true true p₀ p₁ p₂ = faulty h (λ before m. rw (q, p₀, m level, p₁, p₂) refl)
+    go false false d p₀ p₁ p₂ = faulty h (λ before m. rw (q, p₀, m node.level, p₁) refl)
+    go false true true p₀ p₁ p₂ = faulty h (λ before m. rw (q, p₀, m node.level, p₁, p₂) refl)
     go false true false p₀ p₁ p₂ =
-        let o : code ≡ 0 → ⊥ = eqb-false _ _ p₀ in
+        let o : node.code ≡ 0 → ⊥ = eqb-false _ _ p₀ in
         record { room = h; spelt = q; option = omega arith; may = p₁; shallow = ltb-false _ _ p₂ }
 
 -- `Next` holds of any bytes.
@@ -302,11 +302,11 @@ module _ {text words latest : List ℕ} {at n greatest : ℕ} (s : State text wo
       go (Err f) e = tt
 
   -- A line that is refused refuses the text, as the calls answered.
-  pub bad_line : (r : Written) (w : List ℕ) {x : Result Node Fault} {f : Fault} (k : ℕ) → at < length text → x ≡ under_parent words latest (next_of n greatest (drop at text)) → x ≡ Err f → r ≡ refused_at k (n + 1) → k ≡ read_number x → Got (form_of text) r w
+  pub bad_line : (r : Written) (w : List ℕ) {x : Result Node Fault} {f : Fault} (k : ℕ) → at < length text → x ≡ under_parent words latest (next_of n greatest (drop at text)) → x ≡ Err f → r ≡ refused_at k (n + 1) → k ≡ fault_number f → Got (form_of text) r w
   bad_line r w {x} {f} k h e q a b = go (unadopted_seen words latest (next_of n greatest (drop at text)) (sym e ∙ q))
     where
       answer : r ≡ refused_at (fault_number f) (n + 1)
-      answer = a ∙ ap (λ (m : ℕ). refused_at m (n + 1)) (b ∙ ap read_number q)
+      answer = a ∙ ap (λ (m : ℕ). refused_at m (n + 1)) b
 
       go : Unadopted words latest (next_of n greatest (drop at text)) f → Got (form_of text) r w
       go (handed u) = next-refused r w f (subst (Next n greatest (drop at text)) u (next-is n greatest (drop at text))) h answer

@@ -10,6 +10,7 @@ use lib.Dec.{eqb}
 use lib.ListN.{length, drop}
 use lib.Seq.{drop_at}
 use borrow.Author.Tests.{eqb-false}
+use Rattle.form.specs.declared.reading.Fault.{Fault}
 use Rattle.form.specs.declared.reading.Node.{Node}
 use Rattle.words.proofs.Tests.{never}
 use Rattle.words.specs.Base.{when◌then◌else◌}
@@ -19,7 +20,7 @@ use Rattle.form.specs.Reading.{fault_number, is_digit, figure, value, is_code, c
 use Rattle.form.specs.Faults.{greatest_level}
 use Rattle.form.specs.declared.reading.Fault.TheVariants.{Misspelt}
 use Rattle.form.proofs.Tests.{AllPass}
-use Rattle.form.proofs.Faults.{no_node, node_seen}
+use Rattle.form.proofs.Faults.{no_node, the_node, node_seen}
 use Rattle.form.proofs.Spelling.{of-digit, of_code}
 use Rattle.form.proofs.LineBytes.{one-digit, two_digits, line-size}
 
@@ -101,13 +102,14 @@ code-back l w (s ∷ a ∷ b ∷ c ∷ []) e = no_node e
 code-back l w (s ∷ a ∷ b ∷ c ∷ d ∷ []) e = no_node e
 code-back l w (s ∷ a ∷ b ∷ c ∷ d ∷ n ∷ r) {level} {code} {size} e = go (is_code s a b c d n) refl e
   where
-    go : (t : Bool) → is_code s a b c d n ≡ t → (when t then Ok (record { level = l; code = value a b c d; size = w + code_size }) else Err Misspelt) ≡ Ok (record { level = level; code = code; size = size }) → Coded (s ∷ a ∷ b ∷ c ∷ d ∷ n ∷ r) l w level code size
+    go : (t : Bool) → is_code s a b c d n ≡ t → when◌then◌else◌ {A = Result Node Fault} t (Ok (record { level = l; code = value a b c d; size = w + code_size })) (Err Misspelt) ≡ Ok (record { level = level; code = code; size = size }) → Coded (s ∷ a ∷ b ∷ c ∷ d ∷ n ∷ r) l w level code size
     go false q e = no_node e
     go true q e =
         let k = is-text s a b c d n r q in
-        let v : value a b c d ≡ code = cc in
-        let x : l ≡ level = cc in
-        let y : w + code_size ≡ size = cc in
+        let node = the_node e in
+        let v : value a b c d ≡ code = ap (λ (m : Node). m.code) node in
+        let x : l ≡ level = ap (λ (m : Node). m.level) node in
+        let y : w + code_size ≡ size = ap (λ (m : Node). m.size) node in
         record { rest = r; is = k.0 ∙ ap (λ (m : ℕ). code_text m ++ r) v; small = omega (arith, k.1); same-level = x; same_size = y }
 
 -- ---- lines

@@ -22,11 +22,6 @@ fault_number LevelNotAllowed = no_form
 fault_number TooDeep = too_large
 fault_number NinthChild = no_form
 
--- 01's number for what a line is read as: 0 for a node.
-abbrev pub read_number : Result Node Fault → ℕ
-read_number (Ok node) = done
-read_number (Err f) = fault_number f
-
 -- ---- spelling
 
 -- The byte is a decimal digit.

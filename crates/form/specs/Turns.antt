@@ -1,6 +1,7 @@
 -- Inner: no promise rests on these definitions.
 -- What the inner functions of reading and writing give, in the terms that the code has at hand. Assumes nothing: these are definitions.
 use Rattle.std.specs.Prelude.{ℕ, suc, ◌+◌, ◌*◌, ◌-◌, ◌≤◌, ◌<◌, ◌≡◌, Bool, true, not, List, [], ◌∷◌, leb, ltb, eqb, length, take, get_or, set, Err, Ok, Result}
+use Rattle.form.specs.declared.reading.Fault.{Fault}
 use Rattle.form.specs.declared.reading.Node.{Node}
 use Rattle.words.specs.Base.{when◌then◌else◌, within}
 use Rattle.figures.specs.Limits.{most_nodes, most_words, most_children, greatest_depth}

@@ -30,9 +30,8 @@ use Rattle.order.specs.declared.PartWritten.{PartWritten}
 use Rattle.form.specs.Reading.{read_of}
 use Rattle.form.specs.Writing.{write_of}
 use Rattle.form.proofs.Figures.{print_line}
-use Rattle.book.specs.Decoding.{book_form_of, form_told}
+use Rattle.book.specs.Decoding.{book_form_of, form_told, BookForm}
 use Rattle.book.specs.Opening.{Outcome, outcome, open_of}
-use Rattle.book.specs.declared.BookForm.{BookForm}
 use Rattle.book_judging.specs.Judging.{judge_of}
 use Rattle.book_judging.specs.Verdicts.{Judged}
 use Rattle.book_judging.proofs.Answers.{judged-is, judged-only}

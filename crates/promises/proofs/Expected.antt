@@ -6,6 +6,7 @@ use mathlib.Core.Bool.{Bool, true, false}
 use mathlib.Core.List.{List}
 use native.Mathlib.Omega.{arith}
 use lib.IntN.{ℤ, neg_ℤ}
+use Rattle.book.specs.Decoding.{Refused}
 use Rattle.words.specs.Base.{◌exactly_when◌}
 use Rattle.words.specs.Compare.{compare_of, signed_of, side_of, size_of}
 use Rattle.words.specs.Differences.{FirstDiffers, SignedPlace}
@@ -20,7 +21,6 @@ use Rattle.section.proofs.Near.{near-is, near-there}
 use Rattle.order.specs.Trees.{Tree, words}
 use Rattle.order.specs.Parts.{top, middle}
 use Rattle.order.proofs.Paper.{r_only, top-is_r}
-use Rattle.book.specs.declared.BookForm.TheVariants.{Refused}
 use Rattle.book.proofs.Sound.{why-only}
 use Rattle.book_judging.specs.Judging.{judge_of}
 use Rattle.book_judging.specs.Expecting.{expected_of, judgement_of}

@@ -18,11 +18,10 @@ use Rattle.order.specs.declared.Kind.TheVariants.{Low, Middle}
 use Rattle.form.specs.Text.{text_of}
 use Rattle.form.specs.Faults.{FirstFault}
 use Rattle.book.specs.Book.{Book, used, live, encode}
-use Rattle.book.specs.Decoding.{places_of}
+use Rattle.book.specs.Decoding.{places_of, Refused}
 use Rattle.book.specs.Sound.{SoundBook, IsBook, WhyForm}
 use Rattle.book.specs.Taught.{empty_book}
 use Rattle.book.specs.Opening.{Outcome, leave, write_book}
-use Rattle.book.specs.declared.BookForm.TheVariants.{Refused}
 use Rattle.book.specs.declared.Places.{Places}
 use Rattle.book_joining.specs.Joining.{CountsAdded}
 use Rattle.octets.specs.Octets.{bytes_of}

@@ -12,7 +12,8 @@
 // All calls but that of `form` are made through the functions for C (`ofb`). Each call on the kept book says its answer, word 1 of the book and a
 // mark of all the words of its slice; a joining also says whether the words of the other book are the same as before.
 use crate::kinds;
-use book::{BookForm, Places};
+use book::Places;
+use figures::Refusal;
 use ofb::OfbAnswer;
 use runs_kit::{fill, kept, mark, say, wide};
 use std::io;
@@ -33,13 +34,13 @@ fn places(rt: &impl Print, places: Places) -> io::Result<()> {
 }
 
 // Says what a look at a book's form gave.
-pub fn form(rt: &impl Print, form: BookForm) -> io::Result<()> {
+pub fn form(rt: &impl Print, form: Result<Places, Refusal>) -> io::Result<()> {
     match form {
-        BookForm::Refused(number) => {
+        Err(refusal) => {
             say::text(rt, b"refused ")?;
-            say::word(rt, number)
+            say::word(rt, refusal.number())
         }
-        BookForm::InForm(found) => places(rt, found),
+        Ok(found) => places(rt, found),
     }
 }
 

@@ -5,10 +5,9 @@ use mathlib.Core.List.{List}
 use borrow.Author.Rules.{rules}
 use Rattle.figures.specs.Answers.{answered}
 use Rattle.figures.specs.declared.Answer.{Answer}
-use Rattle.book.specs.Decoding.{book_form_of}
+use Rattle.book.specs.Decoding.{book_form_of, InForm}
 use Rattle.book.specs.Opening.{outcome}
 use Rattle.book.specs.declared.Places.{Places}
-use Rattle.book.specs.declared.BookForm.TheVariants.{InForm}
 use Rattle.book.proofs.Holding.{holds}
 use Rattle.book_filing.proofs.Restoring.{restore_refused, restore_numbered, restore_short, restore_written}
 use Rattle.book_file.proofs.read_words.Statement.{statement}

@@ -10,10 +10,9 @@ use Rattle.figures.specs.Numbers.{done, book_size, not_in_form, not_agreeing}
 use Rattle.figures.specs.Answers.{answered}
 use Rattle.figures.specs.declared.Answer.{Answer}
 use Rattle.book.specs.Book.{Book}
-use Rattle.book.specs.Decoding.{book_form_of}
+use Rattle.book.specs.Decoding.{book_form_of, Refused}
 use Rattle.book.specs.Sound.{IsBook, WhyForm, shorter, longer, formless, book}
 use Rattle.book.specs.Taught.{agreeing}
-use Rattle.book.specs.declared.BookForm.TheVariants.{Refused}
 use Rattle.book.proofs.Sound.{why-is, why-only}
 use Rattle.book.specs.Checking.{agree_of}
 use Rattle.book.proofs.Checking.{check_unheld, check_held}

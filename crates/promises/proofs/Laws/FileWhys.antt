@@ -17,11 +17,10 @@ use Rattle.figures.specs.Answers.{answered}
 use Rattle.figures.specs.Numbers.{book_size, no_room, not_in_form, not_agreeing, no_mark, other_version, no_stored_book}
 use Rattle.order.specs.Answers.{Writing, refuse, write}
 use Rattle.book.specs.Book.{Book, used, encode}
-use Rattle.book.specs.Decoding.{book_form_of, sized}
+use Rattle.book.specs.Decoding.{book_form_of, sized, Refused}
 use Rattle.book.specs.Sound.{IsBook, WhyForm, shorter, longer, formless, book}
 use Rattle.book.specs.Taught.{agreeing}
 use Rattle.book.specs.Opening.{Outcome, leave, write_book}
-use Rattle.book.specs.declared.BookForm.TheVariants.{Refused}
 use Rattle.book.proofs.Heads.{too_short, too_long, is-sized}
 use Rattle.book.proofs.Sound.{form-sound, sound-form, why-is, why-only}
 use Rattle.octets.specs.Octets.{bytes_of}

@@ -7,6 +7,7 @@ use mathlib.Core.List.{List, [], ◌∷◌, ◌++◌}
 use native.Mathlib.Omega.{arith}
 use borrow.Author.Tests.{lt-leb}
 use lib.ListN.{length}
+use Rattle.book.specs.Decoding.{Refused}
 use Rattle.words.specs.Base.{when◌then◌else◌}
 use Rattle.words.proofs.Tests.{no_test}
 use Rattle.figures.specs.Limits.{greatest_count}
@@ -15,7 +16,6 @@ use Rattle.book.specs.Book.{Book, used, live}
 use Rattle.book.specs.Sound.{IsBook}
 use Rattle.book.specs.Taught.{agreeing}
 use Rattle.book.specs.Opening.{Outcome, write_book, open_of}
-use Rattle.book.specs.declared.BookForm.TheVariants.{Refused}
 use Rattle.book.proofs.Meaning.{used-fits}
 use Rattle.book.proofs.Sound.{sound-form, why-only, book-only}
 use Rattle.book_joining.specs.Joining.{CountsAdded, joined, join_of}

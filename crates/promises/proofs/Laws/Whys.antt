@@ -28,9 +28,7 @@ use Rattle.form.specs.Writing.{write_of}
 use Rattle.form.proofs.FirstFault.{first-fault, fault-first, no_bytes as none_read}
 use Rattle.form.proofs.Trips.{order-text, form-order, order-write, form-write, fault-write}
 use Rattle.book.specs.Sound.{WhyForm, shorter, longer, formless, book}
-use Rattle.book.specs.Decoding.{places_of, book_form_of, form_told}
-use Rattle.book.specs.declared.BookForm.{BookForm}
-use Rattle.book.specs.declared.BookForm.TheVariants.{Refused, InForm}
+use Rattle.book.specs.Decoding.{places_of, book_form_of, form_told, BookForm, Refused, InForm}
 use Rattle.book.specs.declared.Places.{Places}
 use Rattle.book.proofs.Sound.{why-is, why-only}
 use Rattle.book.specs.Taught.{empty_book, book_of}

@@ -6,6 +6,7 @@ use mathlib.Core.Path.{◌≡◌, refl}
 use mathlib.Core.List.{List, [], ◌∷◌, ◌++◌, map}
 use native.Mathlib.Omega.{arith}
 use lib.ListN.{length, replicate, set}
+use Rattle.book.specs.Decoding.{Refused}
 use Rattle.figures.specs.Limits.{least_code, greatest_code, most_children, most_nodes, most_words, greatest_depth, least_k, greatest_k, head_words}
 use Rattle.figures.specs.Limits.{k_word, used_word, live_word, taught_word, tops_word, lows_word, middles_word, most_book_words, least_count, greatest_count}
 use Rattle.figures.specs.Limits.{most_input, desk_book_words, most_rules, least_image, greatest_image}
@@ -22,7 +23,6 @@ use Rattle.book.specs.Book.{Book, lay}
 use Rattle.book.specs.Taught.{book_of}
 use Rattle.book.specs.Sound.{IsBook, WhyForm, longer}
 use Rattle.book.specs.Opening.{open_of, leave}
-use Rattle.book.specs.declared.BookForm.TheVariants.{Refused}
 use Rattle.book.specs.Checking.{agree_of}
 use Rattle.book_judging.specs.Judging.{judge_of}
 use Rattle.book_judging.specs.Verdicts.{no_book}
