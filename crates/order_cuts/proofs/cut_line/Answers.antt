@@ -1,0 +1,20 @@
+-- `order_cuts::cut_line` meets its contract, by whether the cut has room. Assumes nothing.
+use mathlib.Core.Path.{refl, sym}
+use native.Mathlib.Omega.{arith}
+use Rattle.order.proofs.LineCuts.{line-short}
+use Rattle.order.proofs.Writing.{no_output_room, has_room}
+use Rattle.order_cuts.proofs.cut_line.Goals as goal
+
+pub put_cut-count-requires-clause-d_in_bounds : goal.put_cut-count-requires-clause-d_in_bounds
+put_cut-count-requires-clause-d_in_bounds c = rw c.level_lines-lines.ensures (line-short _ _ c.args.d c.args.order.gone_over.sound c.requires)
+
+pub returns-then-out-count : goal.returns-then-out-count
+returns-then-out-count c =
+    let came = rw c.level_lines-lines.ensures at c.put_cut-count.ensures.came in
+    no_output_room _ _ _ refl (omega (arith, came, c.if-out-count.true))
+
+pub returns : goal.returns
+returns c =
+    let came = rw c.level_lines-lines.ensures at c.put_cut-count.ensures.came in
+    let written = rw c.level_lines-lines.ensures at c.put_cut.ensures.wrote in
+    has_room _ _ _ _ _ refl (sym came) c.if-out-count.false written
