@@ -3,7 +3,11 @@ use mathlib.Core.Path.{refl, sym}
 use native.Mathlib.Omega.{arith}
 use Rattle.order.proofs.LineCuts.{line-short}
 use Rattle.order.proofs.Writing.{no_output_room, has_room}
+use Rattle.order.proofs.Spots.{passed-short}
 use Rattle.order_cuts.proofs.cut_line.Goals as goal
+
+pub level_lines-lines-requires : goal.level_lines-lines-requires
+level_lines-lines-requires c = omega (arith, passed-short _ c.args.order.gone_over.sound)
 
 pub put_cut-count-requires-clause-d_in_bounds : goal.put_cut-count-requires-clause-d_in_bounds
 put_cut-count-requires-clause-d_in_bounds c = rw c.level_lines-lines.ensures (line-short _ _ c.args.d c.args.order.gone_over.sound c.requires)

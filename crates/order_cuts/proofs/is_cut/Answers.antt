@@ -3,7 +3,7 @@ use Prim.Native.Nat.{ℕ, ◌+◌, ◌≤◌}
 use mathlib.Core.Path.{subst, ◌∙◌}
 use native.Mathlib.Omega.{arith}
 use lib.ListN.{length, take}
-use Rattle.order.proofs.LineSpans.{line-open, line-starts, levels_room}
+use Rattle.order.proofs.LineSpans.{line-open, line-starts, levels_room, spans-room}
 use Rattle.order.proofs.Spots.{passed-short}
 use Rattle.order.proofs.Walking.{Walking, walk_start}
 use Rattle.order.proofs.Comparing.{compared_all, step, ends-early, other_code, other_children, both_alike}
@@ -12,6 +12,9 @@ use Rattle.order_cuts.proofs.is_cut.Goals.{then-tree-count-lt2-via-then-tree-cou
 
 pub bounds-levels-line : goal.bounds-levels-line
 bounds-levels-line c = let lines = c.args.lines.now in omega (arith, c.requires, levels_room _ _ lines.order.gone_over.sound lines.levelled)
+
+pub line_end-end-requires : goal.line_end-end-requires
+line_end-end-requires c = omega (arith, c.requires, spans-room _ _ c.args.lines.now.order.gone_over)
 
 pub loop-at-init : goal.loop-at-init
 loop-at-init c =
