@@ -34,7 +34,7 @@ impl Order<'_> {
         requires { line < length self.now.words.now / 2 }
         ensures { result ≡ get_or self.now.spans.now (line * 2) 0 }
     {
-        self.spans[line * 2] as usize
+        usize::from(self.spans[line * 2])
     }
 
     // How deep the subtree of a line is, counted from 0.
@@ -42,7 +42,7 @@ impl Order<'_> {
         requires { line < length self.now.words.now / 2 }
         ensures { result ≡ get_or self.now.spans.now (line * 2 + 1) 0 }
     {
-        self.spans[line * 2 + 1] as usize
+        usize::from(self.spans[line * 2 + 1])
     }
 }
 
@@ -84,7 +84,7 @@ fn level_row(spans: &[u16], from: usize, trees: u16, level: u8, levels: &mut [u8
     let mut at = from;
     for _ in 0..trees {
         levels[at] = level;
-        at = spans[2 * at] as usize;
+        at = usize::from(spans[2 * at]);
     }
 }
 
