@@ -65,7 +65,7 @@ fn level_row(spans: &[u16], from: usize, trees: u16, level: u8, levels: &mut [u8
     let mut at = from;
     for _ in 0..trees {
         levels[at] = level;
-        at = spans[2 * at] as usize;
+        at = usize::from(spans[2 * at]);
     }
 }
 

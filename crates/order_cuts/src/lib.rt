@@ -77,8 +77,9 @@ pub fn put_cut(lines: &Lines, line: usize, d: usize, out: &mut [u16]) -> usize
     let end = line_end(order.spans, line);
     let mut at = line;
     let mut count: usize = 0;
+    // A turn finds the next turn's line: no range has these.
     while at < end {
-        let below = (levels[at] - own) as usize;
+        let below = usize::from(levels[at] - own);
         out[count] = order.words[at * 2];
         out[count + 1] = kept_children(below, d, order.words[at * 2 + 1]);
         at = next_line(order, at, below, d);
@@ -98,11 +99,12 @@ pub fn is_cut(lines: &Lines, line: usize, d: usize, tree: &[u16]) -> bool
     let end = line_end(order.spans, line);
     let mut at = line;
     let mut count: usize = 0;
+    // A turn finds the next turn's line: no range has these.
     while at < end {
         if tree.len() - count < 2 || order.words[at * 2] != tree[count] {
             return false;
         }
-        let under = (levels[at] - own) as usize;
+        let under = usize::from(levels[at] - own);
         if kept_children(under, d, order.words[at * 2 + 1]) != tree[count + 1] {
             return false;
         }
@@ -112,8 +114,8 @@ pub fn is_cut(lines: &Lines, line: usize, d: usize, tree: &[u16]) -> bool
     count == tree.len()
 }
 
-// Writes the cut at d of the subtree of a line, the lines counted from 0, to the front of `out`, or refuses with 11 where it has no room. How
-// long it is shows where it is written to a scratch first. Answers its number of words.
+// Writes the cut at d of the subtree of a line, the lines counted from 0, to the front of `out`, or refuses with 11 where it has no room. It is
+// written to a scratch first, which shows how long it is. Answers its number of words.
 pub fn cut_line(order: Order, line: usize, d: usize, out: &mut [u16]) -> Result<usize, Refusal>
     requires { line < length order.words.now / 2 }
     ensures { writing (wrote (number_told result) (count_told result)) out.new ≡ write (cut_of order.entry.words.now (line * 2) d) out.old }
@@ -125,7 +127,7 @@ pub fn cut_line(order: Order, line: usize, d: usize, out: &mut [u16]) -> Result<
     if out.len() < count {
         return Err(Refusal::ShortOutput);
     }
-    put_cut(&lines, line, d, out);
+    out[..count].copy_from_slice(&cut[..count]);
     Ok(count)
 }
 

@@ -21,8 +21,8 @@ loop-preserved c =
     let some : 0 < c.args.trees - l.counter = omega (arith, c.loop-test.true) in
     let one : c.args.trees - l.counter - 1 ≡ c.args.trees - (l.counter + 1) = omega arith in
     record {
-      row = rw (length-set l.levels l.at c.args.level, ← one) (next-tree _ _ _ _ l.invariant.row some).others;
-      same = rw (← one) (hopped-next _ l.at _ _ l.levels some ∙ l.invariant.same);
+      row = rw (c.from-at.ensures, length-set l.levels l.at c.args.level, ← one) (next-tree _ _ _ _ l.invariant.row some).others;
+      same = rw (c.from-at.ensures, ← one) (hopped-next _ l.at _ _ l.levels some ∙ l.invariant.same);
     }
 
 pub returns : goal.returns

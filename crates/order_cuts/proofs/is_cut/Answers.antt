@@ -66,8 +66,8 @@ bounds-levels-at c =
     let h = step _ _ _ _ _ _ _ _ i.few i.walking _ _ lines.order.gone_over lines.levelled c.loop-at-test.true in
     h.levelled
 
-pub overflow_sub-under : goal.overflow_sub-under
-overflow_sub-under c =
+pub overflow_sub-levels : goal.overflow_sub-levels
+overflow_sub-levels c =
     let i = c.loop-at.invariant in
     let lines = c.args.lines.now in
     let h = step _ _ _ _ _ _ _ _ i.few i.walking _ _ lines.order.gone_over lines.levelled c.loop-at-test.true in
@@ -113,13 +113,13 @@ loop-at-smaller c =
     let i = c.loop-at.invariant in
     let lines = c.args.lines.now in
     let h = step _ _ _ _ _ _ _ _ i.few i.walking _ _ lines.order.gone_over lines.levelled c.loop-at-test.true in
-    omega (arith, h.on _ c.next_line-at.ensures, c.loop-at-test.true)
+    omega (arith, h.on _ (rw c.from-under.ensures at c.next_line-at.ensures), c.loop-at-test.true)
 
 pub returns-then-kept_children-tree : goal.returns-then-kept_children-tree
 returns-then-kept_children-tree c =
     let i = c.loop-at.invariant in
     let lines = c.args.lines.now in
-    other_children _ _ _ _ _ _ _ _ i.few i.walking _ _ lines.order.gone_over lines.levelled c.loop-at-test.true _ c.kept_children.ensures c.if-kept_children-tree.true
+    other_children _ _ _ _ _ _ _ _ i.few i.walking _ _ lines.order.gone_over lines.levelled c.loop-at-test.true _ (rw c.from-under.ensures at c.kept_children.ensures) c.if-kept_children-tree.true
 
 pub loop-at-preserved : goal.loop-at-preserved
 loop-at-preserved c =
@@ -129,7 +129,8 @@ loop-at-preserved c =
     record {
       few = long;
       walking = both_alike _ _ _ _ _ _ _ _ i.few i.walking _ _ lines.order.gone_over lines.levelled c.loop-at-test.true
-          _ _ long c.if-order-at.false c.kept_children.ensures c.if-kept_children-tree.false c.next_line-at.ensures;
+          _ _ long c.if-order-at.false (rw c.from-under.ensures at c.kept_children.ensures) c.if-kept_children-tree.false
+          (rw c.from-under.ensures at c.next_line-at.ensures);
     }
 
 pub returns : goal.returns

@@ -29,8 +29,8 @@ bounds-levels-at c =
     let h = turning _ _ _ _ _ _ _ _ _ _ _ c.args.lines.now.order.gone_over c.args.lines.now.levelled c.loop-at.invariant c.loop-at-test.true in
     h.step.levelled
 
-pub overflow_sub-below : goal.overflow_sub-below
-overflow_sub-below c =
+pub overflow_sub-levels : goal.overflow_sub-levels
+overflow_sub-levels c =
     let h = turning _ _ _ _ _ _ _ _ _ _ _ c.args.lines.now.order.gone_over c.args.lines.now.levelled c.loop-at.invariant c.loop-at-test.true in
     h.step.above
 
@@ -107,12 +107,12 @@ overflow_add-count c =
 pub loop-at-smaller : goal.loop-at-smaller
 loop-at-smaller c =
     let h = turning _ _ _ _ _ _ _ _ _ _ _ c.args.lines.now.order.gone_over c.args.lines.now.levelled c.loop-at.invariant c.loop-at-test.true in
-    omega (arith, h.step.on _ c.next_line-at.ensures, c.loop-at-test.true)
+    omega (arith, h.step.on _ (rw c.from-below.ensures at c.next_line-at.ensures), c.loop-at-test.true)
 
 pub loop-at-preserved : goal.loop-at-preserved
 loop-at-preserved c =
     let h = turning _ _ _ _ _ _ _ _ _ _ _ c.args.lines.now.order.gone_over c.args.lines.now.levelled c.loop-at.invariant c.loop-at-test.true in
-    h.next _ _ c.kept_children.ensures c.next_line-at.ensures
+    h.next _ _ (rw c.from-below.ensures at c.kept_children.ensures) (rw c.from-below.ensures at c.next_line-at.ensures)
 
 pub returns : goal.returns
 returns c = let w = put_done _ _ _ _ _ _ _ _ _ c.loop-at.invariant c.loop-at-test.false in record { came = w.0; wrote = w.1 }
