@@ -4,6 +4,8 @@
 
 ghost use Rattle.std.specs.Prelude.{◌≡◌, ◌≤◌, length};
 ghost use Rattle.words.specs.Base.{◌and◌};
+ghost use Rattle.figures.specs.Answers.{answered};
+ghost use Rattle.figures.specs.Refusals.{number_told};
 ghost use Rattle.book.specs.Book.{section_of};
 ghost use Rattle.book.specs.Decoding.{book_in};
 ghost use Rattle.book.specs.Holding.{Holds};
@@ -12,7 +14,8 @@ ghost use Rattle.book.specs.Checking.{agree_of};
 ghost use Rattle.book_check.specs.Agreeing.{most_entries, agreeing_in, Roomy};
 
 use book::{Places, Section};
-use figures::{Answer, answered, limits, numbers};
+use book_form::in_form;
+use figures::{Answer, Refusal, limits};
 
 // No section has more entries: the shortest entry, that of a single node, takes four words.
 const MOST_ENTRIES: usize = (limits::MOST_BOOK_WORDS - limits::HEAD_WORDS) / 4;
@@ -105,15 +108,15 @@ fn agrees(book: &[u16], places: Places) -> bool
     }
 }
 
-// Whether a book in form agrees with itself: 9, or 0.
-pub fn check_sections(book: &[u16], places: Places) -> Answer
+// Whether a book in form agrees with itself; 9 where it does not.
+pub fn check_sections(book: &[u16], places: Places) -> Result<(), Refusal>
     requires { Holds book.now places }
-    ensures { result ≡ agree_of book.now }
+    ensures { answered (number_told result) ≡ agree_of book.now }
 {
     if !agrees(book, places) {
-        return answered(numbers::NOT_AGREEING);
+        return Err(Refusal::NotAgreeing);
     }
-    answered(numbers::DONE)
+    Ok(())
 }
 
 // Whether two books in form agree with themselves, the one and then the other.
@@ -128,12 +131,17 @@ pub fn both_agree(book: &[u16], places: Places, other: &[u16], others: Places) -
     agrees(other, others)
 }
 
+// Whether the words are a book that agrees with itself, or a refusal: 4, 5 or 9.
+fn try_check(book: &[u16]) -> Result<(), Refusal>
+    ensures { answered (number_told result) ≡ agree_of book.now }
+{
+    let places = in_form(book)?;
+    check_sections(book, places)
+}
+
 // Whether the words are a book that agrees with itself: 4, 5, 9, or 0.
 pub fn check(book: &[u16]) -> Answer
     ensures { result ≡ agree_of book.now }
 {
-    match book_form::in_form(book) {
-        Err(refusal) => answered(refusal.number()),
-        Ok(places) => check_sections(book, places),
-    }
+    Answer::from(try_check(book))
 }

@@ -3,6 +3,8 @@
 #![tactic(auto)]
 
 ghost use Rattle.std.specs.Prelude.{◌≡◌, [], ◌∷◌, ◌++◌, ◌-◌, ◌≤◌, length, replicate};
+ghost use Rattle.figures.specs.Answers.{answered, wrote};
+ghost use Rattle.figures.specs.Refusals.{number_told, count_told};
 ghost use Rattle.octets.specs.Octets.{bytes_of};
 ghost use Rattle.order.specs.Answers.{writing};
 ghost use Rattle.book.specs.Holding.{Holds};
@@ -10,7 +12,10 @@ ghost use Rattle.book.specs.Opening.{outcome};
 ghost use Rattle.book_filing.specs.Files.{mark, version, front_bytes, write_file_of, is_marked, read_rest_of, stored_number, read_file_of};
 
 use book::Places;
-use figures::{Answer, Written, answered, limits, numbers, wrote};
+use book_check::check_sections;
+use book_form::in_form;
+use figures::{Answer, Refusal, Written, limits};
+use octets::{put_word, put_words, take_words, word_at};
 
 // The mark of a stored book.
 const MARK: &[u8; MARK_BYTES] = b"OFB";
@@ -32,25 +37,30 @@ fn put_front(out: &mut [u8])
     ensures { out.new ≡ mark ++ bytes_of (version ∷ []) }
 {
     out[..MARK_BYTES].copy_from_slice(MARK);
-    octets::put_word(out, MARK_BYTES, VERSION);
+    put_word(out, MARK_BYTES, VERSION);
+}
+
+// Writes the file of a book that agrees with itself to the front of `out`, or refuses: 4, 5, 9 or 11. Answers how many bytes were written.
+fn try_write(book: &[u16], out: &mut [u8]) -> Result<usize, Refusal>
+    ensures { writing (wrote (number_told result) (count_told result)) out.new ≡ write_file_of book.now out.old }
+{
+    let places = in_form(book)?;
+    check_sections(book, places)?;
+    let used = places.used;
+    let count = FRONT_BYTES + 2 * used;
+    if out.len() < count {
+        return Err(Refusal::ShortOutput);
+    }
+    put_front(&mut out[0..FRONT_BYTES]);
+    put_words(&book[0..used], &mut out[FRONT_BYTES..count]);
+    Ok(count)
 }
 
 // Writes the file of a book that agrees with itself to the front of `out`: 4, 5, 9, 11, or done, and how many bytes were written.
 pub fn write(book: &[u16], out: &mut [u8]) -> Written
     ensures { writing result out.new ≡ write_file_of book.now out.old }
 {
-    let checked = book_check::check(book).number;
-    if checked != numbers::DONE {
-        return wrote(checked, 0);
-    }
-    let used = book[limits::USED_WORD] as usize;
-    let count = FRONT_BYTES + 2 * used;
-    if out.len() < count {
-        return wrote(numbers::SHORT_OUTPUT, 0);
-    }
-    put_front(&mut out[0..FRONT_BYTES]);
-    octets::put_words(&book[0..used], &mut out[FRONT_BYTES..count]);
-    wrote(numbers::DONE, count)
+    Written::from(try_write(book, out))
 }
 
 // ---- read
@@ -72,64 +82,68 @@ fn put_book(words: &[u16], book: &mut [u16])
     words::clear(&mut book[end..]);
 }
 
-// What words that are a book in form are answered by: 14 if it does not use them all, and else 9 or 0, by whether it agrees with itself.
-fn stored_number(words: &[u16], places: Places) -> u16
+// Whether words that are a book in form are a stored book; 14 where it does not use them all, and 9 where it does not agree with itself.
+fn check_stored(words: &[u16], places: Places) -> Result<(), Refusal>
     requires { Holds words.now places }
-    ensures { result ≡ stored_number words.now places.used }
+    ensures { number_told result ≡ stored_number words.now places.used }
 {
     if places.used != words.len() {
-        return numbers::NO_STORED_BOOK;
+        return Err(Refusal::NoStoredBook);
     }
-    book_check::check_sections(words, places).number
+    check_sections(words, places)
 }
 
-// Reads words into the slice, if they are just the used words of a book: 14, 9, 6, or done, with the whole slice written.
-fn read_words(words: &[u16], book: &mut [u16]) -> Answer
-    ensures { outcome result book.new ≡ read_rest_of (bytes_of words.now) book.old }
+// Reads words into the slice, if they are just the used words of a book, or refuses: 14, 9 or 6.
+fn read_words(words: &[u16], book: &mut [u16]) -> Result<(), Refusal>
+    ensures { outcome (answered (number_told result)) book.new ≡ read_rest_of (bytes_of words.now) book.old }
 {
-    let Ok(places) = book_form::in_form(words) else {
-        return answered(numbers::NO_STORED_BOOK);
+    let Ok(places) = in_form(words) else {
+        return Err(Refusal::NoStoredBook);
     };
-    let number = stored_number(words, places);
-    if number != numbers::DONE {
-        return answered(number);
-    }
+    check_stored(words, places)?;
     if book.len() < words.len() {
-        return answered(numbers::NO_ROOM);
+        return Err(Refusal::NoRoom);
     }
     put_book(words, book);
-    answered(numbers::DONE)
+    Ok(())
 }
 
-// Reads the bytes past the version into the slice: 14, 9, 6, or done, with the whole slice written. The words stand in a scratch of the size of the
-// largest book until nothing can be refused any more.
-fn read_rest(rest: &[u8], book: &mut [u16]) -> Answer
-    ensures { outcome result book.new ≡ read_rest_of rest.now book.old }
+// Reads the bytes past the version into the slice, or refuses: 14, 9 or 6. The words stand in a scratch of the size of the largest book until
+// nothing can be refused any more.
+fn read_rest(rest: &[u8], book: &mut [u16]) -> Result<(), Refusal>
+    ensures { outcome (answered (number_told result)) book.new ≡ read_rest_of rest.now book.old }
 {
     let many = rest.len() / 2;
     if rest.len() % 2 != 0 {
-        return answered(numbers::NO_STORED_BOOK);
+        return Err(Refusal::NoStoredBook);
     }
     if limits::MOST_BOOK_WORDS < many {
-        return answered(numbers::NO_STORED_BOOK);
+        return Err(Refusal::NoStoredBook);
     }
     let mut words = [0u16; limits::MOST_BOOK_WORDS];
-    octets::take_words(rest, &mut words[0..many]);
+    take_words(rest, &mut words[0..many]);
     read_words(&words[0..many], book)
+}
+
+// Reads a stored book into the slice, or refuses: 4, 12, 13, 14, 9 or 6.
+fn try_read(file: &[u8], book: &mut [u16]) -> Result<(), Refusal>
+    ensures { outcome (answered (number_told result)) book.new ≡ read_file_of file.now book.old }
+{
+    if !book::is_book_size(book.len()) {
+        return Err(Refusal::BookSize);
+    }
+    if !is_marked(file) {
+        return Err(Refusal::NoMark);
+    }
+    if word_at(file, MARK_BYTES) != VERSION {
+        return Err(Refusal::OtherVersion);
+    }
+    read_rest(&file[FRONT_BYTES..], book)
 }
 
 // Reads a stored book into the slice: 4, 12, 13, 14, 9, 6, or done, with the whole slice written.
 pub fn read(file: &[u8], book: &mut [u16]) -> Answer
     ensures { outcome result book.new ≡ read_file_of file.now book.old }
 {
-    if !book::is_book_size(book.len()) {
-        return answered(numbers::BOOK_SIZE);
-    }
-    if !is_marked(file) {
-        return answered(numbers::NO_MARK);
-    }
-    if octets::word_at(file, MARK_BYTES) != VERSION {
-        return answered(numbers::OTHER_VERSION);
-    }
-    read_rest(&file[FRONT_BYTES..], book)
+    Answer::from(try_read(file, book))
 }

@@ -3,47 +3,58 @@
 #![tactic(auto)]
 
 ghost use Rattle.std.specs.Prelude.{◌≡◌};
+ghost use Rattle.figures.specs.Answers.{answered};
+ghost use Rattle.figures.specs.Refusals.{number_told};
 ghost use Rattle.book.specs.Holding.{Holds};
 ghost use Rattle.book.specs.Opening.{outcome};
 ghost use Rattle.book_joining.specs.Joining.{join_of};
 
 use book::Places;
-use figures::{Answer, answered, limits, numbers};
+use book_change::add_book;
+use book_check::both_agree;
+use book_form::in_form;
+use figures::{Answer, Refusal, limits};
 
-// Joins a book in form to a book in form.
-fn join_books(book: &mut [u16], places: Places, other: &[u16], others: Places) -> Answer
+// Joins a book in form to a book in form, or refuses: 15, 9, 9, 7 or 6.
+fn join_books(
+    book: &mut [u16],
+    places: Places,
+    other: &[u16],
+    others: Places,
+) -> Result<(), Refusal>
     requires holds { Holds book.old places }
     requires holds_2 { Holds other.now others }
-    ensures { outcome result book.new ≡ join_of book.old other.now }
+    ensures { outcome (answered (number_told result)) book.new ≡ join_of book.old other.now }
 {
-    let k = book[limits::K_WORD];
-    let other_k = other[limits::K_WORD];
-    if k != other_k {
-        return answered(numbers::OTHER_K);
+    if book[limits::K_WORD] != other[limits::K_WORD] {
+        return Err(Refusal::OtherK);
     }
-    if !book_check::both_agree(book, places, other, others) {
-        return answered(numbers::NOT_AGREEING);
+    if !both_agree(book, places, other, others) {
+        return Err(Refusal::NotAgreeing);
     }
     let live = book[limits::LIVE_WORD];
     let more = other[limits::LIVE_WORD];
     if limits::GREATEST_COUNT - more < live {
-        return answered(numbers::TOO_MANY); // of two books that agree with themselves no count is greater than their live teachings
+        return Err(Refusal::TooMany); // of two books that agree with themselves no count is greater than their live teachings
     }
-    if !book_change::add_book(book, places, other, others) {
-        return answered(numbers::NO_ROOM);
+    if !add_book(book, places, other, others) {
+        return Err(Refusal::NoRoom);
     }
-    answered(numbers::DONE)
+    Ok(())
+}
+
+// Joins another book to the book, or refuses: 4, 5, 4, 5, 15, 9, 9, 7 or 6.
+fn try_join(book: &mut [u16], other: &[u16]) -> Result<(), Refusal>
+    ensures { outcome (answered (number_told result)) book.new ≡ join_of book.old other.now }
+{
+    let places = in_form(book)?;
+    let others = in_form(other)?;
+    join_books(book, places, other, others)
 }
 
 // Joins another book to the book: 4, 5, 4, 5, 15, 9, 9, 7, 6, or done, with the whole slice written. The other stays as it is.
 pub fn join(book: &mut [u16], other: &[u16]) -> Answer
     ensures { outcome result book.new ≡ join_of book.old other.now }
 {
-    match book_form::in_form(book) {
-        Err(refusal) => answered(refusal.number()),
-        Ok(places) => match book_form::in_form(other) {
-            Err(refusal) => answered(refusal.number()),
-            Ok(others) => join_books(book, places, other, others),
-        },
-    }
+    Answer::from(try_join(book, other))
 }

@@ -3,62 +3,61 @@
 #![tactic(auto)]
 
 ghost use Rattle.std.specs.Prelude.{◌≡◌};
+ghost use Rattle.figures.specs.Answers.{answered};
+ghost use Rattle.figures.specs.Refusals.{number_told};
 ghost use Rattle.book.specs.Holding.{Holds};
 ghost use Rattle.book.specs.Opening.{outcome};
 ghost use Rattle.book_teaching.specs.Calls.{teach_of, withdraw_of};
 
 use book::{Places, Section};
-use book_change::{Change, Lacking};
-use figures::{Answer, answered, limits, numbers};
+use book_change::{Change, Lacking, change_book, lacking_parts, weigh_book, weigh_section};
+use book_form::in_form;
+use book_list::{OWN_WORDS, list_own};
+use figures::{Answer, Refusal, limits};
+use order_check::{go_over, level_lines};
 
-// Teaches an order to a book in form.
-fn teach_order(book: &mut [u16], places: Places, order: &[u16]) -> Answer
+// Teaches an order to a book in form, or refuses: 1, 2, 7 or 6.
+fn teach_order(book: &mut [u16], places: Places, order: &[u16]) -> Result<(), Refusal>
     requires { Holds book.old places }
-    ensures { outcome result book.new ≡ teach_of book.old order.now }
+    ensures { outcome (answered (number_told result)) book.new ≡ teach_of book.old order.now }
 {
     let mut spans = [0u16; limits::MOST_WORDS];
-    let number = order_check::cause_into(order, &mut spans);
-    if number != numbers::DONE {
-        return answered(number);
-    }
+    let passed = go_over(order, &mut spans)?;
     if book[limits::LIVE_WORD] == limits::GREATEST_COUNT {
-        return answered(numbers::TOO_MANY); // one teaching more would pass 65,535
+        return Err(Refusal::TooMany); // one teaching more would pass 65,535
     }
     let mut levels = [0u8; limits::MOST_NODES];
-    order_check::level_lines(order, &spans, &mut levels);
-    let mut own = [0u16; book_list::OWN_WORDS];
-    let owns = book_list::list_own(order, &spans, &levels, places.k, 1, &mut own);
-    let weighed = book_change::weigh_book(book, places, &own, owns);
+    let lines = level_lines(passed, &mut levels);
+    let mut own = [0u16; OWN_WORDS];
+    let owns = list_own(&lines, places.k, 1, &mut own);
+    let weighed = weigh_book(book, places, &own, owns);
     if weighed.overfull {
-        return answered(numbers::TOO_MANY);
+        return Err(Refusal::TooMany);
     }
     if book.len() - places.used < weighed.lacking {
-        return answered(numbers::NO_ROOM);
+        return Err(Refusal::NoRoom);
     }
-    book_change::change_book(book, places, &own, owns, weighed.each, Change::Teach);
-    answered(numbers::DONE)
+    change_book(book, places, &own, owns, weighed.each, Change::Teach);
+    Ok(())
 }
 
-// Withdraws an order from a book in form.
-fn withdraw_order(book: &mut [u16], places: Places, order: &[u16]) -> Answer
+// Withdraws an order from a book in form, or refuses: 1, 2, 8 or 9.
+fn withdraw_order(book: &mut [u16], places: Places, order: &[u16]) -> Result<(), Refusal>
     requires { Holds book.old places }
-    ensures { outcome result book.new ≡ withdraw_of book.old order.now }
+    ensures { outcome (answered (number_told result)) book.new ≡ withdraw_of book.old order.now }
 {
     let mut spans = [0u16; limits::MOST_WORDS];
-    let cause = order_check::cause_into(order, &mut spans);
-    if cause != numbers::DONE {
-        return answered(cause);
-    }
+    let passed = go_over(order, &mut spans)?;
     let mut levels = [0u8; limits::MOST_NODES];
-    order_check::level_lines(order, &spans, &mut levels);
-    let mut own = [0u16; book_list::OWN_WORDS];
-    let owns = book_list::list_own(order, &spans, &levels, places.k, 1, &mut own);
-    let taught = book_change::weigh_section(book, Section::Taught, places, &own, owns);
+    let lines = level_lines(passed, &mut levels);
+    let mut own = [0u16; OWN_WORDS];
+    let owns = list_own(&lines, places.k, 1, &mut own);
+    let taught = weigh_section(book, Section::Taught, places, &own, owns);
     if 0 < taught.lacking {
-        return answered(numbers::NOT_TAUGHT);
+        return Err(Refusal::NotTaught);
     }
-    if 0 < book_change::lacking_parts(book, places, &own, owns) {
-        return answered(numbers::NOT_AGREEING);
+    if 0 < lacking_parts(book, places, &own, owns) {
+        return Err(Refusal::NotAgreeing);
     }
     // What the book lacks plays no part in withdrawing.
     let unasked = Lacking {
@@ -67,26 +66,36 @@ fn withdraw_order(book: &mut [u16], places: Places, order: &[u16]) -> Answer
         lows: 0,
         middles: 0,
     };
-    book_change::change_book(book, places, &own, owns, unasked, Change::Withdraw);
-    answered(numbers::DONE)
+    change_book(book, places, &own, owns, unasked, Change::Withdraw);
+    Ok(())
+}
+
+// Teaches an order to a book, or refuses: 4, 5, 1, 2, 7 or 6.
+fn try_teach(book: &mut [u16], order: &[u16]) -> Result<(), Refusal>
+    ensures { outcome (answered (number_told result)) book.new ≡ teach_of book.old order.now }
+{
+    let places = in_form(book)?;
+    teach_order(book, places, order)
+}
+
+// Withdraws an order from a book, or refuses: 4, 5, 1, 2, 8 or 9.
+fn try_withdraw(book: &mut [u16], order: &[u16]) -> Result<(), Refusal>
+    ensures { outcome (answered (number_told result)) book.new ≡ withdraw_of book.old order.now }
+{
+    let places = in_form(book)?;
+    withdraw_order(book, places, order)
 }
 
 // Teaches an order: 4, 5, 1, 2, 7, 6, or done, with the whole slice written.
 pub fn teach(book: &mut [u16], order: &[u16]) -> Answer
     ensures { outcome result book.new ≡ teach_of book.old order.now }
 {
-    match book_form::in_form(book) {
-        Err(refusal) => answered(refusal.number()),
-        Ok(places) => teach_order(book, places, order),
-    }
+    Answer::from(try_teach(book, order))
 }
 
 // Withdraws an order: 4, 5, 1, 2, 8, 9, or done, with the whole slice written.
 pub fn withdraw(book: &mut [u16], order: &[u16]) -> Answer
     ensures { outcome result book.new ≡ withdraw_of book.old order.now }
 {
-    match book_form::in_form(book) {
-        Err(refusal) => answered(refusal.number()),
-        Ok(places) => withdraw_order(book, places, order),
-    }
+    Answer::from(try_withdraw(book, order))
 }
