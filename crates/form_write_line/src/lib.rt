@@ -29,11 +29,12 @@ fn put_level(out: &mut [u8], level: usize) -> usize
 {
     if level < 10 {
         out[0] = digit_of(level);
-        return 1;
+        1
+    } else {
+        out[0] = digit_of(level / 10);
+        out[1] = digit_of(level);
+        2
     }
-    out[0] = digit_of(level / 10);
-    out[1] = digit_of(level);
-    2
 }
 
 // Writes a space, a code's four digits and LF to the front of `out`.
@@ -41,15 +42,15 @@ fn put_code(out: &mut [u8], code: u16)
     requires { code_size ≤ length out.old }
     ensures { out.new ≡ over (code_text code) out.old }
 {
-    let n = code as usize;
-    let high = n / 100;
-    let low = n % 100;
-    out[0] = b' ';
-    out[1] = digit_of(high / 10);
-    out[2] = digit_of(high);
-    out[3] = digit_of(low / 10);
-    out[4] = digit_of(low);
-    out[5] = b'\n';
+    let code = usize::from(code);
+    out[..CODE_SIZE].copy_from_slice(&[
+        b' ',
+        digit_of(code / 1000),
+        digit_of(code / 100),
+        digit_of(code / 10),
+        digit_of(code),
+        b'\n',
+    ]);
 }
 
 // Writes a line to the front of `out`, and answers how many bytes it takes.
@@ -58,9 +59,9 @@ pub fn put_line(out: &mut [u8], level: usize, code: u16) -> usize
     ensures took { result ≡ length (line_text (record { level = level; code = code })) }
     ensures wrote { out.new ≡ over (line_text (record { level = level; code = code })) out.old }
 {
-    let w = put_level(out, level);
-    put_code(&mut out[w..], code);
-    w + CODE_SIZE
+    let size = put_level(out, level);
+    put_code(&mut out[size..], code);
+    size + CODE_SIZE
 }
 
 // Writes a line whose level has one digit to the front of `out`.
