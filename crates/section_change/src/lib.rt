@@ -104,8 +104,7 @@ fn raise(part: &mut [u16], by: u16)
     requires { (2 ≤ length part.old) × (get_or part.old 1 0 + by ≤ greatest_count) }
     ensures { part.new ≡ set part.old 1 (get_or part.old 1 0 + by) }
 {
-    let count = part[1];
-    part[1] = count + by;
+    part[1] += by;
 }
 
 // Enters an entry among the `many` at the front of the part, unless one of them has its key. Answers the size then.
@@ -122,11 +121,9 @@ pub fn enter_once(part: &mut [u16], many: usize, used: usize, entry: &[u16]) -> 
     }
     let at = stop.at;
     enter(&mut part[at..], used - at, entry);
-    let grown = used + end;
-    let more = many + 1;
     Size {
-        used: grown,
-        many: more,
+        used: used + end,
+        many: many + 1,
     }
 }
 
@@ -216,8 +213,7 @@ fn lessen(book: &mut [u16], to: usize, kept: usize, at: usize) -> Lessened
     ensures { (book.new ≡ lessened_words to kept at book.old) × (result ≡ lessened_by to kept at book.old) }
 {
     let next = past(book, at);
-    let count = book[at + 1];
-    if count <= 1 {
+    if book[at + 1] <= 1 {
         let end = bring_down(book, to, kept, at);
         return Lessened {
             to: end,
@@ -226,7 +222,7 @@ fn lessen(book: &mut [u16], to: usize, kept: usize, at: usize) -> Lessened
             out: 1,
         };
     }
-    book[at + 1] = count - 1;
+    book[at + 1] -= 1;
     Lessened {
         to,
         kept,
