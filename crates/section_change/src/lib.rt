@@ -62,6 +62,7 @@ pub fn weigh(book: &[u16], many: usize, other: &[u16], more: usize) -> Weighed
     let mut rest = more;
     let mut lacking: usize = 0;
     let mut overfull = false;
+    // Each turn passes an entry of the one row, of the other, or of both: no `for` counts that.
     while 0 < rest {
         let start = from + 2;
         let end = past(other, from);
@@ -175,6 +176,7 @@ pub fn add_all(
     let mut from: usize = 0;
     let mut rest = more;
     let mut count = many;
+    // Each turn passes an entry of the one row, of the other, or of both: no `for` counts that.
     while 0 < rest {
         let start = from + 2;
         let end = past(other, from);
@@ -246,6 +248,7 @@ pub fn lower_all(book: &mut [u16], many: usize, used: usize, other: &[u16], more
     let mut from: usize = 0;
     let mut rest = more;
     let mut count = many;
+    // Each turn passes an entry of the one row, of the other, or of both: no `for` counts that.
     while 0 < rest {
         let start = from + 2;
         let end = past(other, from);
