@@ -5,10 +5,8 @@ use mathlib.Core.List.{List}
 use native.Mathlib.Omega.{arith}
 use lib.ListN.{length, take, drop}
 use Rattle.figures.specs.Limits.{most_words}
-use Rattle.order.specs.Standing.{place_of}
+use Rattle.order.specs.Standing.{Place, Refused, Lacking, At, place_of}
 use Rattle.order.specs.Answers.{Piece, no_piece, subtree_of}
-use Rattle.order.specs.declared.Place.{Place}
-use Rattle.order.specs.declared.Place.TheVariants.{Refused, Lacking, At}
 use Rattle.order.proofs.Lines.{HasLine, placed, StandsAt, stands_at}
 use Rattle.order.proofs.Orders.{two_words}
 use Rattle.order.proofs.Spots.{spot_within, spot_part}

@@ -13,13 +13,13 @@ use Rattle.figures.specs.Numbers.{done}
 use Rattle.order.specs.Trees.{Tree, node, Forest, words, depth, cut, subtrees}
 use Rattle.order.specs.Reading.{found, cause_of}
 use Rattle.order.specs.Parts.{is_low}
-use Rattle.order.specs.Standing.{tree_from, cut_of}
+use Rattle.order.specs.Standing.{tree_from, cut_of, At, place_of}
 use Rattle.order.specs.Levels.{levels_in, LinesLevelled}
 use Rattle.order.specs.Spans.{lines, spans_from, spans_in, GoneOver}
 use Rattle.order.specs.Answers.{tree_at}
 use Rattle.order.proofs.Orders.{size}
 use Rattle.order.proofs.Causes.{Passed, has-tree}
-use Rattle.order.proofs.Lines.{line-spot, from_spot, cut-spot, next-tree, HasLine, StandsAt}
+use Rattle.order.proofs.Lines.{line-spot, from_spot, cut-spot, next-tree, HasLine, placed, StandsAt, stands_at}
 use Rattle.order.proofs.Spots.{two_words-a_line}
 use Rattle.order.proofs.Spanning.{spans-long, lines-subtrees, spans-of}
 use Rattle.order.proofs.Levels.{levels_count, level-within, levels_of_lem}
@@ -86,14 +86,31 @@ module _ (os ss : List ℕ) (over : GoneOver os ss) where
   unfolding is_low
   span-low k line s h e = ap (λ (n : ℕ). leb n (k - 2)) (span-is line s h e).1
 
-  -- What is read of a line that stands at a word.
-  pub stands-span : (line at : ℕ) (h : HasLine os line at) → StandsAt os line at
-      → (at / 2 < length os / 2) × (at / 2 * 2 ≡ at) × (get_or ss (at / 2 * 2) 0 * 2 ≡ at + length (words h.spot.tree)) × (get_or ss (at / 2 * 2 + 1) 0 ≡ depth h.spot.tree)
-  stands-span line at h p =
-      let few : at / 2 < length os / 2 = omega (arith, p.some, p.has, p.word) in
-      let even : at / 2 * 2 ≡ at = omega (arith, p.word) in
-      let here : tree_from os (at / 2 * 2) ≡ found h.spot.tree = ap (tree_from os) even ∙ from_spot os at _ h.spot in
-      (few, even, span-end (at / 2) h.spot.tree few here ∙ ap (λ (n : ℕ). n + length (words h.spot.tree)) even, (span-is (at / 2) h.spot.tree few here).1)
+-- What is known of a line of an order that was found at a word: it stands there, and by its span where its subtree ends and how deep that is.
+pub record FoundLine (os ss : List ℕ) (line at : ℕ) : Type 0 where
+  pub has : HasLine os line at
+  pub stands : StandsAt os line at
+  pub within : at / 2 < length os / 2
+  pub even : at / 2 * 2 ≡ at
+  pub ends : get_or ss (at / 2 * 2) 0 * 2 ≡ at + length (words has.spot.tree)
+  pub deep : get_or ss (at / 2 * 2 + 1) 0 ≡ depth has.spot.tree
+
+-- So it is where a call has found it, for the order that was gone over.
+pub found-line : (os ss : List ℕ) (line at : ℕ) → GoneOver os ss → At at ≡ place_of os line → FoundLine os ss line at
+found-line os ss line at over e =
+    let h : HasLine os line at = placed os line (At at) (At at) e refl in
+    let p : StandsAt os line at = stands_at os line at (sym e) in
+    let few : at / 2 < length os / 2 = omega (arith, p.some, p.has, p.word) in
+    let even : at / 2 * 2 ≡ at = omega (arith, p.word) in
+    let here : tree_from os (at / 2 * 2) ≡ found h.spot.tree = ap (tree_from os) even ∙ from_spot os at _ h.spot in
+    record {
+      has = h;
+      stands = p;
+      within = few;
+      even = even;
+      ends = span-end os ss over (at / 2) h.spot.tree few here ∙ ap (λ (n : ℕ). n + length (words h.spot.tree)) even;
+      deep = (span-is os ss over (at / 2) h.spot.tree few here).1;
+    }
 
 -- ---- the levels
 

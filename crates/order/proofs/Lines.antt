@@ -13,10 +13,8 @@ use Rattle.figures.specs.Limits.{most_words}
 use Rattle.figures.specs.Numbers.{done}
 use Rattle.order.specs.Trees.{Tree, node, words, cut, Good, subtrees}
 use Rattle.order.specs.Reading.{by_found, TreeFound, missing, found, refused, order, by_order, order_of, cause_of}
-use Rattle.order.specs.Standing.{first_tree, tree_from, cut_of, line_place, place_of}
+use Rattle.order.specs.Standing.{first_tree, tree_from, cut_of, Place, Refused, Lacking, At, line_place, place_of}
 use Rattle.order.specs.Answers.{tree_at, tree_of_line}
-use Rattle.order.specs.declared.Place.{Place}
-use Rattle.order.specs.declared.Place.TheVariants.{Refused, Lacking, At}
 use Rattle.order.proofs.Reading.{not_found, complete, reads_none}
 use Rattle.order.proofs.Orders.{size}
 use Rattle.order.proofs.Cutting.{subtree-good}

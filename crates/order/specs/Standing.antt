@@ -1,11 +1,9 @@
 -- Inner: no promise rests on these definitions.
 -- What stands at a word of an order, by the trees: a tree, its cut, a line. Assumes nothing: these are definitions.
-use Rattle.std.specs.Prelude.{List, [], ℕ, zero, suc, ◌*◌, ltb, length, drop}
+use Rattle.std.specs.Prelude.{List, [], ℕ, zero, suc, ◌*◌, ltb, length, drop, None, Option, Some}
 use Rattle.words.specs.Base.{when◌then◌else◌}
 use Rattle.order.specs.Trees.{bare, cons, words, cut, subtrees}
 use Rattle.order.specs.Reading.{Reading, broken, read, read_trees, TreeFound, missing, found, by_found, by_order, order_of}
-use Rattle.order.specs.declared.Place.{Place}
-use Rattle.order.specs.declared.Place.TheVariants.{Refused, Lacking, At}
 
 -- The first tree of what was read.
 unfoldable pub first_tree : Reading → TreeFound
@@ -20,6 +18,17 @@ tree_from ws at = first_tree (read_trees (drop at ws) 1)
 -- The words of the cut at d of the tree at a word; none where there is no tree.
 unfoldable pub cut_of : List ℕ → ℕ → ℕ → List ℕ
 cut_of ws at d = by_found (tree_from ws at) [] (λ t. words (cut t d))
+
+-- Where a line of an order stands.
+pub data Place : Type 0 where
+  Refused : ℕ → Place
+  Lacking : Place
+  At : ℕ → Place
+
+-- The place that is told of an order that passes: the word at which the line was found, if any.
+abbrev pub place_told : Option ℕ → Place
+place_told None = Lacking
+place_told (Some at) = At at
 
 -- A line of an order stands at a word; line i + 1 stands at word 2 i.
 unfoldable pub line_place : ℕ → ℕ → Place

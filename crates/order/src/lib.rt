@@ -18,14 +18,6 @@ pub struct Popped {
     pub depth: usize,
 }
 
-// Where a line of an order stands.
-#[derive(Clone, Copy)]
-pub enum Place {
-    Refused(u16),
-    Lacking,
-    At(usize),
-}
-
 // The kind of part that a line stands for.
 #[derive(Clone, Copy)]
 pub enum Kind {

@@ -4,36 +4,23 @@
 
 ghost use Rattle.std.specs.Prelude.{◌≡◌, ◌+◌, ◌*◌, ◌/◌, ◌≤◌, ◌<◌, length, get_or, leb};
 ghost use Rattle.words.specs.Base.{over, when◌then◌else◌, same_words};
-ghost use Rattle.figures.specs.Limits.{most_words};
-ghost use Rattle.figures.specs.Numbers.{done};
-ghost use Rattle.order.specs.Reading.{cause_of};
-ghost use Rattle.order.specs.Levels.{LinesLevelled};
-ghost use Rattle.order.specs.Spans.{GoneOver};
-ghost use Rattle.order.specs.Standing.{cut_of, place_of};
+ghost use Rattle.figures.specs.Answers.{wrote};
+ghost use Rattle.figures.specs.Refusals.{number_told, count_told};
+ghost use Rattle.order.specs.Standing.{cut_of, place_told, place_of};
 ghost use Rattle.order.specs.Answers.{subtree_of, piece_at, writing, write, cut_into_of};
 
-use figures::{Written, limits, numbers, wrote};
-use order::Place;
+use figures::{Refusal, Written, limits};
+use order_check::{Lines, Order, go_over, level_lines};
 
-// Where a line of an order stands; and the spans of the order's lines, at the front of `spans`.
-pub fn find_line(order: &[u16], line: usize, spans: &mut [u16]) -> Place
-    requires { most_words ≤ length spans.old }
-    ensures came { result ≡ place_of order.now line }
-    ensures listed { cause_of order.now ≡ done → GoneOver order.now spans.new }
-    ensures kept { length spans.new ≡ length spans.old }
+// The word at which a line of an order stands, the lines counted from 1, if the order has it.
+pub fn find_line(order: &Order, line: usize) -> Option<usize>
+    ensures { place_told result ≡ place_of order.now.words.now line }
 {
-    let number = order_check::cause_into(order, spans);
-    if number != numbers::DONE {
-        return Place::Refused(number);
-    }
-    if line == 0 {
-        return Place::Lacking;
-    }
-    if order.len() / 2 < line {
-        return Place::Lacking;
+    if line == 0 || order.words.len() / 2 < line {
+        return None;
     }
     let at = (line - 1) * 2;
-    Place::At(at)
+    Some(at)
 }
 
 // The line past the subtree of a line, both counted from 0, by the spans of an order's lines.
@@ -41,8 +28,7 @@ pub fn line_end(spans: &[u16], line: usize) -> usize
     requires { line * 2 < length spans.now }
     ensures { result ≡ get_or spans.now (line * 2) 0 }
 {
-    let end = spans[line * 2];
-    end as usize
+    usize::from(spans[line * 2])
 }
 
 // The subtree of a line, counted from 1, as that part of the order; an empty part for an order with a cause of 1 or 2 and for a line
@@ -51,14 +37,14 @@ pub fn subtree(order: &[u16], line: usize) -> &[u16]
     ensures { (result.ref_ptr, result.now) ≡ piece_at order.entry.ref_ptr (subtree_of order.now line) }
 {
     let mut spans = [0u16; limits::MOST_WORDS];
-    match find_line(order, line, &mut spans) {
-        Place::Refused(_) => &order[0..0],
-        Place::Lacking => &order[0..0],
-        Place::At(at) => {
-            let end = line_end(&spans, at / 2) * 2;
-            &order[at..end]
-        }
-    }
+    let Ok(passed) = go_over(order, &mut spans) else {
+        return &order[0..0];
+    };
+    let Some(at) = find_line(&passed, line) else {
+        return &order[0..0];
+    };
+    let end = line_end(passed.spans, at / 2) * 2;
+    &order[at..end]
 }
 
 // What a node at a depth keeps of its number of children in a cut at d: none at depth d.
@@ -69,111 +55,97 @@ fn kept_children(below: usize, d: usize, children: u16) -> u16
 }
 
 // The line that is written next in a cut at d behind a line at a depth: of what is below a line at depth d none is written.
-fn next_line(spans: &[u16], line: usize, below: usize, d: usize) -> usize
-    requires { line * 2 < length spans.now }
-    ensures { result ≡ (when leb d below then get_or spans.now (line * 2) 0 else line + 1) }
+fn next_line(order: &Order, line: usize, below: usize, d: usize) -> usize
+    requires { line < length order.now.words.now / 2 }
+    ensures { result ≡ (when leb d below then get_or order.now.spans.now (line * 2) 0 else line + 1) }
 {
     if d <= below {
-        return line_end(spans, line);
+        return line_end(order.spans, line);
     }
     line + 1
 }
 
-// Writes the cut at d of the subtree of a line, the lines counted from 0, to the front of `out`, which has room for it, by the spans and the
-// levels of the order's lines. Answers its number of words.
-pub fn put_cut(
-    order: &[u16],
-    spans: &[u16],
-    levels: &[u8],
-    line: usize,
-    d: usize,
-    out: &mut [u16],
-) -> usize
-    requires gone_over { GoneOver order.now spans.now }
-    requires lines_levelled { LinesLevelled order.now levels.now }
-    requires line_in_bounds { line < length order.now / 2 }
-    requires d_in_bounds { length (cut_of order.now (line * 2) d) ≤ length out.old }
-    ensures came { result ≡ length (cut_of order.now (line * 2) d) }
-    ensures wrote { out.new ≡ over (cut_of order.now (line * 2) d) out.old }
+// Writes the cut at d of the subtree of a line, the lines counted from 0, to the front of `out`, which has room for it. Answers its number of words.
+pub fn put_cut(lines: &Lines, line: usize, d: usize, out: &mut [u16]) -> usize
+    requires line_in_bounds { line < length lines.now.order.words.now / 2 }
+    requires d_in_bounds { length (cut_of lines.now.order.words.now (line * 2) d) ≤ length out.old }
+    ensures came { result ≡ length (cut_of lines.now.order.words.now (line * 2) d) }
+    ensures wrote { out.new ≡ over (cut_of lines.now.order.words.now (line * 2) d) out.old }
 {
+    let Lines { order, levels } = lines;
     let own = levels[line];
-    let end = line_end(spans, line);
+    let end = line_end(order.spans, line);
     let mut at = line;
     let mut count: usize = 0;
+    // A turn finds the next turn's line: no range has these.
     while at < end {
-        let level = levels[at];
-        let below = (level - own) as usize;
-        out[count] = order[at * 2];
-        out[count + 1] = kept_children(below, d, order[at * 2 + 1]);
-        at = next_line(spans, at, below, d);
+        let below = usize::from(levels[at] - own);
+        out[count] = order.words[at * 2];
+        out[count + 1] = kept_children(below, d, order.words[at * 2 + 1]);
+        at = next_line(order, at, below, d);
         count += 2;
     }
     count
 }
 
-// Whether the cut at d of the subtree of a line, the lines counted from 0, has the words of a tree, by the spans and the levels of the order's
-// lines. Left at the first word that differs; nothing is written.
-pub fn is_cut(
-    order: &[u16],
-    spans: &[u16],
-    levels: &[u8],
-    line: usize,
-    d: usize,
-    tree: &[u16],
-) -> bool
-    requires gone_over { GoneOver order.now spans.now }
-    requires lines_levelled { LinesLevelled order.now levels.now }
-    requires line_in_bounds { line < length order.now / 2 }
-    ensures { result ≡ same_words (cut_of order.now (line * 2) d) tree.now }
+// Whether the cut at d of the subtree of a line, the lines counted from 0, has the words of a tree. Left at the first word that differs; nothing
+// is written.
+pub fn is_cut(lines: &Lines, line: usize, d: usize, tree: &[u16]) -> bool
+    requires { line < length lines.now.order.words.now / 2 }
+    ensures { result ≡ same_words (cut_of lines.now.order.words.now (line * 2) d) tree.now }
 {
+    let Lines { order, levels } = lines;
     let own = levels[line];
-    let end = line_end(spans, line);
+    let end = line_end(order.spans, line);
     let mut at = line;
     let mut count: usize = 0;
+    // A turn finds the next turn's line: no range has these.
     while at < end {
-        if tree.len() - count < 2 {
+        if tree.len() - count < 2 || order.words[at * 2] != tree[count] {
             return false;
         }
-        if order[at * 2] != tree[count] {
+        let under = usize::from(levels[at] - own);
+        if kept_children(under, d, order.words[at * 2 + 1]) != tree[count + 1] {
             return false;
         }
-        let level = levels[at];
-        let under = (level - own) as usize;
-        if kept_children(under, d, order[at * 2 + 1]) != tree[count + 1] {
-            return false;
-        }
-        at = next_line(spans, at, under, d);
+        at = next_line(order, at, under, d);
         count += 2;
     }
     count == tree.len()
 }
 
-// Writes the cut at d of the subtree of a line, the lines counted from 0, to the front of `out`, or answers 11 where it has no room. How long it
-// is shows where it is written to a scratch first.
-pub fn cut_line(order: &[u16], spans: &[u16], line: usize, d: usize, out: &mut [u16]) -> Written
-    requires gone_over { GoneOver order.now spans.now }
-    requires line_in_bounds { line < length order.now / 2 }
-    ensures { writing result out.new ≡ write (cut_of order.now (line * 2) d) out.old }
+// Writes the cut at d of the subtree of a line, the lines counted from 0, to the front of `out`, or refuses with 11 where it has no room. It is
+// written to a scratch first, which shows how long it is. Answers its number of words.
+pub fn cut_line(order: Order, line: usize, d: usize, out: &mut [u16]) -> Result<usize, Refusal>
+    requires { line < length order.words.now / 2 }
+    ensures { writing (wrote (number_told result) (count_told result)) out.new ≡ write (cut_of order.entry.words.now (line * 2) d) out.old }
 {
     let mut levels = [0u8; limits::MOST_NODES];
-    order_check::level_lines(order, spans, &mut levels);
+    let lines = level_lines(order, &mut levels);
     let mut cut = [0u16; limits::MOST_WORDS];
-    let count = put_cut(order, spans, &levels, line, d, &mut cut);
+    let count = put_cut(&lines, line, d, &mut cut);
     if out.len() < count {
-        return wrote(numbers::SHORT_OUTPUT, 0);
+        return Err(Refusal::ShortOutput);
     }
-    put_cut(order, spans, &levels, line, d, out);
-    wrote(numbers::DONE, count)
+    out[..count].copy_from_slice(&cut[..count]);
+    Ok(count)
+}
+
+// Writes the cut at d of the subtree of a line to the front of `out`, and answers its number of words: none for a line that the order lacks.
+fn try_cut(order: &[u16], line: usize, d: usize, out: &mut [u16]) -> Result<usize, Refusal>
+    ensures { writing (wrote (number_told result) (count_told result)) out.new ≡ cut_into_of order.now line d out.old }
+{
+    let mut spans = [0u16; limits::MOST_WORDS];
+    let passed = go_over(order, &mut spans)?;
+    match find_line(&passed, line) {
+        Some(at) => cut_line(passed, at / 2, d, out),
+        None => Ok(0),
+    }
 }
 
 // Writes the cut at d of the subtree of a line to the front of `out`; nothing for a line that the order lacks.
 pub fn cut_into(order: &[u16], line: usize, d: usize, out: &mut [u16]) -> Written
     ensures { writing result out.new ≡ cut_into_of order.now line d out.old }
 {
-    let mut spans = [0u16; limits::MOST_WORDS];
-    match find_line(order, line, &mut spans) {
-        Place::Refused(number) => wrote(number, 0),
-        Place::Lacking => wrote(numbers::DONE, 0),
-        Place::At(at) => cut_line(order, &spans, at / 2, d, out),
-    }
+    Written::from(try_cut(order, line, d, out))
 }

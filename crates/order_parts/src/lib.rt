@@ -1,22 +1,22 @@
 // The part that a line of an order stands for at k, by the depth of its uncut subtree. Assumes nothing beyond the `requires` of an inner function.
 #![tactic(auto)]
 
-ghost use Rattle.std.specs.Prelude.{◌≡◌, ◌+◌, ◌-◌, ◌*◌, ◌<◌, leb, length, get_or};
+ghost use Rattle.std.specs.Prelude.{◌≡◌, ◌+◌, ◌-◌, ◌*◌, ◌/◌, ◌<◌, leb, length, get_or};
 ghost use Rattle.words.specs.Base.{when◌then◌else◌};
 ghost use Rattle.order.specs.Answers.{no_part, part_writing, part_into_of};
 ghost use Rattle.order.specs.declared.Kind.TheVariants.{Low, Middle};
 
-use figures::{Depth, limits, numbers, wrote};
-use order::{Kind, PartWritten, Place};
+use figures::{Depth, Written, limits, numbers, wrote};
+use order::{Kind, PartWritten};
+use order_check::go_over;
+use order_cuts::{cut_line, find_line};
 
 // Whether a line, counted from 0, stands for a low part at k, by the spans of the order's lines: its subtree is at most k-2 deep.
 pub fn is_low(spans: &[u16], line: usize, k: Depth) -> bool
     requires { line * 2 + 1 < length spans.now }
     ensures { result ≡ leb (get_or spans.now (line * 2 + 1) 0) (k.k - 2) }
 {
-    let deepest = k.of_tops();
-    let depth = spans[line * 2 + 1] as usize;
-    depth <= deepest
+    usize::from(spans[line * 2 + 1]) <= k.of_tops()
 }
 
 // A number, and no part.
@@ -42,13 +42,14 @@ pub fn part_into(order: &[u16], line: usize, k: Depth, out: &mut [u16]) -> PartW
     ensures { part_writing result out.new ≡ part_into_of order.now line k.k out.old }
 {
     let mut spans = [0u16; limits::MOST_WORDS];
-    match order_cuts::find_line(order, line, &mut spans) {
-        Place::Refused(number) => no_part(number),
-        Place::Lacking => no_part(numbers::DONE),
-        Place::At(at) => {
-            let kind = kind_of(is_low(&spans, at / 2, k));
-            let written = order_cuts::cut_line(order, &spans, at / 2, k.of_middles(), out);
-            PartWritten { kind, written }
-        }
-    }
+    let passed = match go_over(order, &mut spans) {
+        Ok(passed) => passed,
+        Err(refusal) => return no_part(refusal.number()),
+    };
+    let Some(at) = find_line(&passed, line) else {
+        return no_part(numbers::DONE);
+    };
+    let kind = kind_of(is_low(passed.spans, at / 2, k));
+    let written = Written::from(cut_line(passed, at / 2, k.of_middles(), out));
+    PartWritten { kind, written }
 }

@@ -17,9 +17,8 @@ use Rattle.order.specs.Causes.{Cause}
 use Rattle.order.specs.Fits.{IsOrder}
 use Rattle.order.specs.Parts.{is_low, middle, part_of}
 use Rattle.order.specs.Answers.{check_of, tree_of_line, Piece, piece, no_piece, subtree_of, Writing, writing, refuse, write, cut_into_of, PartWriting, part_writing, no_part, of_kind, part_into_of}
-use Rattle.order.specs.Standing.{place_of}
+use Rattle.order.specs.Standing.{Lacking, At, place_of}
 use Rattle.order.specs.declared.Kind.TheVariants.{Low, Middle}
-use Rattle.order.specs.declared.Place.TheVariants.{Lacking, At}
 use Rattle.order.proofs.Orders.{size}
 use Rattle.order.proofs.Causes.{cause_is, cause_only, Seen, stopped, passed, seen, refused-by}
 use Rattle.order.proofs.Fitting.{passed-order, order-read}
