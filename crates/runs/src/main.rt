@@ -13,13 +13,20 @@ mod kinds;
 mod orders;
 mod stored;
 
+use std::env::{Env, FillError};
 use std::io;
 
-// Runs each file that the arguments name.
+// The bytes that a name may have; a longer one counts as empty.
+const MOST_NAME: usize = 64;
+
+// Runs each file that the arguments name. They are taken one by one, since `env::args` answers none where one is not UTF-8.
 fn main(rt: HostRuntime) -> io::Result<()> {
+    let mut name = [0u8; MOST_NAME];
     for i in 1..usize::MAX {
-        if !input::argument(&rt, i)? {
-            break;
+        match rt.arg(i, &mut name) {
+            Ok(n) => input::run(&rt, &name[..n])?,
+            Err(FillError::TooLong) => input::run(&rt, b"")?,
+            Err(FillError::NotPresent) => break,
         }
     }
     Ok(())
