@@ -17,7 +17,7 @@ use runs_kit::fault::Fault;
 use runs_kit::kept::{self, Kept};
 use runs_kit::say::Slice;
 use runs_kit::{mark, say};
-use std::fmt::{Display, Formatter, Result as Said, Write};
+use std::fmt;
 
 // Runs a case of `form`: says the k of the book, the places where its sections R, L and P start, and its words used, or why it is none.
 pub fn form(rt: &impl Print, given: &[u16]) -> Result<(), Fault> {
@@ -39,8 +39,8 @@ pub fn form(rt: &impl Print, given: &[u16]) -> Result<(), Fault> {
 #[derive(Clone, Copy)]
 struct State<'a>(&'a [u16]);
 
-impl Display for State<'_> {
-    fn fmt<W: Write>(&self, f: &mut Formatter<W>) -> Said {
+impl fmt::Display for State<'_> {
+    fn fmt<W: fmt::Write>(&self, f: &mut fmt::Formatter<W>) -> fmt::Result {
         let used = self.0.get(1).copied().unwrap_or(0);
         write!(f, "{used} used, mark {}", mark::of(self.0))
     }
@@ -60,7 +60,7 @@ pub fn open(rt: &(impl Print + AllocGlobal), given: &[u16], kept: &mut Kept) -> 
 
 // Runs a case of `lay`: says how many words there are, and how the book stands.
 pub fn lay(rt: &(impl Print + AllocGlobal), given: &[u16], kept: &mut Kept) -> Result<(), Fault> {
-    kept.book = kept::book(rt.alloc(), given)?;
+    kept.keep_book(rt.alloc(), given)?;
     print!(rt; "{} words, {}", given.len(), State(given))?;
     Ok(())
 }
@@ -114,11 +114,11 @@ pub fn ask(rt: &impl Print, order: &[u16], kept: &Kept) -> Result<(), Fault> {
 
 // Runs a case of `choose`: says the answer, the image, and how the book stands.
 pub fn choose(rt: &impl Print, given: &[u16], kept: &Kept) -> Result<(), Fault> {
-    let &[count, ref words @ ..] = given else {
+    let [count, words @ ..] = given else {
         return Err(Fault::NotUnderstood);
     };
     let (order, rules) = words
-        .split_at_checked(usize::from(count))
+        .split_at_checked(usize::from(*count))
         .ok_or(Fault::NotUnderstood)?;
     let chosen = ofb::ofb_choose(&kept.book, order, rules);
     print!(rt;

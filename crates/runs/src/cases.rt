@@ -14,7 +14,7 @@ fn case(
     behind: Option<&[u8]>,
     kept: &mut Kept,
 ) -> Result<(), Fault> {
-    let kind = Kind::of_name(name).ok_or(Fault::NotUnderstood)?;
+    let kind = Kind::from_name(name).ok_or(Fault::NotUnderstood)?;
     let given = || line::words(rt.alloc(), behind);
     match kind {
         Kind::Check => orders::check(rt, &given()?),

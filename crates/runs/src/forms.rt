@@ -4,6 +4,7 @@
 //   back TEXT            the text is read and written back
 //   there W W ..         the order of these words is written and read back
 // All calls are made through the functions for C (`ofb`).
+use figures::Written;
 use figures::numbers::DONE;
 use ofb::OfbAnswer;
 use runs_kit::fault::Fault;
@@ -14,7 +15,8 @@ use runs_kit::{line, say};
 pub fn read(rt: &(impl Print + AllocGlobal), behind: Option<&[u8]>) -> Result<(), Fault> {
     let (room, spelt) = line::split(behind.ok_or(Fault::NotUnderstood)?);
     let room = line::number(room).ok_or(Fault::NotUnderstood)?;
-    let mut out = vec![in rt.alloc(); HELD; line::room(room, MOST)?]?;
+    let room = line::room(usize::from(room), MOST)?;
+    let mut out = vec![in rt.alloc(); HELD; room]?;
     let text = line::text(rt.alloc(), spelt)?;
     let answer = ofb::ofb_read_text(&text, &mut out);
     lent::words(rt, told(answer), &out)?;
@@ -23,21 +25,22 @@ pub fn read(rt: &(impl Print + AllocGlobal), behind: Option<&[u8]>) -> Result<()
 
 // Runs a case of `write`: writes the order to an output, and says what came of it.
 pub fn write(rt: &(impl Print + AllocGlobal), given: &[u16]) -> Result<(), Fault> {
-    let &[room, ref order @ ..] = given else {
+    let [room, order @ ..] = given else {
         return Err(Fault::NotUnderstood);
     };
-    let mut out = vec![in rt.alloc(); HELD_BYTE; line::room(room, MOST)?]?;
+    let room = line::room(usize::from(*room), MOST)?;
+    let mut out = vec![in rt.alloc(); HELD_BYTE; room]?;
     let answer = ofb::ofb_write_text(order, &mut out);
     lent::text(rt, told(answer), &out)?;
     Ok(())
 }
 
 // An answer of a function for C, as it is said.
-pub fn told(answer: OfbAnswer) -> lent::Answer {
-    lent::Answer {
+pub fn told(answer: OfbAnswer) -> Written {
+    Written {
         number: answer.number,
         line: usize::from(answer.line),
-        written: answer.written as usize,
+        count: answer.written as usize,
     }
 }
 

@@ -41,7 +41,7 @@ pub enum Kind {
 
 impl Kind {
     // The kind of that name, if there is one.
-    pub fn of_name(name: &[u8]) -> Option<Kind> {
+    pub fn from_name(name: &[u8]) -> Option<Kind> {
         let kind = match name {
             b"check" => Kind::Check,
             b"k" => Kind::K,

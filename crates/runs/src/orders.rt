@@ -30,10 +30,10 @@ pub fn k(rt: &impl Print, given: &[u16]) -> Result<(), Fault> {
 
 // Runs a case of `subtree`: says the tree at the place that is answered, or that this is no place in the order.
 pub fn subtree(rt: &impl Print, given: &[u16]) -> Result<(), Fault> {
-    let &[line, ref order @ ..] = given else {
+    let [line, order @ ..] = given else {
         return Err(Fault::NotUnderstood);
     };
-    let part = ofb::ofb_subtree(order, usize::from(line));
+    let part = ofb::ofb_subtree(order, usize::from(*line));
     let start = part.start as usize;
     match order.get(start..start + part.words as usize) {
         Some(words) => print!(rt; "{}", Tree(words))?,
@@ -44,17 +44,13 @@ pub fn subtree(rt: &impl Print, given: &[u16]) -> Result<(), Fault> {
 
 // Runs a case of `cut`: writes the cut at d of a line to an output, and says what came of it.
 pub fn cut(rt: &(impl Print + AllocGlobal), given: &[u16]) -> Result<(), Fault> {
-    let &[line, d, room, ref order @ ..] = given else {
+    let [line, d, room, order @ ..] = given else {
         return Err(Fault::NotUnderstood);
     };
-    let mut out = vec![in rt.alloc(); HELD; line::room(room, MOST)?]?;
-    let written = order_cuts::cut_into(order, usize::from(line), usize::from(d), &mut out);
-    let answer = lent::Answer {
-        number: written.number,
-        line: written.line,
-        written: written.count,
-    };
-    lent::tree(rt, answer, &out)?;
+    let room = line::room(usize::from(*room), MOST)?;
+    let mut out = vec![in rt.alloc(); HELD; room]?;
+    let written = order_cuts::cut_into(order, usize::from(*line), usize::from(*d), &mut out);
+    lent::tree(rt, written, &out)?;
     Ok(())
 }
 
@@ -69,21 +65,16 @@ fn named(kind: Kind) -> &'static str {
 
 // Runs a case of `part`: writes the part of a line to an output, and says what came of it.
 pub fn part(rt: &(impl Print + AllocGlobal), given: &[u16]) -> Result<(), Fault> {
-    let &[line, k, room, ref order @ ..] = given else {
+    let [line, k, room, order @ ..] = given else {
         return Err(Fault::NotUnderstood);
     };
-    let Asked::Allowed(k) = Depth::new(k) else {
+    let Asked::Allowed(k) = Depth::new(*k) else {
         return Err(Fault::NotUnderstood);
     };
-    let mut out = vec![in rt.alloc(); HELD; line::room(room, MOST)?]?;
-    let found = order_parts::part_into(order, usize::from(line), k, &mut out);
+    let room = line::room(usize::from(*room), MOST)?;
+    let mut out = vec![in rt.alloc(); HELD; room]?;
+    let found = order_parts::part_into(order, usize::from(*line), k, &mut out);
     print!(rt; "{}, ", named(found.kind))?;
-    let written = found.written;
-    let answer = lent::Answer {
-        number: written.number,
-        line: written.line,
-        written: written.count,
-    };
-    lent::tree(rt, answer, &out)?;
+    lent::tree(rt, found.written, &out)?;
     Ok(())
 }

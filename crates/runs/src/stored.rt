@@ -19,23 +19,18 @@ use runs_kit::kept::{self, BEFORE, Kept, MOST_FILE};
 use runs_kit::lent::{self, HELD_BYTE};
 use runs_kit::say::Slice;
 use runs_kit::{line, say};
-use std::fmt::{Display, Formatter, Result as Said, Write};
-use std::mem;
+use std::{fmt, mem};
 
 // Runs a case of `file`, and says how many bytes the file has.
 pub fn file(rt: &(impl Print + AllocGlobal), given: &[u16], kept: &mut Kept) -> Result<(), Fault> {
-    kept.file = kept::bytes(rt.alloc(), given)?;
+    kept.keep_file(rt.alloc(), given)?;
     print!(rt; "{} bytes", kept.file.len())?;
     Ok(())
 }
 
 // Runs a case of `more`, and says how many bytes the file has then.
 pub fn more(rt: &(impl Print + AllocGlobal), given: &[u16], kept: &mut Kept) -> Result<(), Fault> {
-    let more = kept::bytes(rt.alloc(), given)?;
-    if MOST_FILE < kept.file.len() + more.len() {
-        return Err(Fault::NotUnderstood);
-    }
-    kept.file.extend_from_slice(&more)?;
+    kept.add_to_file(rt.alloc(), given)?;
     print!(rt; "{} bytes", kept.file.len())?;
     Ok(())
 }
@@ -62,11 +57,12 @@ pub fn store(rt: &(impl Print + AllocGlobal), given: &[u16], kept: &mut Kept) ->
     let &[room] = given else {
         return Err(Fault::NotUnderstood);
     };
-    let mut out = vec![in rt.alloc(); HELD_BYTE; line::room(room, MOST_FILE)?]?;
-    let answer = forms::told(ofb::ofb_write_file(&kept.book, &mut out));
-    lent::bytes(rt, answer, &out)?;
-    if (1..=out.len()).contains(&answer.written) {
-        out.truncate(answer.written);
+    let room = line::room(usize::from(room), MOST_FILE)?;
+    let mut out = vec![in rt.alloc(); HELD_BYTE; room]?;
+    let written = forms::told(ofb::ofb_write_file(&kept.book, &mut out));
+    lent::bytes(rt, written, &out)?;
+    if (1..=out.len()).contains(&written.count) {
+        out.truncate(written.count);
         kept.file = out;
     }
     Ok(())
@@ -130,8 +126,8 @@ enum Stopped {
     MoreThanLent,
 }
 
-impl Display for Stopped {
-    fn fmt<W: Write>(&self, f: &mut Formatter<W>) -> Said {
+impl fmt::Display for Stopped {
+    fn fmt<W: fmt::Write>(&self, f: &mut fmt::Formatter<W>) -> fmt::Result {
         match self {
             Stopped::WritingRefused(number) => write!(f, "writing refused by {number}"),
             Stopped::ReadingRefused(number) => write!(f, "reading refused by {number}"),
@@ -204,7 +200,7 @@ pub fn swap(rt: &impl Print, given: &[u16], kept: &mut Kept) -> Result<(), Fault
     let [] = given else {
         return Err(Fault::NotUnderstood);
     };
-    mem::swap(&mut kept.book, &mut kept.other);
+    kept.swap_books();
     print!(rt; "done")?;
     Ok(())
 }

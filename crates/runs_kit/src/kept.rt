@@ -3,17 +3,18 @@ use crate::fault::Fault;
 use crate::line;
 use figures::limits;
 use std::alloc::Global;
+use std::mem;
 
 // The bytes that a kept file may have: more than the file of the largest book has.
 pub const MOST_FILE: usize = 32800;
 
 // The words that a kept book may have: one more than the largest has.
-pub const MOST_BOOK: usize = limits::MOST_BOOK_WORDS + 1;
+const MOST_BOOK: usize = limits::MOST_BOOK_WORDS + 1;
 
 // What every word of a slice holds before a book is opened in it or read into it.
 pub const BEFORE: u16 = 9;
 
-// What is kept: the book and the file of which the cases speak, and the other book, with which the first changes places.
+// What is kept: the book and the file of which the cases speak, and another book.
 #[derive(Drop)]
 pub struct Kept {
     pub book: Vec<u16>,
@@ -30,28 +31,44 @@ impl Kept {
             file: Vec::new(alloc),
         }
     }
-}
 
-// The words of a book that is to be kept.
-pub fn book(alloc: Global, words: &[u16]) -> Result<Vec<u16>, Fault> {
-    if MOST_BOOK < words.len() {
-        return Err(Fault::NotUnderstood);
+    // Keeps words as the book, if it may have so many.
+    pub fn keep_book(&mut self, alloc: Global, words: &[u16]) -> Result<(), Fault> {
+        line::room(words.len(), MOST_BOOK)?;
+        self.book = words.to_vec(alloc)?;
+        Ok(())
     }
-    Ok(words.to_vec(alloc)?)
-}
 
-// A slice of so many words, in which a book is to be opened or to which one is to be read.
-pub fn slice(alloc: Global, room: u16) -> Result<Vec<u16>, Fault> {
-    Ok(vec![in alloc; BEFORE; line::room(room, MOST_BOOK)?]?)
-}
-
-// The bytes that these words are, if each is one and a file may have so many.
-pub fn bytes(alloc: Global, words: &[u16]) -> Result<Vec<u8>, Fault> {
-    if MOST_FILE < words.len() {
-        return Err(Fault::NotUnderstood);
+    // Keeps the bytes that these words are as the file, if each is one and the file may have so many.
+    pub fn keep_file(&mut self, alloc: Global, words: &[u16]) -> Result<(), Fault> {
+        line::room(words.len(), MOST_FILE)?;
+        self.file = bytes(alloc, words)?;
+        Ok(())
     }
+
+    // Puts the bytes that these words are behind those of the file, likewise.
+    pub fn add_to_file(&mut self, alloc: Global, words: &[u16]) -> Result<(), Fault> {
+        line::room(self.file.len() + words.len(), MOST_FILE)?;
+        self.file.extend_from_slice(&bytes(alloc, words)?)?;
+        Ok(())
+    }
+
+    // Lets the two books change places.
+    pub fn swap_books(&mut self) {
+        mem::swap(&mut self.book, &mut self.other);
+    }
+}
+
+// The bytes that these words are.
+fn bytes(alloc: Global, words: &[u16]) -> Result<Vec<u8>, Fault> {
     words
         .iter()
         .map(|word| u8::try_from(*word).map_err(|_| Fault::NotUnderstood))
         .try_collect(alloc)
+}
+
+// A slice of so many words, in which a book is to be opened or into which one is to be read, if it may have so many.
+pub fn slice(alloc: Global, room: u16) -> Result<Vec<u16>, Fault> {
+    let room = line::room(usize::from(room), MOST_BOOK)?;
+    Ok(vec![in alloc; BEFORE; room]?)
 }

@@ -1,6 +1,7 @@
 // What a call did with a lent output: its answer, what it wrote at the front, and what stands behind that. Assumes nothing.
 use crate::mark;
 use crate::say::{Runs, Shown, Tree};
+use figures::Written;
 use std::alloc::{AllocError, Global};
 use std::io;
 
@@ -16,21 +17,15 @@ pub const HELD_BYTE: u8 = b'#';
 // Of what was written so many words are said; of more, their mark.
 const MANY: usize = 512;
 
-// What a call answered: its number, its line, and how many words or bytes it wrote.
-#[derive(Clone, Copy)]
-pub struct Answer {
-    pub number: u16,
-    pub line: usize,
-    pub written: usize,
-}
-
 // Says an answer, and gives what was written at the front of the output, and what stands behind it. Where nothing was written there, says why.
-fn parted<'a, T>(rt: &impl Print, answer: Answer, out: &'a [T]) -> io::Result<(&'a [T], &'a [T])> {
-    print!(rt;
-        "{}, line {}, {} written:",
-        answer.number, answer.line, answer.written
-    )?;
-    let Some((front, behind)) = out.split_at_checked(answer.written) else {
+fn parted<'a, T>(rt: &impl Print, answer: Written, out: &'a [T]) -> io::Result<(&'a [T], &'a [T])> {
+    let Written {
+        number,
+        line,
+        count,
+    } = answer;
+    print!(rt; "{number}, line {line}, {count} written:")?;
+    let Some((front, behind)) = out.split_at_checked(count) else {
         print!(rt; " more than was lent")?;
         return Ok((&[], out));
     };
@@ -49,7 +44,7 @@ fn behind(rt: &impl Print, rest: &[u16]) -> io::Result<()> {
 }
 
 // Says what was written, or its mark where it is much, and the words behind it.
-pub fn words(rt: &impl Print, answer: Answer, out: &[u16]) -> io::Result<()> {
+pub fn words(rt: &impl Print, answer: Written, out: &[u16]) -> io::Result<()> {
     let (front, rest) = parted(rt, answer, out)?;
     if MANY < front.len() {
         print!(rt; " mark {}", mark::of(front))?;
@@ -60,7 +55,7 @@ pub fn words(rt: &impl Print, answer: Answer, out: &[u16]) -> io::Result<()> {
 }
 
 // Says the tree that was written, and the words behind it.
-pub fn tree(rt: &impl Print, answer: Answer, out: &[u16]) -> io::Result<()> {
+pub fn tree(rt: &impl Print, answer: Written, out: &[u16]) -> io::Result<()> {
     let (front, rest) = parted(rt, answer, out)?;
     if !front.is_empty() {
         print!(rt; " {}", Tree(front))?;
@@ -74,7 +69,7 @@ fn widened(alloc: Global, bytes: &[u8]) -> Result<Vec<u16>, AllocError> {
 }
 
 // Says the text that was written, and the bytes behind it as numbers.
-pub fn text(rt: &(impl Print + AllocGlobal), answer: Answer, out: &[u8]) -> io::Result<()> {
+pub fn text(rt: &(impl Print + AllocGlobal), answer: Written, out: &[u8]) -> io::Result<()> {
     let (front, rest) = parted(rt, answer, out)?;
     if !front.is_empty() {
         print!(rt; " {}", Shown(front))?;
@@ -83,6 +78,6 @@ pub fn text(rt: &(impl Print + AllocGlobal), answer: Answer, out: &[u8]) -> io::
 }
 
 // Says the bytes that were written as `words` says words.
-pub fn bytes(rt: &(impl Print + AllocGlobal), answer: Answer, out: &[u8]) -> io::Result<()> {
+pub fn bytes(rt: &(impl Print + AllocGlobal), answer: Written, out: &[u8]) -> io::Result<()> {
     words(rt, answer, &widened(rt.alloc(), out)?)
 }

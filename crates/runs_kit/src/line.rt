@@ -26,13 +26,13 @@ pub fn number(digits: &[u8]) -> Option<u16> {
     str::from_utf8(digits).ok()?.parse().ok()
 }
 
-// A number of words or bytes, if there is room for so many.
-pub fn room(number: u16, most: usize) -> Result<usize, Fault> {
-    let room = usize::from(number);
-    if most < room {
-        return Err(Fault::NotUnderstood);
+// So many words or bytes, if there may be so many.
+pub fn room(count: usize, most: usize) -> Result<usize, Fault> {
+    if count <= most {
+        Ok(count)
+    } else {
+        Err(Fault::NotUnderstood)
     }
-    Ok(room)
 }
 
 // What a piece of a list puts behind the words before it, a word and how many times: itself once, or, for *N, the last of them N - 1 times.
@@ -51,10 +51,7 @@ pub fn words(alloc: Global, list: Option<&[u8]>) -> Result<Vec<u16>, Fault> {
     };
     for piece in list.split(|byte| *byte == b' ') {
         let (word, times) = meant_by(piece, &words).ok_or(Fault::NotUnderstood)?;
-        let count = words.len() + usize::from(times);
-        if MOST_WORDS < count {
-            return Err(Fault::NotUnderstood);
-        }
+        let count = room(words.len() + usize::from(times), MOST_WORDS)?;
         words.resize(count, word)?;
     }
     Ok(words)
@@ -74,8 +71,7 @@ fn meant(byte: u8) -> u8 {
 
 // The text that is spelt so.
 pub fn text(alloc: Global, spelt: Option<&[u8]>) -> Result<Vec<u8>, Fault> {
-    let spelt = spelt
-        .filter(|spelt| spelt.len() <= MOST_TEXT)
-        .ok_or(Fault::NotUnderstood)?;
+    let spelt = spelt.ok_or(Fault::NotUnderstood)?;
+    room(spelt.len(), MOST_TEXT)?;
     Ok(spelt.iter().map(|byte| meant(*byte)).collect(alloc)?)
 }

@@ -1,7 +1,7 @@
 // How what came of a case is printed: bytes, words, and trees in the notation of document 000. Assumes nothing.
 ghost use Rattle.std.specs.Prelude.{◌≤◌, length, IfOk};
 
-use std::fmt::{Display, Error, Formatter, Result, Write};
+use std::fmt;
 
 // Whether what came back is the same, in words.
 pub fn came_back(same: bool) -> &'static str {
@@ -12,8 +12,8 @@ pub fn came_back(same: bool) -> &'static str {
 #[derive(Clone, Copy)]
 pub struct Shown<'a>(pub &'a [u8]);
 
-impl Display for Shown<'_> {
-    fn fmt<W: Write>(&self, f: &mut Formatter<W>) -> Result {
+impl fmt::Display for Shown<'_> {
+    fn fmt<W: fmt::Write>(&self, f: &mut fmt::Formatter<W>) -> fmt::Result {
         for byte in self.0 {
             match *byte {
                 b'\n' => write!(f, "|")?,
@@ -29,14 +29,13 @@ impl Display for Shown<'_> {
 #[derive(Clone, Copy)]
 pub struct Runs<'a>(pub &'a [u16]);
 
-impl Display for Runs<'_> {
-    fn fmt<W: Write>(&self, f: &mut Formatter<W>) -> Result {
+impl fmt::Display for Runs<'_> {
+    fn fmt<W: fmt::Write>(&self, f: &mut fmt::Formatter<W>) -> fmt::Result {
         for run in self.0.chunk_by(|a, b| a == b) {
-            if let [word, others @ ..] = run {
-                write!(f, " {word}")?;
-                if !others.is_empty() {
-                    write!(f, " *{}", run.len())?;
-                }
+            match run {
+                [] => {}
+                [word] => write!(f, " {word}")?,
+                [word, ..] => write!(f, " {word} *{}", run.len())?,
             }
         }
         Ok(())
@@ -47,8 +46,8 @@ impl Display for Runs<'_> {
 #[derive(Clone, Copy)]
 pub struct Slice<'a>(pub &'a [u16]);
 
-impl Display for Slice<'_> {
-    fn fmt<W: Write>(&self, f: &mut Formatter<W>) -> Result {
+impl fmt::Display for Slice<'_> {
+    fn fmt<W: fmt::Write>(&self, f: &mut fmt::Formatter<W>) -> fmt::Result {
         if self.0.is_empty() {
             write!(f, " none")
         } else {
@@ -61,8 +60,8 @@ impl Display for Slice<'_> {
 #[derive(Clone, Copy)]
 pub struct Tree<'a>(pub &'a [u16]);
 
-impl Display for Tree<'_> {
-    fn fmt<W: Write>(&self, f: &mut Formatter<W>) -> Result {
+impl fmt::Display for Tree<'_> {
+    fn fmt<W: fmt::Write>(&self, f: &mut fmt::Formatter<W>) -> fmt::Result {
         if self.0.is_empty() {
             return write!(f, "nothing");
         }
@@ -75,11 +74,11 @@ impl Display for Tree<'_> {
 }
 
 // Writes a row of so many trees, those at the front of the words, or as many nodes of it as they have, and gives the words behind.
-fn row<'a, W: Write>(
-    f: &mut Formatter<W>,
+fn row<'a, W: fmt::Write>(
+    f: &mut fmt::Formatter<W>,
     trees: u16,
     words: &'a [u16],
-) -> std::result::Result<&'a [u16], Error>
+) -> Result<&'a [u16], fmt::Error>
     ensures { IfOk result (λ rest. length rest.now ≤ length words.now) }
 {
     let mut rest = words;
