@@ -67,9 +67,9 @@ pub fn lay(rt: &(impl Print + AllocGlobal), given: &[u16], kept: &mut Kept) -> R
 
 // Runs a case of `show`.
 pub fn show(rt: &impl Print, given: &[u16], kept: &Kept) -> Result<(), Fault> {
-    let [] = given else {
+    if !given.is_empty() {
         return Err(Fault::NotUnderstood);
-    };
+    }
     print!(rt; "words:{}", Slice(&kept.book))?;
     Ok(())
 }
@@ -133,17 +133,17 @@ pub fn choose(rt: &impl Print, given: &[u16], kept: &Kept) -> Result<(), Fault> 
 
 // Runs a case of `agrees`.
 pub fn agrees(rt: &impl Print, given: &[u16], kept: &Kept) -> Result<(), Fault> {
-    let [] = given else {
+    if !given.is_empty() {
         return Err(Fault::NotUnderstood);
-    };
+    }
     called(rt, ofb::ofb_check(&kept.book), &kept.book)
 }
 
 // Runs a case of `join`, and says whether the words of the other book are the same as before, by their mark.
 pub fn join(rt: &impl Print, given: &[u16], kept: &mut Kept) -> Result<(), Fault> {
-    let [] = given else {
+    if !given.is_empty() {
         return Err(Fault::NotUnderstood);
-    };
+    }
     let before = mark::of(&kept.other);
     let answer = ofb::ofb_join(&mut kept.book, &kept.other);
     called(rt, answer, &kept.book)?;

@@ -9,8 +9,7 @@ use figures::{Asked, Depth};
 use order::Kind;
 use runs_kit::fault::Fault;
 use runs_kit::lent::{self, HELD, MOST};
-use runs_kit::line;
-use runs_kit::say::Tree;
+use runs_kit::{line, say};
 
 // Runs a case of `check`.
 pub fn check(rt: &impl Print, given: &[u16]) -> Result<(), Fault> {
@@ -29,14 +28,14 @@ pub fn k(rt: &impl Print, given: &[u16]) -> Result<(), Fault> {
 }
 
 // Runs a case of `subtree`: says the tree at the place that is answered, or that this is no place in the order.
-pub fn subtree(rt: &impl Print, given: &[u16]) -> Result<(), Fault> {
+pub fn subtree(rt: &(impl Print + AllocGlobal), given: &[u16]) -> Result<(), Fault> {
     let [line, order @ ..] = given else {
         return Err(Fault::NotUnderstood);
     };
     let part = ofb::ofb_subtree(order, usize::from(*line));
     let start = part.start as usize;
     match order.get(start..start + part.words as usize) {
-        Some(words) => print!(rt; "{}", Tree(words))?,
+        Some(words) => print!(rt; "{}", say::tree(rt.alloc(), words)?)?,
         None => print!(rt; "no place in the order")?,
     }
     Ok(())

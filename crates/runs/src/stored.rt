@@ -52,7 +52,7 @@ pub fn put(rt: &impl Print, given: &[u16], kept: &mut Kept) -> Result<(), Fault>
     Ok(())
 }
 
-// Runs a case of `store`: what was written is kept.
+// Runs a case of `store`; where nothing was written, the kept file stays.
 pub fn store(rt: &(impl Print + AllocGlobal), given: &[u16], kept: &mut Kept) -> Result<(), Fault> {
     let &[room] = given else {
         return Err(Fault::NotUnderstood);
@@ -177,9 +177,9 @@ fn said(rt: &impl Print, back: Result<bool, Stopped>) -> Result<(), Fault> {
 
 // Runs a case of `trip`.
 pub fn trip(rt: &(impl Print + AllocGlobal), given: &[u16], kept: &Kept) -> Result<(), Fault> {
-    let [] = given else {
+    if !given.is_empty() {
         return Err(Fault::NotUnderstood);
-    };
+    }
     let mut out = vec![in rt.alloc(); HELD_BYTE; MOST_FILE]?;
     let mut slice = vec![in rt.alloc(); BEFORE; kept.book.len()]?;
     said(rt, is_back(&kept.book, &mut out, &mut slice))
@@ -187,9 +187,9 @@ pub fn trip(rt: &(impl Print + AllocGlobal), given: &[u16], kept: &Kept) -> Resu
 
 // Runs a case of `again`.
 pub fn again(rt: &(impl Print + AllocGlobal), given: &[u16], kept: &Kept) -> Result<(), Fault> {
-    let [] = given else {
+    if !given.is_empty() {
         return Err(Fault::NotUnderstood);
-    };
+    }
     let mut slice = vec![in rt.alloc(); BEFORE; MOST_BOOK_WORDS]?;
     let mut out = vec![in rt.alloc(); HELD_BYTE; MOST_FILE]?;
     said(rt, is_again(&kept.file, &mut slice, &mut out))
@@ -197,9 +197,9 @@ pub fn again(rt: &(impl Print + AllocGlobal), given: &[u16], kept: &Kept) -> Res
 
 // Runs a case of `swap`.
 pub fn swap(rt: &impl Print, given: &[u16], kept: &mut Kept) -> Result<(), Fault> {
-    let [] = given else {
+    if !given.is_empty() {
         return Err(Fault::NotUnderstood);
-    };
+    }
     kept.swap_books();
     print!(rt; "done")?;
     Ok(())

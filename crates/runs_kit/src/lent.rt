@@ -1,6 +1,6 @@
 // What a call did with a lent output: its answer, what it wrote at the front, and what stands behind that. Assumes nothing.
-use crate::mark;
-use crate::say::{Runs, Shown, Tree};
+use crate::say::{Runs, Shown};
+use crate::{mark, say};
 use figures::Written;
 use std::alloc::{AllocError, Global};
 use std::io;
@@ -55,10 +55,10 @@ pub fn words(rt: &impl Print, answer: Written, out: &[u16]) -> io::Result<()> {
 }
 
 // Says the tree that was written, and the words behind it.
-pub fn tree(rt: &impl Print, answer: Written, out: &[u16]) -> io::Result<()> {
+pub fn tree(rt: &(impl Print + AllocGlobal), answer: Written, out: &[u16]) -> io::Result<()> {
     let (front, rest) = parted(rt, answer, out)?;
     if !front.is_empty() {
-        print!(rt; " {}", Tree(front))?;
+        print!(rt; " {}", say::tree(rt.alloc(), front)?)?;
     }
     behind(rt, rest)
 }

@@ -1,6 +1,5 @@
 // How what came of a case is printed: bytes, words, and trees in the notation of document 000. Assumes nothing.
-ghost use Rattle.std.specs.Prelude.{◌≤◌, length, IfOk};
-
+use std::alloc::{AllocError, Global};
 use std::fmt;
 
 // Whether what came back is the same, in words.
@@ -56,46 +55,68 @@ impl fmt::Display for Slice<'_> {
     }
 }
 
-// The tree that words are, or that there is none.
-#[derive(Clone, Copy)]
-pub struct Tree<'a>(pub &'a [u16]);
-
-impl fmt::Display for Tree<'_> {
-    fn fmt<W: fmt::Write>(&self, f: &mut fmt::Formatter<W>) -> fmt::Result {
-        if self.0.is_empty() {
-            return write!(f, "nothing");
-        }
-        if row(f, 1, self.0)?.is_empty() {
-            Ok(())
-        } else {
-            write!(f, " and not just that")
-        }
+// The text of the tree that words are, or that there is none.
+pub fn tree(alloc: Global, words: &[u16]) -> Result<String, AllocError> {
+    let mut text = String::new(alloc);
+    if words.is_empty() {
+        text.push_str("nothing")?;
+        return Ok(text);
     }
+    let behind = put_tree(&mut text, &mut Vec::new(alloc), words)?;
+    if !behind.is_empty() {
+        text.push_str(" and not just that")?;
+    }
+    Ok(text)
 }
 
-// Writes a row of so many trees, those at the front of the words, or as many nodes of it as they have, and gives the words behind.
-fn row<'a, W: fmt::Write>(
-    f: &mut fmt::Formatter<W>,
-    trees: u16,
+// Puts the tree that stands at the front of the words, or so much of it as they have, node by node, and gives the words behind. `rows` has for each
+// row of trees that is open, the innermost last, how many are to come behind the one at hand; at first none is open.
+fn put_tree<'a>(
+    text: &mut String,
+    rows: &mut Vec<u16>,
     words: &'a [u16],
-) -> Result<&'a [u16], fmt::Error>
-    ensures { IfOk result (λ rest. length rest.now ≤ length words.now) }
-{
+) -> Result<&'a [u16], AllocError> {
     let mut rest = words;
-    for tree in 0..trees {
-        if tree != 0 {
-            write!(f, ",")?;
-        }
-        let [code, children, behind @ ..] = rest else {
-            break;
-        };
-        write!(f, "{code}")?;
+    while let [code, children, behind @ ..] = rest {
+        write!(text, "{code}")?;
         rest = behind;
-        if *children != 0 {
-            write!(f, "(")?;
-            rest = row(f, *children, behind)?;
-            write!(f, ")")?;
+        match children.checked_sub(1) {
+            None => end_tree(text, rows)?,
+            Some(others) => {
+                text.push('(')?;
+                rows.push(others)?;
+            }
+        }
+        if rows.is_empty() {
+            break;
         }
     }
+    close_rows(text, rows)?;
     Ok(rest)
+}
+
+// Puts what stands behind a whole tree: a `)` for each open row that ends with it, from the innermost on, and a comma if a row is still open, whose
+// next tree is then to come.
+fn end_tree(text: &mut String, rows: &mut Vec<u16>) -> Result<(), AllocError> {
+    while let Some(others) = rows.pop() {
+        if let Some(others) = others.checked_sub(1) {
+            rows.push(others)?;
+            return text.push(',');
+        }
+        text.push(')')?;
+    }
+    Ok(())
+}
+
+// Closes the rows that are still open where the words end, from the innermost on, with a comma behind each `)` where trees are lacking in the row
+// around.
+fn close_rows(text: &mut String, rows: &[u16]) -> Result<(), AllocError> {
+    let Some((_, around)) = rows.split_last() else {
+        return Ok(());
+    };
+    text.push(')')?;
+    for others in around.iter().rev() {
+        text.push_str(if *others == 0 { ")" } else { ",)" })?;
+    }
+    Ok(())
 }
