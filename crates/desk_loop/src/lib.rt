@@ -29,7 +29,7 @@ fn run(rt: &impl Print, input: &[u8]) -> io::Result<()> {
     }
 }
 
-// Reads until the buffer is full or the input ends, and gives what was read.
+// Reads until the buffer is full or the input ends, and gives what was read. (std's `read_to_end` reads to the heap, which the desk does without.)
 fn read_full<'a>(reader: &mut impl Read, buffer: &'a mut [u8]) -> io::Result<&'a [u8]> {
     let mut done = 0;
     while done < buffer.len() {
