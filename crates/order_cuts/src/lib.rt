@@ -98,20 +98,22 @@ pub fn is_cut(lines: &Lines, line: usize, d: usize, tree: &[u16]) -> bool
     let own = levels[line];
     let end = line_end(order.spans, line);
     let mut at = line;
-    let mut count: usize = 0;
-    // A turn finds the next turn's line: no range has these.
+    let mut rest = tree;
+    // A turn finds the next turn's line, as above.
     while at < end {
-        if tree.len() - count < 2 || order.words[at * 2] != tree[count] {
+        let &[code, children, ref behind @ ..] = rest else {
             return false;
-        }
+        };
         let under = usize::from(levels[at] - own);
-        if kept_children(under, d, order.words[at * 2 + 1]) != tree[count + 1] {
+        if order.words[at * 2] != code
+            || kept_children(under, d, order.words[at * 2 + 1]) != children
+        {
             return false;
         }
         at = next_line(order, at, under, d);
-        count += 2;
+        rest = behind;
     }
-    count == tree.len()
+    rest.is_empty()
 }
 
 // Writes the cut at d of the subtree of a line, the lines counted from 0, to the front of `out`, or refuses with 11 where it has no room. It is
