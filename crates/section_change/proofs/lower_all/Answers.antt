@@ -1,14 +1,14 @@
 -- `section_change::lower_all` meets its contract: what the pass has come to, with the entries left lowered by the other's left, is what all come to.
 -- Assumes nothing.
 use Rattle.std.specs.declared.cmp.Ordering.TheVariants.{Less, Equal}
-use Rattle.std.proofs.Common.{rules, ◌≡◌, ℕ, ◌+◌, ◌*◌, ◌-◌, ◌<◌, ◌≤◌, List, length, get_or, take, drop, length-take, length-drop, refl, sym, ◌∙◌, arith}
+use Rattle.std.proofs.Common.{rules, ◌≡◌, ℕ, ◌+◌, ◌*◌, ◌<◌, ◌≤◌, List, length, get_or, drop, refl, sym, arith}
 use Rattle.words.proofs.Tests.{never}
 use Rattle.section.specs.Entries.{entries, span}
 use Rattle.section.proofs.Words.{span-at}
 use Rattle.section_change.specs.Editing.{first_against}
 use Rattle.section_change.proofs.Adding.{against_some}
 use Rattle.section_change.proofs.Lowering.{lessened-most}
-use Rattle.section_change.proofs.Turns.{Lowers, lowers_start, lowers_end, lowers_within, lowers_first, lowers_lower, lowers_equal, lowers_higher}
+use Rattle.section_change.proofs.Turns.{lowers_start, lowers_end, lowers_within, lowers_first, lowers_lower, lowers_equal, lowers_higher}
 use Rattle.section_change.proofs.lower_all.Goals as goal
 
 -- The other's first entry of those left lies within it.
