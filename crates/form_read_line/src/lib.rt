@@ -1,80 +1,39 @@
 // How a line of a form is spelt: its level, a space, four digits and LF. Assumes nothing beyond each function's `requires`.
 #![tactic(auto)]
 
-ghost use Rattle.std.specs.Prelude.{true, ◌≡◌, ◌+◌, ◌≤◌, ◌<◌, length, drop};
-ghost use Rattle.form.specs.Reading.{is_digit, figure, is_code, value, code_behind, spelt_of};
+ghost use Rattle.std.specs.Prelude.{true, false, MatchResult, ◌≡◌, ◌≤◌, ◌<◌, length, drop};
+ghost use Rattle.form.specs.Reading.{is_digit, figure, code_behind, spelt_of};
 
 use form::{CODE_SIZE, Fault, Node};
 
-// Whether a byte is a decimal digit.
-fn is_digit(b: u8) -> bool
-    ensures { result ≡ is_digit b }
+// The number that a byte stands for, if it is a digit.
+fn figure_of(b: u8) -> Result<u16, Fault>
+    ensures { MatchResult result (λ n. (is_digit b ≡ true) × (n ≡ figure b) × (n < 10)) (λ fault. (is_digit b ≡ false) × (fault ≡ Fault.Misspelt)) }
 {
-    if b < b'0' {
-        return false;
+    if b.is_ascii_digit() {
+        Ok(u16::from(b - b'0'))
+    } else {
+        Err(Fault::Misspelt)
     }
-    b <= b'9'
 }
 
-// Whether six bytes are a space, four digits and LF.
-fn is_code(s: u8, a: u8, b: u8, c: u8, d: u8, e: u8) -> bool
-    ensures { result ≡ is_code s a b c d e }
+// The line of a level of `w` bytes, by the bytes behind the level.
+fn code_behind(level: u16, w: usize, bytes: &[u8]) -> Result<Node, Fault>
+    requires { w ≤ 2 }
+    ensures { result ≡ code_behind level w bytes.now }
 {
-    if s != b' ' {
-        return false;
-    }
-    if !is_digit(a) {
-        return false;
-    }
-    if !is_digit(b) {
-        return false;
-    }
-    if !is_digit(c) {
-        return false;
-    }
-    if !is_digit(d) {
-        return false;
-    }
-    e == b'\n'
-}
-
-// The number that a digit stands for.
-fn figure_of(b: u8) -> u16
-    requires { is_digit b ≡ true }
-    ensures { (result ≡ figure b) × (result < 10) }
-{
-    (b - b'0') as u16
-}
-
-// The number that four digits stand for.
-fn value_of(a: u8, b: u8, c: u8, d: u8) -> u16
-    requires { (is_digit a ≡ true) × (is_digit b ≡ true) × (is_digit c ≡ true) × (is_digit d ≡ true) }
-    ensures { result ≡ value a b c d }
-{
-    figure_of(a) * 1000 + figure_of(b) * 100 + figure_of(c) * 10 + figure_of(d)
-}
-
-// The line of a level of `w` bytes that stands at `at`, by the bytes behind the level.
-fn code_at(text: &[u8], at: usize, level: usize, w: usize) -> Result<Node, Fault>
-    requires { at + w ≤ length text.now }
-    ensures { result ≡ code_behind level w (drop (at + w) text.now) }
-{
-    let p = at + w;
-    if text.len() - p < CODE_SIZE {
+    // Tried with the space and LF in the pattern: what they test is told by no name that a proof can cite.
+    let &[space, a, b, c, d, end, ..] = bytes else {
+        return Err(Fault::Misspelt);
+    };
+    if space != b' ' || end != b'\n' {
         return Err(Fault::Misspelt);
     }
-    let s = text[p];
-    let a = text[p + 1];
-    let b = text[p + 2];
-    let c = text[p + 3];
-    let d = text[p + 4];
-    let e = text[p + 5];
-    if !is_code(s, a, b, c, d, e) {
-        return Err(Fault::Misspelt);
-    }
-    let code = value_of(a, b, c, d);
-    let size = w + CODE_SIZE;
-    Ok(Node { level, code, size })
+    Ok(Node {
+        level: usize::from(level),
+        code: figure_of(a)? * 1000 + figure_of(b)? * 100 + figure_of(c)? * 10 + figure_of(d)?,
+        size: w + CODE_SIZE,
+    })
 }
 
 // The line that starts at `at`, as it is spelt.
@@ -82,21 +41,16 @@ pub fn spelt_at(text: &[u8], at: usize) -> Result<Node, Fault>
     requires { at ≤ length text.now }
     ensures { result ≡ spelt_of (drop at text.now) }
 {
-    if text.len() - at < 2 {
+    let bytes = &text[at..];
+    let &[x, y, ..] = bytes else {
         return Err(Fault::Misspelt);
-    }
-    let x = text[at];
-    let y = text[at + 1];
-    if !is_digit(x) {
-        return Err(Fault::Misspelt);
-    }
-    let first = figure_of(x);
-    if !is_digit(y) {
-        return code_at(text, at, first as usize, 1);
-    }
+    };
+    let first = figure_of(x)?;
+    let Ok(second) = figure_of(y) else {
+        return code_behind(first, 1, &bytes[1..]);
+    };
     if x == b'0' {
         return Err(Fault::Misspelt);
     }
-    let level = first * 10 + figure_of(y);
-    code_at(text, at, level as usize, 2)
+    code_behind(first * 10 + second, 2, &bytes[2..])
 }
