@@ -1,8 +1,10 @@
 -- Inner: no promise rests on these definitions.
 -- What the functions of `book_rules` and `book_choose` find at each rule and at each line. Assumes nothing: these are definitions.
-use Rattle.std.specs.Prelude.{ℕ, ◌+◌, ◌*◌, ◌-◌, Bool, true, false, not, List, [], ◌∷◌, map, leb, eqb, length, get_or, take, drop, None, Option, Some}
+use Rattle.std.specs.Prelude.{ℕ, ◌+◌, ◌*◌, ◌-◌, Bool, true, false, not, List, [], ◌∷◌, map, leb, eqb, length, get_or, take, drop, None, Option, Some, Result, Ok, Err}
 use Rattle.words.specs.Base.{when◌then◌else◌}
 use Rattle.figures.specs.Numbers.{no_image, two_images, no_rules}
+use Rattle.figures.specs.Refusals.{refusal_number}
+use Rattle.figures.specs.declared.refusals.Refusal.{Refusal}
 use Rattle.order.specs.Trees.{cut, subtrees}
 use Rattle.order.specs.Reading.{by_order, order_of}
 use Rattle.book_choosing.specs.Rules.{ImageRule, sound_rule, rules_from, by_rules}
@@ -42,6 +44,11 @@ unfoldable pub would_change : Named → ℕ → Bool
 would_change Nothing i = true
 would_change (One j) i = not (eqb i j)
 would_change Two i = false
+
+-- What is answered for an image, and for a refusal.
+abbrev pub chosen_told : Result ℕ Refusal → Chosen
+chosen_told (Ok i) = chosen i
+chosen_told (Err r) = unchosen (refusal_number r)
 
 -- What is chosen by what is named.
 unfoldable pub told_of : Named → Chosen

@@ -49,13 +49,13 @@ words-behind [] ys = refl
 words-behind (x ∷ xs) ys = let z : 2 * suc (length xs) ≡ suc (suc (2 * length xs)) = omega arith in rw z (words-behind xs ys)
 
 -- What is known of the lines of an order that passes: it is their words, and they are not too many.
-pub record Known (s : List ℕ) (xs : List Line) : Type 0 where
+record Known (s : List ℕ) (xs : List Line) : Type 0 where
   pub spelt : s ≡ words_of_lines xs
   pub twice : length s ≡ 2 * length xs
   pub few : length xs ≤ most_nodes
 
 -- `Known` holds of an order whose cause is 0.
-pub known : (s : List ℕ) → cause_of s ≡ done → Known s (lines_in s)
+known : (s : List ℕ) → cause_of s ≡ done → Known s (lines_in s)
 known s e =
     let p = (has-tree s e).passes in
     let t = (has-tree s e).tree in
