@@ -94,9 +94,9 @@ pub record Listing (low : Bool) (k n : ℕ) (os out₀ out entry : List ℕ) (li
   pub spare : length entry ≡ entry-words
 
 -- A place by other names.
-pub listing_named : (low : Bool) (k n : ℕ) (os out₀ out entry : List ℕ) (line used many : ℕ) (out' entry' : List ℕ) (used' many' : ℕ) → out' ≡ out → entry' ≡ entry → used' ≡ used → many' ≡ many
-    → Listing low k n os out₀ out entry line used many → Listing low k n os out₀ out' entry' line used' many'
-listing_named low k n os out₀ out entry line used many out' entry' used' many' o e u m st = rw (o, e, u, m) st
+pub listing_named : (low : Bool) (k n : ℕ) (os out₀ out entry : List ℕ) (line : ℕ) (size : Size) (out' entry' : List ℕ) (size' : Size) → out' ≡ out → entry' ≡ entry → size' ≡ size
+    → Listing low k n os out₀ out entry line size.used size.many → Listing low k n os out₀ out' entry' line size'.used size'.many
+listing_named low k n os out₀ out entry line size out' entry' size' o e s st = rw (o, e, s) st
 
 -- Before the first line nothing is listed.
 pub list_start : (low : Bool) (k n : ℕ) (os out entry : List ℕ) → 1 ≤ n → cause_of os ≡ done → out ≡ replicate (length out) 0 → part_words low k os ≤ length out
@@ -161,11 +161,11 @@ module _ (low : Bool) (k n : ℕ) (os out₀ out entry : List ℕ) (line used ma
     module _ (d end : ℕ) (entry' : List ℕ) (deep : d ≡ k - 1) (ends : end ≡ 2 + length (cut_of os (line * 2) d))
         (wrote : entry' ≡ over (entry_words (counted (cut_of os (line * 2) d) n)) entry) where
       -- The entry's words stand before the end.
-      entry_here : take (end - 0) (drop 0 entry') ≡ entry_words this
+      entry_here : take end entry' ≡ entry_words this
       entry_here =
           let is_cut : cut_of os (line * 2) d ≡ this.key = ap (cut_of os (line * 2)) deep in
-          let long : length (entry_words this) ≡ end - 0 = omega (arith, ends, ap length is_cut) in
-          ap (take (end - 0)) (wrote ∙ ap (λ (w : List ℕ). over (entry_words (counted w n)) entry) is_cut) ∙ take_at (entry_words this) (drop (length (entry_words this)) entry) (end - 0) long
+          let long : length (entry_words this) ≡ end = omega (arith, ends, ap length is_cut) in
+          ap (take end) (wrote ∙ ap (λ (w : List ℕ). over (entry_words (counted w n)) entry) is_cut) ∙ take_at (entry_words this) (drop (length (entry_words this)) entry) end long
 
       -- The words that are listed have room.
       listed-fits : length (section_words st.listed) ≤ length out₀
@@ -176,18 +176,18 @@ module _ (low : Bool) (k n : ℕ) (os out₀ out entry : List ℕ) (line used ma
       listed_here = ap₂ entries st.counts st.words ∙ padded-entries (length out₀) st.listed st.even listed-fits
 
       -- It can be entered.
-      pub enter_ready : (Laid out many used × Sorted (entries many out)) × ((width (take (end - 0) (drop 0 entry')) ≡ length (take (end - 0) (drop 0 entry'))) × (used + length (take (end - 0) (drop 0 entry')) ≤ length out))
+      pub enter_ready : (Laid out many used × Sorted (entries many out)) × ((width (take end entry') ≡ length (take end entry')) × (used + length (take end entry') ≤ length out))
       enter_ready =
           let laid : Laid out many used = rw (st.words, st.counts, st.uses) (padded-laid (length out₀) st.listed st.even listed-fits) in
           ((laid, rw listed_here st.gone.sorted), (rw entry_here (entry-width this this-even), rw entry_here (omega (arith, part_room))))
 
       -- Once it is entered the lines behind it are left.
-      pub line-entered : (out' : List ℕ) (size : Size) → Edited out many used (add_once (first_entry (take (end - 0) (drop 0 entry'))) (entries many out)) out' size
+      pub line-entered : (out' : List ℕ) (size : Size) → Edited out many used (add_once (first_entry (take end entry')) (entries many out)) out' size
           → Listing low k n os out₀ out' entry' (line + 1) size.used size.many
       line-entered out' size ed =
           let m = length out₀ in
           let new : List Entry = add_once this st.listed in
-          let is-new : add_once (first_entry (take (end - 0) (drop 0 entry'))) (entries many out) ≡ new = ap₂ add_once (ap first_entry entry_here ∙ entry_first this this-even) listed_here in
+          let is-new : add_once (first_entry (take end entry')) (entries many out) ≡ new = ap₂ add_once (ap first_entry entry_here ∙ entry_first this this-even) listed_here in
           let after = padded-edited m st.listed st.even listed-fits new out out' many used size st.words st.counts st.uses (subst (λ (es : List Entry). Edited out many used es out' size) is-new ed) in
           let more-words : length (section_words new) ≤ length (section_words st.listed) + (2 + length this.key) = size-once this st.listed st.gone.sorted in
           let even = even_once this st.listed this-even st.even in

@@ -8,17 +8,21 @@ use lib.Seq.{take_at, drop_at}
 use borrow.Rule.Slice.PartMut.{put_mid}
 use Rattle.words.specs.Base.{over}
 use Rattle.words.proofs.Shifts.{tail_all, tail_back}
-use Rattle.figures.specs.Limits.{head_words}
+use Rattle.figures.specs.Limits.{head_words, least_k, greatest_k}
+use Rattle.figures.specs.Numbers.{done}
 use Rattle.section.specs.Entries.{Entry, entry_words, section_words}
 use Rattle.section_change.specs.Editing.{padded, extent_of}
 use Rattle.section_change.specs.declared.Size.{Size}
-use Rattle.section_change.proofs.Relaying.{drop-zeros}
+use Rattle.section_change.proofs.Relaying.{drop-zeros, length-size}
+use Rattle.order.specs.Reading.{cause_of}
 use Rattle.book.specs.Book.{Book, section_of, body, used, live, encode, lay}
+use Rattle.book.specs.declared.Section.{Section}
 use Rattle.book.specs.declared.Section.TheVariants.{Taught, Tops, Lows, Middles}
 use Rattle.book.specs.Decoding.{places_of}
 use Rattle.book.specs.declared.Places.{Places}
 use Rattle.book.proofs.Meaning.{used_is}
-use Rattle.book_listing.proofs.Owning.{one-words}
+use Rattle.book_listing.specs.Own.{own_words, own_of, room_for}
+use Rattle.book_listing.proofs.Owning.{few_words, one-words, section-short}
 
 -- A list stands at the front of a slice, and zeros behind it; the size is that of the list.
 abbrev pub Listed : List ℕ → List Entry → List ℕ → Size → Type 0
@@ -117,6 +121,82 @@ stage_listed n ws now at m left s es size last short is =
       place = rw length-append (omega (arith, s.place, uses));
       room = omega (arith, s.room, uses);
     }
+
+-- ---- the four sections
+
+-- The slice once a section is listed from a place on.
+abbrev pub listed-from : ℕ → List ℕ → List ℕ → List ℕ
+listed-from at own last = put_mid at (length own - at) own last
+
+module _ (os : List ℕ) (k n : ℕ) where
+  -- The words of a section of the order's own book.
+  abbrev words : Section → List ℕ
+  words s = section_words (section_of s (own_of k n os))
+
+  -- The order is listed.
+  abbrev pub Whole : ℕ → List ℕ → ℕ → Type 0
+  Whole long now at = Stage long (words Taught) now at (room_for Tops k os + (room_for Lows k os + room_for Middles k os))
+
+  -- Its top too.
+  abbrev pub WithTop : ℕ → List ℕ → ℕ → Type 0
+  WithTop long now at = Stage long (words Taught ++ words Tops) now at (room_for Lows k os + room_for Middles k os)
+
+  -- Its low parts too.
+  abbrev pub WithLows : ℕ → List ℕ → ℕ → Type 0
+  WithLows long now at = Stage long ((words Taught ++ words Tops) ++ words Lows) now at (room_for Middles k os)
+
+  -- Its middle parts too, so that all is listed.
+  abbrev pub WithAll : ℕ → List ℕ → ℕ → Type 0
+  WithAll long now at = Stage long (((words Taught ++ words Tops) ++ words Lows) ++ words Middles) now at 0
+
+  -- What is listed in a section from a place on.
+  abbrev pub ListedThere : Section → ℕ → List ℕ → List ℕ → Size → Type 0
+  ListedThere s at own = Listed (take (length own - at) (drop at own)) (section_of s (own_of k n os))
+
+  module _ (sound : cause_of os ≡ done) (deep : (least_k ≤ k) × (k ≤ greatest_k)) (some : 1 ≤ n) where
+    -- A section has room.
+    short : (s : Section) → length (words s) ≤ room_for s k os
+    short s = section-short os sound k n some s
+
+    -- All four have room.
+    all_room : head_words + (room_for Taught k os + (room_for Tops k os + (room_for Lows k os + room_for Middles k os))) ≤ own_words
+    all_room = omega (arith, few_words os sound k deep.0 deep.1)
+
+    -- A section has no more entries than the slice has words.
+    pub few : (s : Section) (size : Size) → size ≡ extent_of (section_of s (own_of k n os)) → size.many ≤ own_words
+    few s size is = omega (arith, ap (λ (z : Size). z.many) is, length-size (section_of s (own_of k n os)), short s, most s)
+      where
+        most : (s : Section) → room_for s k os ≤ own_words
+        most Taught = omega arith
+        most Tops = omega (arith, all_room)
+        most Lows = omega (arith, all_room)
+        most Middles = omega (arith, all_room)
+
+    -- Nothing is listed in a slice of zeros.
+    pub none-listed : (own : List ℕ) → own ≡ replicate (length own) 0 → length own ≡ own_words
+        → Stage (length own) [] own head_words (room_for Taught k os + (room_for Tops k os + (room_for Lows k os + room_for Middles k os)))
+    none-listed own zeros long = stage_start own _ (omega (arith, all_room, long)) zeros
+
+    -- Then the order is.
+    pub whole-listed : (own : List ℕ) → own ≡ replicate (length own) 0 → length own ≡ own_words → (last : List ℕ) (size : Size) → ListedThere Taught head_words own last size
+        → Whole (length own) (listed-from head_words own last) (head_words + size.used)
+    whole-listed own zeros long last size is = stage_listed _ _ _ _ (room_for Taught k os) _ (none-listed own zeros long) _ _ _ (short Taught) is
+
+    -- Then its top.
+    pub top-listed : (long at : ℕ) (now : List ℕ) → Whole long now at → (last : List ℕ) (size : Size) → ListedThere Tops at now last size
+        → WithTop long (listed-from at now last) (at + size.used)
+    top-listed long at now st last size is = stage_listed _ _ _ _ (room_for Tops k os) _ st _ _ _ (short Tops) is
+
+    -- Then its low parts.
+    pub lows-listed : (long at : ℕ) (now : List ℕ) → WithTop long now at → (last : List ℕ) (size : Size) → ListedThere Lows at now last size
+        → WithLows long (listed-from at now last) (at + size.used)
+    lows-listed long at now st last size is = stage_listed _ _ _ _ (room_for Lows k os) _ st _ _ _ (short Lows) is
+
+    -- Then its middle parts.
+    pub all-listed : (long at : ℕ) (now : List ℕ) → WithLows long now at → (last : List ℕ) (size : Size) → ListedThere Middles at now last size
+        → WithAll long (listed-from at now last) (at + size.used)
+    all-listed long at now st last size is =
+        stage_listed _ _ _ _ (room_for Middles k os) 0 (record { words = st.words; place = st.place; room = omega (arith, st.room) }) _ _ _ (short Middles) is
 
 -- ---- the whole
 
