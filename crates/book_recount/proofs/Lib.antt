@@ -1,2 +1,3 @@
 -- What the proofs of several functions, and those of other crates, use.
 pub mod Turns
+pub mod OrdersLeft

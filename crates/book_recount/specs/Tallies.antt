@@ -1,9 +1,13 @@
 -- Inner: no promise rests on these definitions.
--- What is tallied for a section of a book by the orders in its T. Assumes nothing: these are definitions.
+-- What is tallied for a section of a book by the orders in its T. Assumes nothing: these are definitions, and that what is known of places where
+-- entries start is known in one way.
+use Rattle.std.specs.Coded.{Unit-prop}
+use Rattle.std.specs.Ordering.{Ordering-set}
+use Rattle.std.proofs.Props.{props}
 use Rattle.std.specs.Prelude.{ℕ, Bool, true, List, [], ◌∷◌, length}
 use Rattle.words.specs.Base.{◌and◌}
-use Rattle.section.specs.Entries.{Entry}
-use Rattle.section_tally.specs.Tallying.{has_all, tallied, marked}
+use Rattle.section.specs.Entries.{Entry, Below, Sorted}
+use Rattle.section_tally.specs.Tallying.{Indexed, has_all, tallied, marked}
 use Rattle.book.specs.Book.{section_of}
 use Rattle.book.specs.declared.Section.{Section}
 use Rattle.book_listing.specs.Own.{own_of}
@@ -26,3 +30,19 @@ tallied_all s k (t ∷ ts) es cs = tallied_all s k ts es (tallied t.count (parts
 unfoldable pub marked_all : Section → ℕ → List Entry → List Entry → List ℕ → List ℕ
 marked_all s k [] es ms = ms
 marked_all s k (t ∷ ts) es ms = marked_all s k ts es (marked (length (t ∷ ts)) (parts_in s k t.key) es ms)
+
+-- A key stands below a first entry in one way.
+Below-prop : (key : List ℕ) (es : List Entry) → IsProp (Below key es)
+unfolding Below
+Below-prop key [] = Unit-prop
+Below-prop key (e ∷ es) = Ordering-set _ _
+
+-- Entries ascend in one way.
+Sorted-prop : (es : List Entry) → IsProp (Sorted es)
+unfolding Sorted
+Sorted-prop [] = Unit-prop
+Sorted-prop (e ∷ es) = Prim.hlevel (Below-prop e.key es, Sorted-prop es, props)
+
+-- Places are those of entries in one way.
+pub Indexed-prop : (starts ws : List ℕ) → IsProp (Indexed starts ws)
+Indexed-prop starts ws = Prim.hlevel (Sorted-prop, props)

@@ -8,16 +8,15 @@ ghost use Rattle.figures.specs.Numbers.{done};
 ghost use Rattle.section.specs.Entries.{width, first_entry, has};
 ghost use Rattle.section_tally.specs.Tallying.{listed, Indexed, sought_in, Few, tallied_once, marked_once, TurnReady, Taken};
 ghost use Rattle.order.specs.Reading.{cause_of};
-ghost use Rattle.order.specs.Levels.{LinesLevelled};
-ghost use Rattle.order.specs.Spans.{GoneOver};
 ghost use Rattle.order.specs.Standing.{cut_of};
 ghost use Rattle.book.specs.Decoding.{book_in};
 ghost use Rattle.book.specs.Holding.{Holds};
 ghost use Rattle.book_listing.specs.Own.{list_of};
-ghost use Rattle.book_recount.specs.Tallies.{parts_in, all_known, tallied_all, marked_all};
+ghost use Rattle.book_recount.specs.Tallies.{parts_in, all_known, tallied_all, marked_all, Indexed-prop};
 
 use book::{Places, Section};
 use figures::{Depth, limits};
+use order_check::{Lines, go_over, level_lines};
 use section::past;
 
 // The turn of a taught order: its number, and how often the order counts.
@@ -27,43 +26,46 @@ pub struct Turn {
     pub by: u16,
 }
 
-// Tallies the cut at d of the subtree of a line, the lines counted from 0, for its entry among the listed ones of a section of a book, once a
-// turn, by way of a scratch for its words. Answers whether it has an entry.
+// The listed entries of a section of a book, by the places where they start.
+#[derive(Clone, Copy)]
+struct Entries<'a> {
+    book: &'a [u16],
+    starts: &'a [u16],
+    ghost indexed: { Indexed starts.now book.now } by { Indexed-prop starts.now book.now },
+}
+
+// Tallies the cut at d of the subtree of a line, the lines counted from 0, for its entry among the listed ones, once a turn, by way of a scratch
+// for its words. Answers whether it has an entry.
 fn tally_cut(
-    order: &[u16],
-    spans: &[u16],
-    levels: &[u8],
+    lines: &Lines,
     line: usize,
     d: usize,
     part: &mut [u16],
-    book: &[u16],
-    starts: &[u16],
+    entries: &Entries,
     counts: &mut [u16],
     marks: &mut [u16],
     turn: Turn,
 ) -> bool
-    requires gone_over { GoneOver order.now spans.now }
-    requires lines_levelled { LinesLevelled order.now levels.now }
-    requires line_in_bounds { line < length order.now / 2 }
+    requires line_in_bounds { line < length lines.now.order.words.now / 2 }
     requires most_words_in_bounds { most_words ≤ length part.old }
-    requires indexed { Indexed starts.now book.now }
-    requires counts_len { (length counts.old ≡ length starts.now) × (length marks.old ≡ length starts.now) }
-    requires few { Few (tallied_once turn.by turn.number (sought_in (cut_of order.now (line * 2) d) (listed starts.now book.now)) marks.old
-        counts.old) }
-    ensures known { result ≡ has (cut_of order.now (line * 2) d) (listed starts.now book.now) }
+    requires counts_len { (length counts.old ≡ length entries.now.starts.now) × (length marks.old ≡ length entries.now.starts.now) }
+    requires few { Few (tallied_once turn.by turn.number
+        (sought_in (cut_of lines.now.order.words.now (line * 2) d) (listed entries.now.starts.now entries.now.book.now)) marks.old counts.old) }
+    ensures known { result ≡ has (cut_of lines.now.order.words.now (line * 2) d) (listed entries.now.starts.now entries.now.book.now) }
     ensures counted { counts.new ≡ tallied_once turn.by turn.number
-        (sought_in (cut_of order.now (line * 2) d) (listed starts.now book.now)) marks.old
+        (sought_in (cut_of lines.now.order.words.now (line * 2) d) (listed entries.now.starts.now entries.now.book.now)) marks.old
         counts.old }
     ensures noted { marks.new ≡ marked_once turn.number
-        (sought_in (cut_of order.now (line * 2) d) (listed starts.now book.now)) marks.old }
+        (sought_in (cut_of lines.now.order.words.now (line * 2) d) (listed entries.now.starts.now entries.now.book.now)) marks.old }
 {
-    let end = order_cuts::put_cut(order, spans, levels, line, d, part);
+    let end = order_cuts::put_cut(lines, line, d, part);
+    let Entries { book, starts, .. } = entries;
     section_tally::tally_once(
         book,
         starts,
         counts,
         marks,
-        &part[0..end],
+        &part[..end],
         turn.number,
         turn.by,
     )
@@ -72,39 +74,28 @@ fn tally_cut(
 // Tallies each of the order's low parts, or of its middle parts, as `tally_cut` does one. Answers false where one has no entry;
 // what was tallied then is of no use.
 fn tally_parts(
-    order: &[u16],
-    spans: &[u16],
-    levels: &[u8],
+    lines: &Lines,
     k: Depth,
     low: bool,
     part: &mut [u16],
-    book: &[u16],
-    starts: &[u16],
+    entries: &Entries,
     counts: &mut [u16],
     marks: &mut [u16],
     turn: Turn,
 ) -> bool
     requires least_k_le_k { least_k ≤ k.k }
-    requires gone_over { GoneOver order.now spans.now }
-    requires lines_levelled { LinesLevelled order.now levels.now }
     requires most_words_in_bounds { most_words ≤ length part.old }
-    requires indexed { Indexed starts.now book.now }
-    requires turn_ready { TurnReady turn.number turn.by (list_of low k.k 1 order.now) (listed starts.now book.now) counts.old marks.old }
-    ensures { Taken turn.number turn.by (list_of low k.k 1 order.now) (listed starts.now book.now)
-        counts.old marks.old counts.new marks.new result }
+    requires turn_ready { TurnReady turn.number turn.by (list_of low k.k 1 lines.now.order.words.now)
+        (listed entries.now.starts.now entries.now.book.now) counts.old marks.old }
+    ensures { Taken turn.number turn.by (list_of low k.k 1 lines.now.order.words.now)
+        (listed entries.now.starts.now entries.now.book.now) counts.old marks.old counts.new marks.new result }
 {
-    let lines = order.len() / 2;
-    let mut line: usize = 0;
-    while line < lines {
-        if order_parts::is_low(spans, line, k) == low {
-            let d = k.of_middles();
-            if !tally_cut(
-                order, spans, levels, line, d, part, book, starts, counts, marks, turn,
-            ) {
-                return false;
-            }
+    for line in 0..lines.order.words.len() / 2 {
+        if order_parts::is_low(lines.order.spans, line, k) == low
+            && !tally_cut(lines, line, k.of_middles(), part, entries, counts, marks, turn)
+        {
+            return false;
         }
-        line += 1;
     }
     true
 }
@@ -112,47 +103,30 @@ fn tally_parts(
 // Tallies all that one teaching of the order counts in a section, T included, for the section's listed entries in a book, each once by marks of
 // this turn. Answers false where one has no entry; what was tallied then is of no use.
 fn tally_section(
-    order: &[u16],
-    spans: &[u16],
-    levels: &[u8],
+    lines: &Lines,
     k: Depth,
     section: Section,
     part: &mut [u16],
-    book: &[u16],
-    starts: &[u16],
+    entries: &Entries,
     counts: &mut [u16],
     marks: &mut [u16],
     turn: Turn,
 ) -> bool
     requires least_k_le_k { least_k ≤ k.k }
-    requires gone_over { GoneOver order.now spans.now }
-    requires lines_levelled { LinesLevelled order.now levels.now }
     requires most_words_in_bounds { most_words ≤ length part.old }
-    requires indexed { Indexed starts.now book.now }
-    requires turn_ready { TurnReady turn.number turn.by (parts_in section k.k order.now) (listed starts.now book.now) counts.old
-        marks.old }
-    ensures { Taken turn.number turn.by (parts_in section k.k order.now) (listed starts.now book.now)
-        counts.old marks.old counts.new marks.new result }
+    requires turn_ready { TurnReady turn.number turn.by (parts_in section k.k lines.now.order.words.now)
+        (listed entries.now.starts.now entries.now.book.now) counts.old marks.old }
+    ensures { Taken turn.number turn.by (parts_in section k.k lines.now.order.words.now)
+        (listed entries.now.starts.now entries.now.book.now) counts.old marks.old counts.new marks.new result }
 {
     match section {
         Section::Taught => {
             let d = limits::GREATEST_DEPTH;
-            tally_cut(
-                order, spans, levels, 0, d, part, book, starts, counts, marks, turn,
-            )
+            tally_cut(lines, 0, d, part, entries, counts, marks, turn)
         }
-        Section::Tops => {
-            let d = k.of_tops();
-            tally_cut(
-                order, spans, levels, 0, d, part, book, starts, counts, marks, turn,
-            )
-        }
-        Section::Lows => tally_parts(
-            order, spans, levels, k, true, part, book, starts, counts, marks, turn,
-        ),
-        Section::Middles => tally_parts(
-            order, spans, levels, k, false, part, book, starts, counts, marks, turn,
-        ),
+        Section::Tops => tally_cut(lines, 0, k.of_tops(), part, entries, counts, marks, turn),
+        Section::Lows => tally_parts(lines, k, true, part, entries, counts, marks, turn),
+        Section::Middles => tally_parts(lines, k, false, part, entries, counts, marks, turn),
     }
 }
 
@@ -165,8 +139,7 @@ fn take_turn(
     spans: &mut [u16],
     levels: &mut [u8],
     part: &mut [u16],
-    book: &[u16],
-    starts: &[u16],
+    entries: &Entries,
     counts: &mut [u16],
     marks: &mut [u16],
     turn: Turn,
@@ -174,60 +147,47 @@ fn take_turn(
     requires order_value { cause_of order.now ≡ done }
     requires least_k_le_k { least_k ≤ k.k }
     requires most_words_in_bounds { (most_words ≤ length spans.old) × (most_nodes ≤ length levels.old) × (most_words ≤ length part.old) }
-    requires indexed { Indexed starts.now book.now }
-    requires turn_ready { TurnReady turn.number turn.by (parts_in section k.k order.now) (listed starts.now book.now) counts.old
-        marks.old }
-    ensures { Taken turn.number turn.by (parts_in section k.k order.now) (listed starts.now book.now)
-        counts.old marks.old counts.new marks.new result }
+    requires turn_ready { TurnReady turn.number turn.by (parts_in section k.k order.now)
+        (listed entries.now.starts.now entries.now.book.now) counts.old marks.old }
+    ensures { Taken turn.number turn.by (parts_in section k.k order.now)
+        (listed entries.now.starts.now entries.now.book.now) counts.old marks.old counts.new marks.new result }
 {
-    order_check::cause_into(order, spans);
-    order_check::level_lines(order, spans, levels);
-    tally_section(
-        order, spans, levels, k, section, part, book, starts, counts, marks, turn,
-    )
+    let order = go_over(order, spans).unwrap();
+    let lines = level_lines(order, levels);
+    tally_section(&lines, k, section, part, entries, counts, marks, turn)
 }
 
 // Tallies what the taught order at word `at` counts in a section, for the section's listed entries, by marks of this turn. Lent as
 // scratch: spans and levels for the order's lines, and words for a part. Answers false where a part has no entry; what was tallied then is of no use.
 fn tally_order(
-    book: &[u16],
+    entries: &Entries,
     at: usize,
     k: Depth,
     section: Section,
     spans: &mut [u16],
     levels: &mut [u8],
     part: &mut [u16],
-    starts: &[u16],
     counts: &mut [u16],
     marks: &mut [u16],
     turn: u16,
 ) -> bool
-    requires book_in_bounds { (at + width (drop at book.now) ≤ length book.now) × (cause_of (first_entry (drop at book.now)).key ≡ done) }
+    requires book_in_bounds { (at + width (drop at entries.now.book.now) ≤ length entries.now.book.now)
+        × (cause_of (first_entry (drop at entries.now.book.now)).key ≡ done) }
     requires least_k_le_k { least_k ≤ k.k }
     requires most_words_in_bounds { (most_words ≤ length spans.old) × (most_nodes ≤ length levels.old) × (most_words ≤ length part.old) }
-    requires indexed { Indexed starts.now book.now }
-    requires turn_ready { TurnReady turn (first_entry (drop at book.now)).count (parts_in section k.k (first_entry (drop at book.now)).key)
-        (listed starts.now book.now) counts.old marks.old }
-    ensures { Taken turn (first_entry (drop at book.now)).count
-        (parts_in section k.k (first_entry (drop at book.now)).key)
-        (listed starts.now book.now) counts.old marks.old counts.new marks.new result }
+    requires turn_ready { TurnReady turn (first_entry (drop at entries.now.book.now)).count
+        (parts_in section k.k (first_entry (drop at entries.now.book.now)).key)
+        (listed entries.now.starts.now entries.now.book.now) counts.old marks.old }
+    ensures { Taken turn (first_entry (drop at entries.now.book.now)).count
+        (parts_in section k.k (first_entry (drop at entries.now.book.now)).key)
+        (listed entries.now.starts.now entries.now.book.now) counts.old marks.old counts.new marks.new result }
 {
-    let start = at + 2;
-    let end = past(book, at);
+    let book = entries.book;
+    let order = &book[at + 2..past(book, at)];
     let by = book[at + 1];
     let own = Turn { number: turn, by };
     take_turn(
-        &book[start..end],
-        k,
-        section,
-        spans,
-        levels,
-        part,
-        book,
-        starts,
-        counts,
-        marks,
-        own,
+        order, k, section, spans, levels, part, entries, counts, marks, own,
     )
 }
 
@@ -255,21 +215,20 @@ pub fn tally_taught(
         marked_all section (book_in book.now).k (book_in book.now).T (listed starts.now book.now)
         marks.old }
 {
+    let entries = Entries { book, starts };
     let mut spans = [0u16; limits::MOST_WORDS];
     let mut levels = [0u8; limits::MOST_NODES];
     let mut part = [0u16; limits::MOST_WORDS];
     let mut at = limits::HEAD_WORDS;
-    let mut left = book[limits::TAUGHT_WORD];
-    while 0 < left {
+    for left in (1..=book[limits::TAUGHT_WORD]).rev() {
         if !tally_order(
-            book,
+            &entries,
             at,
             places.k,
             section,
             &mut spans,
             &mut levels,
             &mut part,
-            starts,
             counts,
             marks,
             left,
@@ -277,7 +236,6 @@ pub fn tally_taught(
             return false;
         }
         at = past(book, at);
-        left -= 1;
     }
     true
 }
