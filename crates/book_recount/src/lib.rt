@@ -92,7 +92,16 @@ fn tally_parts(
 {
     for line in 0..lines.order.words.len() / 2 {
         if order_parts::is_low(lines.order.spans, line, k) == low
-            && !tally_cut(lines, line, k.of_middles(), part, entries, counts, marks, turn)
+            && !tally_cut(
+                lines,
+                line,
+                k.of_middles(),
+                part,
+                entries,
+                counts,
+                marks,
+                turn,
+            )
         {
             return false;
         }

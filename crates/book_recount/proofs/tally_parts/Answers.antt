@@ -40,7 +40,7 @@ loop-line-preserved c =
     let least = c.requires.least_k_le_k in
     let tells = span-tells _ _ _ _ _ c.args.lines.now.order.gone_over more c.is_low.ensures in
     elim c.else-is_low-low.branch [
-      else-is_low-low-via-then-is_low-low+else-not-tally_cut w ↦
+      | else-is_low-low-via-then-is_low-low+else-not-tally_cut w ↦
           turn_tallied _ _ _ _ _ _ _ _ _ _ _ st more _ least tells w.if-is_low-low.true _ w.of_middles.ensures c.args.entries.now.indexed.sorted c.requires.turn_ready
           _ _ (sym w.if-not-tally_cut.false ∙ w.tally_cut.ensures.known) (w.counts-is ∙ w.tally_cut.ensures.counted) (w.marks-is ∙ w.tally_cut.ensures.noted)
       | else-is_low-low-via-else-is_low-low w ↦
