@@ -1,6 +1,6 @@
 -- The definitions of specs/Sound.antt say the same as the tests of `in_form`, `decode` and `book_form_of`; and what a book's words say, one by one.
 -- Assumes nothing.
-use Rattle.std.specs.Prelude.{None, Some}
+use Rattle.std.specs.Prelude.{None, Some, Result, Ok, Err}
 use Prim.Native.Nat.{ℕ, ◌+◌, ◌-◌, ◌/◌, ◌≤◌, ◌<◌}
 use mathlib.Core.Path.{◌≡◌, refl, sym, ap, ap₂, ◌∙◌, subst}
 use mathlib.Core.Bool.{Bool, true, false}
@@ -17,12 +17,15 @@ use Rattle.words.specs.Compare.{◌≺◌}
 use Rattle.words.proofs.Tests.{and_left, and_right, and_both, never}
 use Rattle.figures.specs.Limits.{head_words, most_book_words, least_k, greatest_k, least_count, greatest_count}
 use Rattle.figures.specs.Numbers.{book_size, not_in_form}
+use Rattle.figures.specs.Refusals.{refusal_number}
+use Rattle.figures.specs.declared.refusals.Refusal.{Refusal}
+use Rattle.figures.proofs.SameRefusal.{same_refusal}
 use Rattle.order.specs.Trees.{Tree, words, subtrees}
 use Rattle.order.proofs.Orders.{size}
 use Rattle.order.proofs.Fitting.{fits-tree, tree-fits, fits-some}
 use Rattle.section.specs.Entries.{Entry, entry_words, total, Below, Sorted}
 use Rattle.book.specs.Book.{Book, section_of, shallowest, deepest, used, live, encode, lay, entry_in_form, ascending_from, section_in_form, in_form}
-use Rattle.book.specs.Decoding.{book_in, formed, decode, by_book, on_book, places_of, book_form_of, BookForm, Refused, InForm}
+use Rattle.book.specs.Decoding.{book_in, formed, decode, by_book, on_book, places_of, book_form_of, looked, BookForm, Refused, InForm}
 use Rattle.book.specs.Sound.{SoundEntry, SoundSection, SoundBook, IsBook, WhyForm, shorter, longer, formless, book}
 use Rattle.book.specs.Holding.{Holds}
 use Rattle.book.specs.declared.Places.{Places}
@@ -278,3 +281,12 @@ pub entry-says : (e : Entry) (t : Tree) → e.key ≡ words t → entry_words e 
 entry-says e t s =
     let n : length e.key / 2 ≡ length (subtrees t) = omega (arith, ap length s, size t) in
     ap₂ (λ (m : ℕ) (w : List ℕ). m ∷ e.count ∷ w) n s
+
+-- ---- looks
+
+-- Looks that are told alike are one.
+pub same_looked : (r s : Result Places Refusal) → looked r ≡ looked s → r ≡ s
+same_looked (Err r) (Err s) e = ap Err (same_refusal r s (let n : refusal_number r ≡ refusal_number s = cc in n))
+same_looked (Ok p) (Ok q) e = let n : p ≡ q = cc in ap Ok n
+same_looked (Err r) (Ok q) e = never cc
+same_looked (Ok p) (Err s) e = never cc

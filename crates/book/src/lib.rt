@@ -71,10 +71,7 @@ pub fn slot(section: Section) -> usize
 pub fn is_book_size(words: usize) -> bool
     ensures { result ≡ within head_words most_book_words words }
 {
-    if words < limits::HEAD_WORDS {
-        return false;
-    }
-    words <= limits::MOST_BOOK_WORDS
+    limits::HEAD_WORDS <= words && words <= limits::MOST_BOOK_WORDS
 }
 
 // Opens an empty book of that k in the slice: 4, 3, or done, with the whole slice written.

@@ -2,7 +2,7 @@
 -- nothing.
 use Prim.Native.Nat.{ℕ, ◌+◌, ◌-◌, ◌≤◌}
 use mathlib.Core.Path.{◌≡◌, refl}
-use mathlib.Core.Bool.{Bool, true, false}
+use mathlib.Core.Bool.{Bool, true, false, ◌||◌}
 use mathlib.Core.List.{List, [], ◌∷◌}
 use native.Mathlib.Omega.{arith}
 use lib.ListN.{length, get_or, take, drop, length-append, length-drop}
@@ -73,10 +73,17 @@ pub parts-weighed : (other b : Book) (r l p : Weighed) → r ≡ weighed_in Tops
 unfolding lacking_parts section_of
 parts-weighed other b r l p d e f = rw (d, e, f)
 
+-- Whether one of four holds, by one choice after the other.
+one-of_four : (t r l p : Bool) → ((t || r) || l) || p ≡ (when t then true else (when r then true else (when l then true else p)))
+unfolding when◌then◌else◌
+one-of_four true r l p = refl
+one-of_four false true l p = refl
+one-of_four false false true p = refl
+one-of_four false false false p = refl
+
 -- What four sections lack, and whether a count of one of them would pass 65,535, is what the other book would do.
 pub book-weighed : (other b : Book) (t r l p : Weighed) → t ≡ weighed_in Taught other b → r ≡ weighed_in Tops other b → l ≡ weighed_in Lows other b → p ≡ weighed_in Middles other b
-    → (x y z : Bool) → x ≡ (when l.overfull then true else p.overfull) → y ≡ (when r.overfull then true else x) → z ≡ (when t.overfull then true else y)
     → let each : Lacking = record { taught = t.lacking; tops = r.lacking; lows = l.lacking; middles = p.lacking } in
-    ◌≡◌ {A = BookWeighed} (record { each = each; lacking = t.lacking + (r.lacking + l.lacking + p.lacking); overfull = z }) (weighed_book other b)
+    ◌≡◌ {A = BookWeighed} (record { each = each; lacking = t.lacking + (r.lacking + l.lacking + p.lacking); overfull = ((t.overfull || r.overfull) || l.overfull) || p.overfull }) (weighed_book other b)
 unfolding lacking_each lacking_all lacking_parts overfull_any section_of
-book-weighed other b t r l p c d e f x y z h i j = rw (j, i, h, c, d, e, f)
+book-weighed other b t r l p c d e f = rw (one-of_four t.overfull r.overfull l.overfull p.overfull, c, d, e, f)

@@ -75,16 +75,6 @@ pub fn lacking_parts(book: &[u16], places: Places, other: &[u16], others: Places
     tops.lacking + lows.lacking + middles.lacking
 }
 
-// Whether one of two holds.
-fn either(one: bool, other: bool) -> bool
-    ensures { result ≡ (when one then true else other) }
-{
-    if one {
-        return true;
-    }
-    other
-}
-
 // What the other book would do to the book.
 pub fn weigh_book(book: &[u16], places: Places, other: &[u16], others: Places) -> BookWeighed
     requires holds { Holds book.now places }
@@ -96,8 +86,7 @@ pub fn weigh_book(book: &[u16], places: Places, other: &[u16], others: Places) -
     let lows = weigh_section(book, Section::Lows, places, other, others);
     let middles = weigh_section(book, Section::Middles, places, other, others);
     let lacking = taught.lacking + (tops.lacking + lows.lacking + middles.lacking);
-    let parts = either(tops.overfull, either(lows.overfull, middles.overfull));
-    let overfull = either(taught.overfull, parts);
+    let overfull = taught.overfull | tops.overfull | lows.overfull | middles.overfull;
     let each = Lacking {
         taught: taught.lacking,
         tops: tops.lacking,

@@ -9,7 +9,7 @@ ghost use Rattle.book.specs.Decoding.{book_in};
 ghost use Rattle.book.specs.Holding.{Holds};
 ghost use Rattle.book.specs.Taught.{agreeing};
 ghost use Rattle.book.specs.Checking.{agree_of};
-ghost use Rattle.book_check.specs.Agreeing.{small_book, agreeing_in, Roomy};
+ghost use Rattle.book_check.specs.Agreeing.{most_entries, agreeing_in, Roomy};
 
 use book::{Places, Section};
 use figures::{Answer, answered, limits, numbers};
@@ -80,26 +80,16 @@ fn sections_agree(
     section_agrees(book, places, Section::Middles, starts, counts, marks)
 }
 
-// Whether a book in form that uses few words agrees with itself, in a small scratch.
-fn agrees_small(book: &[u16], places: Places) -> bool
+// Whether a book in form agrees with itself, in a scratch that has room for so many entries, and no section has more.
+fn agrees_in<const ENTRIES: usize>(book: &[u16], places: Places) -> bool
     requires holds { Holds book.now places }
-    requires used_le_small_book { places.used ≤ small_book }
+    requires roomy { Roomy book.now ENTRIES }
+    requires few { ENTRIES ≤ most_entries }
     ensures { result ≡ agreeing (book_in book.now) }
 {
-    let mut starts = [0u16; SMALL_ENTRIES];
-    let mut counts = [0u16; SMALL_ENTRIES];
-    let mut marks = [0u16; SMALL_ENTRIES];
-    sections_agree(book, places, &mut starts, &mut counts, &mut marks)
-}
-
-// Whether any book in form agrees with itself, in a scratch for the most entries.
-fn agrees_large(book: &[u16], places: Places) -> bool
-    requires { Holds book.now places }
-    ensures { result ≡ agreeing (book_in book.now) }
-{
-    let mut starts = [0u16; MOST_ENTRIES];
-    let mut counts = [0u16; MOST_ENTRIES];
-    let mut marks = [0u16; MOST_ENTRIES];
+    let mut starts = [0u16; ENTRIES];
+    let mut counts = [0u16; ENTRIES];
+    let mut marks = [0u16; ENTRIES];
     sections_agree(book, places, &mut starts, &mut counts, &mut marks)
 }
 
@@ -109,9 +99,10 @@ fn agrees(book: &[u16], places: Places) -> bool
     ensures { result ≡ agreeing (book_in book.now) }
 {
     if places.used <= SMALL_BOOK {
-        return agrees_small(book, places);
+        agrees_in::<SMALL_ENTRIES>(book, places)
+    } else {
+        agrees_in::<MOST_ENTRIES>(book, places)
     }
-    agrees_large(book, places)
 }
 
 // Whether a book in form agrees with itself: 9, or 0.

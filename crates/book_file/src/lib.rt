@@ -12,6 +12,9 @@ ghost use Rattle.book_filing.specs.Files.{mark, version, front_bytes, write_file
 use book::Places;
 use figures::{Answer, Written, answered, limits, numbers, wrote};
 
+// The mark of a stored book.
+const MARK: &[u8; MARK_BYTES] = b"OFB";
+
 // How many bytes the mark has.
 const MARK_BYTES: usize = 3;
 
@@ -28,9 +31,7 @@ fn put_front(out: &mut [u8])
     requires { length out.old ≡ front_bytes }
     ensures { out.new ≡ mark ++ bytes_of (version ∷ []) }
 {
-    out[0] = b'O';
-    out[1] = b'F';
-    out[2] = b'B';
+    out[..MARK_BYTES].copy_from_slice(MARK);
     octets::put_word(out, MARK_BYTES, VERSION);
 }
 
@@ -58,16 +59,7 @@ pub fn write(book: &[u16], out: &mut [u8]) -> Written
 fn is_marked(file: &[u8]) -> bool
     ensures { result ≡ is_marked file.now }
 {
-    if file.len() < FRONT_BYTES {
-        return false;
-    }
-    if file[0] != b'O' {
-        return false;
-    }
-    if file[1] != b'F' {
-        return false;
-    }
-    file[2] == b'B'
+    FRONT_BYTES <= file.len() && file.starts_with(MARK)
 }
 
 // Copies words to the front of a slice that has room for them, and clears the rest of it.

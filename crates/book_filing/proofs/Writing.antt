@@ -27,16 +27,20 @@ use Rattle.book.proofs.Holding.{refused-book}
 use Rattle.book.proofs.Sound.{on-any, why-is, head_says, encode-length, by_book_lem}
 use Rattle.book.specs.Checking.{agree_of}
 use Rattle.book.proofs.Checking.{check_unheld, check_held}
-use Rattle.book_filing.specs.Files.{mark, version, front_bytes, file_of, write_file_of}
+use Rattle.book_filing.specs.Files.{mark, mark_bytes, version, front_bytes, file_of, write_file_of}
 
 -- ---- the front of a file
 
--- The stores of `put_front` make five bytes the mark and the version.
-pub front-stores : (l : List ℕ) → length l ≡ front_bytes
-    → set (set (set (set (set l 0 79) 1 70) 2 66) 3 (version / 256)) (3 + 1) (version % 256) ≡ mark ++ bytes_of (version ∷ [])
+-- Behind the mark the stores of the version's word make five bytes the front of a file.
+pub front-stores : (l : List ℕ) → length l ≡ front_bytes → set (set (mark ++ drop mark_bytes l) 3 (version / 256)) (3 + 1) (version % 256) ≡ mark ++ bytes_of (version ∷ [])
 unfolding bytes_of
-front-stores l h =
-    sets-eq (mark ++ bytes_of (version ∷ [])) l 0 (omega arith) ∙ ap (λ (r : List ℕ). mark ++ (bytes_of (version ∷ []) ++ r)) (drop_of_length-le l {i = front_bytes} (omega arith))
+front-stores [] h = absurd (omega (arith, h))
+front-stores (a ∷ []) h = absurd (omega (arith, h))
+front-stores (a ∷ b ∷ []) h = absurd (omega (arith, h))
+front-stores (a ∷ b ∷ c ∷ []) h = absurd (omega (arith, h))
+front-stores (a ∷ b ∷ c ∷ d ∷ []) h = absurd (omega (arith, h))
+front-stores (a ∷ b ∷ c ∷ d ∷ e ∷ []) h = refl
+front-stores (a ∷ b ∷ c ∷ d ∷ e ∷ f ∷ l) h = absurd (omega (arith, h))
 
 -- A file has the bytes of its front and two for each used word.
 pub file_long : (b : Book) → length (file_of b) ≡ front_bytes + 2 * used b

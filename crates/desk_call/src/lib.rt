@@ -13,10 +13,7 @@ use figures::{Answer, limits, numbers};
 pub fn used_words(book: &[u16]) -> u16
     ensures { result ≡ get_or book.now used_word 0 }
 {
-    if book.len() <= limits::USED_WORD {
-        return 0;
-    }
-    book[limits::USED_WORD]
+    book.get(limits::USED_WORD).copied().unwrap_or(0)
 }
 
 // Makes the call of a letter with an order on the book.

@@ -1,6 +1,9 @@
 -- What stands at a place of the input, by the tests that the code makes of its bytes. Assumes nothing.
-use Rattle.std.specs.Prelude.{None, Some, Err, Ok}
-use Prim.Native.Nat.{ℕ, suc, ◌+◌, ◌-◌, ◌≤◌, ◌<◌}
+use Rattle.std.specs.Prelude.{Option, None, Some, Err, Ok}
+use Rattle.std.specs.Option.{is_some}
+use Rattle.std.specs.Char.{IsNotAsciiDigit}
+use mathlib.Core.Logic.{⊎_elim}
+use Prim.Native.Nat.{ℕ, suc, ◌+◌, ◌≤◌, ◌<◌}
 use mathlib.Core.Path.{◌≡◌, refl, ap, sym, ◌∙◌}
 use mathlib.Core.Bool.{Bool, true, false}
 use mathlib.Core.List.{List, [], ◌∷◌}
@@ -46,27 +49,31 @@ too_short [] h = refl
 too_short (b ∷ []) h = refl
 too_short (b ∷ e ∷ bs) h = absurd (omega arith)
 
+-- Two bytes decide, and LF has to be the second.
+pub second-other : (bs : List ℕ) → 2 ≤ length bs → (get_or bs 1 0 ≡ line_feed → ⊥) → letter_at bs ≡ None
+unfolding letter_at when◌then◌else◌
+second-other [] h n = refl
+second-other (b ∷ []) h n = refl
+second-other (b ∷ e ∷ bs) h n = rw (ne_eqb e line_feed n)
+
+-- Before LF the first decides.
+pub second-feed : (bs : List ℕ) → 2 ≤ length bs → get_or bs 1 0 ≡ line_feed → letter_at bs ≡ letter_of (get_or bs 0 0)
+unfolding letter_at when◌then◌else◌
+second-feed [] h e = absurd (omega arith)
+second-feed (b ∷ []) h e = absurd (omega arith)
+second-feed (b ∷ f ∷ bs) h e = rw (eq-eqb f line_feed e)
+
+-- A letter line that is there has a letter.
+pub there : (o : Option Letter) → is_some o ≡ true → (x : Letter) × (o ≡ Some x)
+there (Some x) e = (x, refl)
+there None e = never cc
+
+-- One that is not there has none.
+pub not-there : (o : Option Letter) → is_some o ≡ false → o ≡ None
+not-there (Some x) e = never cc
+not-there None e = refl
+
 module _ (text : List ℕ) (p : ℕ) where
-  -- Where fewer than two bytes are left there is no letter line.
-  pub none_left : p ≤ length text → length text - p < 2 → letter_at (drop p text) ≡ None
-  none_left h k = too_short (drop p text) (omega (arith, length-drop p text))
-
-  -- Two bytes and what follows them.
-  two_bytes : p + 1 < length text → drop p text ≡ get_or text p 0 ∷ get_or text (p + 1) 0 ∷ drop (p + 2) text
-  two_bytes h =
-      let z : suc (suc p) ≡ p + 2 = omega arith in
-      rw (drop-cons text p 0 (omega arith), add-one, drop-cons text (suc p) 0 (omega arith), ← z)
-
-  -- Two bytes decide, and LF has to be the second.
-  pub second-other : p + 1 < length text → (get_or text (p + 1) 0 ≡ line_feed → ⊥) → letter_at (drop p text) ≡ None
-  unfolding letter_at when◌then◌else◌
-  second-other h n = rw (two_bytes h, ne_eqb (get_or text (p + 1) 0) line_feed n)
-
-  -- Before LF the first decides.
-  pub second-feed : p + 1 < length text → get_or text (p + 1) 0 ≡ line_feed → letter_at (drop p text) ≡ letter_of (get_or text p 0)
-  unfolding letter_at when◌then◌else◌
-  second-feed h e = rw (two_bytes h, eq-eqb (get_or text (p + 1) 0) line_feed e)
-
   -- ---- forms
 
   -- No bytes are left to count at the end.
@@ -80,15 +87,15 @@ module _ (text : List ℕ) (p : ℕ) where
   pass_inside starts s h = rw (s, drop-cons text p 0 h, add-one, size-on (get_or text p 0) (drop (suc p) text)) (omega arith)
 
   -- So it is at the start of a line that is no letter line.
-  pub pass_other : (starts : Bool) → starts ≡ true → p < length text → letter_at (drop p text) ≡ None
+  pub pass_other : (starts : Bool) → starts ≡ true → p < length text → is_some (letter_at (drop p text)) ≡ false
       → p + size_to starts (drop p text) ≡ p + 1 + size_to (eqb (get_or text p 0) line_feed) (drop (p + 1) text)
   pass_other starts s h e =
-      let f : letter_at (get_or text p 0 ∷ drop (suc p) text) ≡ None = ap letter_at (sym (drop-cons text p 0 h)) ∙ e in
+      let f : letter_at (get_or text p 0 ∷ drop (suc p) text) ≡ None = ap letter_at (sym (drop-cons text p 0 h)) ∙ not-there _ e in
       rw (s, drop-cons text p 0 h, add-one, size-other (get_or text p 0) (drop (suc p) text) f) (omega arith)
 
   -- At a letter line the count ends.
-  pub stops : (starts : Bool) (x : Letter) → starts ≡ true → letter_at (drop p text) ≡ Some x → p + size_to starts (drop p text) ≡ p
-  stops starts x s e = rw (s, size-letter (drop p text) x e) (omega arith)
+  pub stops : (starts : Bool) → starts ≡ true → is_some (letter_at (drop p text)) ≡ true → p + size_to starts (drop p text) ≡ p
+  stops starts s e = let x = there (letter_at (drop p text)) e in rw (s, size-letter (drop p text) x.0 x.1) (omega arith)
 
 -- ---- line 1
 
@@ -137,16 +144,13 @@ module _ (input : List ℕ) (h : 4 ≤ length input) where
   no_space n = no_first (fails_right _ _ (fails_left _ _ (ne_eqb _ _ n)))
 
   -- A third byte that is no digit leaves no k.
-  no_digit : is_digit (get_or input 2 0) ≡ false → depth_on input ≡ None
-  no_digit e = no_first (fails_right _ _ (fails_right _ _ (fails_left _ _ e)))
-
-  -- A third byte below 0 leaves no k.
-  pub under-0 : get_or input 2 0 < digit_0 → depth_on input ≡ None
-  under-0 l = no_digit (unfold is_digit in fails_left _ _ (lt-leb _ _ l))
-
-  -- A third byte above 9 leaves no k.
-  pub over-9 : digit_9 < get_or input 2 0 → depth_on input ≡ None
-  over-9 l = no_digit (unfold is_digit in fails_right _ _ (lt-leb _ _ l))
+  pub no_digit : IsNotAsciiDigit (get_or input 2 0) → depth_on input ≡ None
+  unfolding is_digit
+  no_digit o = no_first (fails_right _ _ (fails_right _ _ (fails_left _ _ (outside o))))
+    where
+      -- Below 0 the first test of a digit fails, and above 9 the second.
+      outside : IsNotAsciiDigit (get_or input 2 0) → is_digit (get_or input 2 0) ≡ false
+      outside o = ⊎_elim (λ l. fails_left _ _ (lt-leb _ _ l)) (λ l. fails_right _ _ (lt-leb _ _ l)) o
 
   -- Another fourth byte than LF leaves no k.
   pub no_feed : (get_or input 3 0 ≡ line_feed → ⊥) → depth_on input ≡ None

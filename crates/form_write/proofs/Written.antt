@@ -4,7 +4,9 @@ use mathlib.Core.Path.{◌≡◌, refl, ap, sym, subst, ◌∙◌}
 use mathlib.Core.List.{List, [], ◌∷◌, ◌++◌, append_assoc, append-nil}
 use native.Mathlib.Omega.{arith}
 use lib.ListN.{length, take, drop, get_or, length-append}
-use lib.Seq.{get_or_at, get_or-take, get_or-drop}
+use lib.Seq.{get_or_at, get_or-take, get_or-drop, length-take-le}
+use Rattle.std.specs.List.{sum_by}
+use Rattle.std.proofs.lemmas.List.Sums.{sum_by-cons}
 use Rattle.words.specs.Base.{over}
 use Rattle.figures.specs.Limits.{most_nodes}
 use Rattle.figures.specs.Numbers.{done}
@@ -20,7 +22,7 @@ use Rattle.order.proofs.Levels.{level-within, levels_of_lem}
 use Rattle.order.proofs.Causes.{Passed, refused-by, has-tree}
 use Rattle.order.proofs.Lines.{from_spot}
 use Rattle.order.proofs.Spots.{top-spot}
-use Rattle.order.proofs.LineSpans.{span-is}
+use Rattle.order.proofs.LineSpans.{span-is, levels_room}
 use Rattle.form.specs.Text.{code_size, Line, lines_of, level_text, line_text, spell, text_of}
 use Rattle.form.specs.Reading.{words_of_lines}
 use Rattle.form.specs.Writing.{write_of}
@@ -28,6 +30,10 @@ use Rattle.form.specs.Turns.{lines_in, levels_of, ShortLines}
 use Rattle.form.proofs.Counts.{length-words}
 use Rattle.form.proofs.TreeLines.{lines-words, lines-count}
 use Rattle.form.proofs.LineBytes.{over-part, line-size, spell-append, spell-more, spell-most, spell-short, levels_append, levels_size, tree-levels}
+
+-- How many bytes a level takes.
+abbrev pub level_bytes : ℕ → ℕ
+level_bytes l = length (level_text l)
 
 -- ---- the lines of an order that passes
 
@@ -85,11 +91,31 @@ text-short s e h =
     let m : length s / 2 ≡ length (lines_in s) = omega (arith, (known s e).twice) in
     ap (λ (k : ℕ). k * (1 + code_size)) m ∙ sym (spell-short (lines_in s) h)
 
+-- There are as many levels as lines.
+levels_long : (s levels : List ℕ) → cause_of s ≡ done → LinesLevelled s levels → length (take (length s / 2) levels) ≡ length s / 2
+levels_long s levels e h = length-take-le (length s / 2) levels (levels_room s levels e h)
+
 -- The level that is read of such a line has one digit.
-pub level-short : (s levels : List ℕ) (line : ℕ) → cause_of s ≡ done → LinesLevelled s levels → ShortLines (lines_in s) → line < length s / 2 → get_or levels line 0 < 10
+pub level-short : (s levels : List ℕ) (line : ℕ) → cause_of s ≡ done → LinesLevelled s levels → ShortLines (lines_in s) → line < length (take (length s / 2) levels) → get_or (take (length s / 2) levels) line 0 < 10
 level-short s levels line e h short k =
-    let m : line < length (lines_in s) = omega (arith, (known s e).twice) in
-    omega (arith, short line m, get_or-take (length (lines_in s)) levels line 0 m, ap (λ (r : List ℕ). get_or r line 0) (levels_listed s levels e h))
+    let m : length s / 2 ≡ length (lines_in s) = omega (arith, (known s e).twice) in
+    omega (arith, short line (omega (arith, levels_long s levels e h)), ap (λ (r : List ℕ). get_or r line 0) (ap (λ (n : ℕ). take n levels) m ∙ levels_listed s levels e h))
+
+-- Lines take the bytes of their levels, and those of a code each.
+spell_size : (xs : List Line) → length xs * code_size + sum_by level_bytes (levels_of xs) ≡ length (spell xs)
+unfolding spell levels_of
+spell_size [] = refl
+spell_size (x ∷ xs) = omega (arith, length-append (line_text x) (spell xs), line-size x, spell_size xs, sum_by-cons level_bytes x.level (levels_of xs))
+
+-- The lines of an order take the bytes of the levels that are listed for it, and those of a code each.
+pub text-levels : (s levels : List ℕ) → cause_of s ≡ done → LinesLevelled s levels → length s / 2 * code_size + sum_by level_bytes (take (length s / 2) levels) ≡ length (spell (lines_in s))
+text-levels s levels e h =
+    let m : length s / 2 ≡ length (lines_in s) = omega (arith, (known s e).twice) in
+    rw (m, levels_listed s levels e h) (spell_size (lines_in s))
+
+-- They are not many.
+pub text-most : (s : List ℕ) → cause_of s ≡ done → length (spell (lines_in s)) ≤ 8 * most_nodes
+text-most s e = omega (arith, spell-most (lines_in s), (known s e).few)
 
 -- ---- one line after the other
 
@@ -105,10 +131,6 @@ pub record Measured (xs : List Line) (line bytes : ℕ) : Type 0 where
 pub measured_none : (xs : List Line) → Measured xs 0 0
 unfolding spell
 measured_none xs = record { before = []; after = xs; split = refl; reached = refl; sized = refl }
-
--- The lines before take at most eight bytes each.
-pub measured_most : (xs : List Line) (line bytes : ℕ) → Measured xs line bytes → bytes ≤ 8 * line
-measured_most xs line bytes m = omega (arith, spell-most m.before, m.sized, m.reached)
 
 -- One line more is gone over.
 measured_more : (xs before after : List Line) (x : Line) (line bytes n : ℕ) → xs ≡ before ++ (x ∷ after) → length before ≡ line → bytes ≡ length (spell before) → n ≡ length (line_text x)
@@ -166,21 +188,15 @@ module _ (s levels : List ℕ) (fine : cause_of s ≡ done) (levelled : LinesLev
       let is : ◌≡◌ {A = Line} (record { level = x.level; code = x.code }) (record { level = get_or levels line 0; code = get_or s (2 * line) 0 }) = cc in
       is
 
-  -- The bytes of a level and of a code measure the line that is read.
-  pub measured_next : (bytes n : ℕ) → line < length s / 2 → n ≡ length (level_text (get_or levels line 0)) → Measured (lines_in s) line bytes → Measured (lines_in s) (line + 1) (bytes + (n + code_size))
-  measured_next bytes n h i p = go p.after p.split
-    where
-      go : (ys : List Line) → lines_in s ≡ p.before ++ ys → Measured (lines_in s) (line + 1) (bytes + (n + code_size))
-      go [] e = absurd (omega (arith, (known s fine).twice, ap length e, length-append p.before [], p.reached))
-      go (x ∷ ys) e = measured_more (lines_in s) p.before ys x line bytes (n + code_size) e p.reached p.sized (omega (arith, i, line-size x, ap (λ (y : Line). length (level_text y.level)) (this-line x p.before ys e p.reached)))
-
   -- `PutNext` holds of the line that is read while lines are left.
-  pub put_next : (out₀ out : List ℕ) (at : ℕ) → length (spell (lines_in s)) ≤ length out₀ → length out ≡ length out₀ → line < length s / 2 → Put (lines_in s) out₀ out line at
-      → PutNext (lines_in s) out₀ out line at (record { level = get_or levels line 0; code = get_or s (2 * line) 0 })
-  put_next out₀ out at room same h p = go p.measured.after p.measured.split
+  pub put_next : (level : ℕ) (out₀ out : List ℕ) (at : ℕ) → length (spell (lines_in s)) ≤ length out₀ → length out ≡ length out₀ → line < length (take (length s / 2) levels)
+      → level ≡ get_or (take (length s / 2) levels) line 0 → Put (lines_in s) out₀ out line at → PutNext (lines_in s) out₀ out line at (record { level = level; code = get_or s (2 * line) 0 })
+  put_next level out₀ out at room same h is p =
+      let e : level ≡ get_or levels line 0 = is ∙ get_or-take (length s / 2) levels line 0 (omega (arith, levels_long s levels fine levelled)) in
+      rw e (go p.measured.after p.measured.split)
     where
       go : (ys : List Line) → lines_in s ≡ p.measured.before ++ ys → PutNext (lines_in s) out₀ out line at (record { level = get_or levels line 0; code = get_or s (2 * line) 0 })
-      go [] e = absurd (omega (arith, (known s fine).twice, ap length e, length-append p.measured.before [], p.measured.reached))
+      go [] e = absurd (omega (arith, (known s fine).twice, ap length e, length-append p.measured.before [], p.measured.reached, levels_long s levels fine levelled))
       go (x ∷ ys) e =
           let m = p.measured in
           subst (PutNext (lines_in s) out₀ out line at) (this-line x m.before ys e m.reached) (next-of (lines_in s) out₀ out line at x m.before ys room same e m.reached m.sized p.is)
@@ -193,13 +209,10 @@ measured_done s line bytes m fine h = go m.after m.split
     go [] e = sym (e ∙ append-nil m.before)
     go (x ∷ ys) e = absurd (omega (arith, (known s fine).twice, ap length e, length-append m.before (x ∷ ys), m.reached))
 
--- After the last line the bytes are those of all.
-pub measured_all : (s : List ℕ) (line bytes : ℕ) → cause_of s ≡ done → length s / 2 ≤ line → Measured (lines_in s) line bytes → bytes ≡ length (spell (lines_in s))
-measured_all s line bytes fine h m = m.sized ∙ ap (λ (xs : List Line). length (spell xs)) (measured_done s line bytes m fine h)
-
 -- After the last line all are written.
-pub put_all : (s out₀ out : List ℕ) (line at : ℕ) → cause_of s ≡ done → length s / 2 ≤ line → Put (lines_in s) out₀ out line at → out ≡ over (spell (lines_in s)) out₀
-put_all s out₀ out line at fine h p = p.is ∙ ap (λ (xs : List Line). over (spell xs) out₀) (measured_done s line at p.measured fine h)
+pub put_all : (s levels out₀ out : List ℕ) (line at : ℕ) → cause_of s ≡ done → LinesLevelled s levels → length (take (length s / 2) levels) ≤ line → Put (lines_in s) out₀ out line at → out ≡ over (spell (lines_in s)) out₀
+put_all s levels out₀ out line at fine levelled h p =
+    p.is ∙ ap (λ (xs : List Line). over (spell xs) out₀) (measured_done s line at p.measured fine (omega (arith, levels_long s levels fine levelled)))
 
 -- ---- the call
 

@@ -22,8 +22,7 @@ fn is_shallow(order: &[u16], spans: &[u16]) -> bool
     requires { GoneOver order.now spans.now }
     ensures { result ≡ true → ShortLines (lines_in order.now) }
 {
-    let depth = spans[1];
-    depth < 10
+    spans[1] < 10
 }
 
 // How many bytes the lines of an order take, by the level of each.
@@ -31,15 +30,11 @@ fn lines_size(order: &[u16], levels: &[u8]) -> usize
     requires { (cause_of order.now ≡ done) × LinesLevelled order.now levels.now }
     ensures { result ≡ length (spell (lines_in order.now)) }
 {
-    let n = order.len() / 2;
-    let mut line = 0;
-    let mut bytes = 0;
-    while line < n {
-        let level = levels[line] as usize;
-        bytes += level_size(level) + CODE_SIZE;
-        line += 1;
-    }
-    bytes
+    let lines = order.len() / 2;
+    let sizes = levels[..lines]
+        .iter()
+        .map(|level| level_size(usize::from(*level)));
+    lines * CODE_SIZE + sizes.sum::<usize>()
 }
 
 // How many bytes the lines of an order take, which was gone over: seven each where no level has two digits.
@@ -48,9 +43,10 @@ fn text_size(order: &[u16], spans: &[u16], levels: &[u8]) -> usize
     ensures { result ≡ length (spell (lines_in order.now)) }
 {
     if is_shallow(order, spans) {
-        return order.len() / 2 * (1 + CODE_SIZE);
+        order.len() / 2 * (1 + CODE_SIZE)
+    } else {
+        lines_size(order, levels)
     }
-    lines_size(order, levels)
 }
 
 // Writes the lines of an order, whose levels are known, to the front of `out`, which has room for them.
@@ -58,14 +54,9 @@ fn put_lines(order: &[u16], levels: &[u8], out: &mut [u8])
     requires { (cause_of order.now ≡ done) × LinesLevelled order.now levels.now × (length (spell (lines_in order.now)) ≤ length out.old) }
     ensures { out.new ≡ over (spell (lines_in order.now)) out.old }
 {
-    let n = order.len() / 2;
-    let mut line = 0;
     let mut at = 0;
-    while line < n {
-        let level = levels[line] as usize;
-        let code = order[2 * line];
-        at += put_line(&mut out[at..], level, code);
-        line += 1;
+    for (line, level) in levels[..order.len() / 2].iter().enumerate() {
+        at += put_line(&mut out[at..], usize::from(*level), order[2 * line]);
     }
 }
 
@@ -75,15 +66,10 @@ fn put_short_lines(order: &[u16], levels: &[u8], out: &mut [u8])
         × (length (spell (lines_in order.now)) ≤ length out.old) }
     ensures { out.new ≡ over (spell (lines_in order.now)) out.old }
 {
-    let n = order.len() / 2;
-    let mut line = 0;
     let mut at = 0;
-    while line < n {
-        let level = levels[line];
-        let code = order[2 * line];
-        put_short_line(&mut out[at..], level, code);
+    for (line, level) in levels[..order.len() / 2].iter().enumerate() {
+        put_short_line(&mut out[at..], *level, order[2 * line]);
         at += 1 + CODE_SIZE;
-        line += 1;
     }
 }
 
@@ -95,9 +81,9 @@ fn put_text(order: &[u16], spans: &[u16], levels: &[u8], out: &mut [u8])
 {
     if is_shallow(order, spans) {
         put_short_lines(order, levels, out);
-        return;
+    } else {
+        put_lines(order, levels, out);
     }
-    put_lines(order, levels, out);
 }
 
 // Writes the only text of an order to the front of `out`, or nothing and the first cause.

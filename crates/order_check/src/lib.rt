@@ -2,7 +2,8 @@
 // function's `requires`.
 #![tactic(auto)]
 
-ghost use Rattle.std.specs.Prelude.{◌≡◌, ◌+◌, ◌*◌, ◌/◌, ◌<◌, length, get_or, IfOk};
+ghost use Rattle.std.specs.Prelude.{◌≡◌, ◌/◌, ◌≤◌, length, IfOk};
+ghost use Rattle.figures.specs.Limits.{most_words};
 ghost use Rattle.order.specs.Reading.{cause_of};
 ghost use Rattle.order.specs.Levels.{LinesLevelled};
 ghost use Rattle.order.specs.Spans.{GoneOver, RowAt, hopped};
@@ -28,29 +29,9 @@ pub struct Lines<'a> {
     pub ghost levelled: { LinesLevelled order.words.now levels.now },
 }
 
-impl Order<'_> {
-    // The line past the subtree of a line, both counted from 0.
-    pub fn line_end(&self, line: usize) -> usize
-        requires { line < length self.now.words.now / 2 }
-        ensures { result ≡ get_or self.now.spans.now (line * 2) 0 }
-    {
-        usize::from(self.spans[line * 2])
-    }
-
-    // How deep the subtree of a line is, counted from 0.
-    pub fn depth(&self, line: usize) -> usize
-        requires { line < length self.now.words.now / 2 }
-        ensures { result ≡ get_or self.now.spans.now (line * 2 + 1) 0 }
-    {
-        usize::from(self.spans[line * 2 + 1])
-    }
-}
-
 // The order that words are, with the spans of its lines written to the scratch, or the first cause of 1 or 2.
-pub fn go_over<'a>(
-    words: &'a [u16],
-    spans: &'a mut [u16; limits::MOST_WORDS],
-) -> Result<Order<'a>, Refusal>
+pub fn go_over<'a>(words: &'a [u16], spans: &'a mut [u16]) -> Result<Order<'a>, Refusal>
+    requires { most_words ≤ length spans.old }
     ensures came { number_told result ≡ cause_of words.now }
     ensures same { IfOk result (λ o. o.words ≡ words.entry) }
 {
@@ -89,7 +70,8 @@ fn level_row(spans: &[u16], from: usize, trees: u16, level: u8, levels: &mut [u8
 }
 
 // The lines of an order, whose levels are written to the front of `levels`: that of each line's children is one more than its own.
-pub fn level_lines<'a>(order: Order<'a>, levels: &'a mut [u8; limits::MOST_NODES]) -> Lines<'a>
+pub fn level_lines<'a>(order: Order<'a>, levels: &'a mut [u8]) -> Lines<'a>
+    requires { length order.words.now / 2 ≤ length levels.old }
     ensures { result.order ≡ order.entry }
 {
     levels[0] = 0;

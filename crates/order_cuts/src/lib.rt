@@ -23,6 +23,14 @@ pub fn find_line(order: &Order, line: usize) -> Option<usize>
     Some(at)
 }
 
+// The line past the subtree of a line, both counted from 0, by the spans of an order's lines.
+pub fn line_end(spans: &[u16], line: usize) -> usize
+    requires { line * 2 < length spans.now }
+    ensures { result ≡ get_or spans.now (line * 2) 0 }
+{
+    usize::from(spans[line * 2])
+}
+
 // The subtree of a line, counted from 1, as that part of the order; an empty part for an order with a cause of 1 or 2 and for a line
 // that the order lacks.
 pub fn subtree(order: &[u16], line: usize) -> &[u16]
@@ -35,7 +43,7 @@ pub fn subtree(order: &[u16], line: usize) -> &[u16]
     let Some(at) = find_line(&passed, line) else {
         return &order[0..0];
     };
-    let end = passed.line_end(at / 2) * 2;
+    let end = line_end(passed.spans, at / 2) * 2;
     &order[at..end]
 }
 
@@ -52,7 +60,7 @@ fn next_line(order: &Order, line: usize, below: usize, d: usize) -> usize
     ensures { result ≡ (when leb d below then get_or order.now.spans.now (line * 2) 0 else line + 1) }
 {
     if d <= below {
-        return order.line_end(line);
+        return line_end(order.spans, line);
     }
     line + 1
 }
@@ -66,7 +74,7 @@ pub fn put_cut(lines: &Lines, line: usize, d: usize, out: &mut [u16]) -> usize
 {
     let Lines { order, levels } = lines;
     let own = levels[line];
-    let end = order.line_end(line);
+    let end = line_end(order.spans, line);
     let mut at = line;
     let mut count: usize = 0;
     // A turn finds the next turn's line: no range has these.
@@ -88,7 +96,7 @@ pub fn is_cut(lines: &Lines, line: usize, d: usize, tree: &[u16]) -> bool
 {
     let Lines { order, levels } = lines;
     let own = levels[line];
-    let end = order.line_end(line);
+    let end = line_end(order.spans, line);
     let mut at = line;
     let mut rest = tree;
     // A turn finds the next turn's line, as above.

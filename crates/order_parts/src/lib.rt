@@ -8,15 +8,15 @@ ghost use Rattle.order.specs.declared.Kind.TheVariants.{Low, Middle};
 
 use figures::{Depth, Written, limits, numbers, wrote};
 use order::{Kind, PartWritten};
-use order_check::{Order, go_over};
+use order_check::go_over;
 use order_cuts::{cut_line, find_line};
 
-// Whether a line, counted from 0, stands for a low part at k: its subtree is at most k-2 deep.
-pub fn is_low(order: &Order, line: usize, k: Depth) -> bool
-    requires { line < length order.now.words.now / 2 }
-    ensures { result ≡ leb (get_or order.now.spans.now (line * 2 + 1) 0) (k.k - 2) }
+// Whether a line, counted from 0, stands for a low part at k, by the spans of the order's lines: its subtree is at most k-2 deep.
+pub fn is_low(spans: &[u16], line: usize, k: Depth) -> bool
+    requires { line * 2 + 1 < length spans.now }
+    ensures { result ≡ leb (get_or spans.now (line * 2 + 1) 0) (k.k - 2) }
 {
-    order.depth(line) <= k.of_tops()
+    usize::from(spans[line * 2 + 1]) <= k.of_tops()
 }
 
 // A number, and no part.
@@ -49,7 +49,7 @@ pub fn part_into(order: &[u16], line: usize, k: Depth, out: &mut [u16]) -> PartW
     let Some(at) = find_line(&passed, line) else {
         return no_part(numbers::DONE);
     };
-    let kind = kind_of(is_low(&passed, at / 2, k));
+    let kind = kind_of(is_low(passed.spans, at / 2, k));
     let written = Written::from(cut_line(passed, at / 2, k.of_middles(), out));
     PartWritten { kind, written }
 }

@@ -21,6 +21,7 @@ use Rattle.words.specs.Base.{when◌then◌else◌}
 use Rattle.figures.specs.Numbers.{done, too_large, no_form, top_unknown}
 use Rattle.figures.specs.Answers.{depth_of, asked_told}
 use Rattle.figures.specs.declared.Answer.{Answer}
+use Rattle.figures.specs.declared.refusals.Refusal.{Refusal}
 use Rattle.figures.specs.declared.Written.{Written}
 use Rattle.order.specs.Trees.{Tree, cut}
 use Rattle.order.specs.Paper.{IsR}
@@ -30,7 +31,9 @@ use Rattle.order.specs.declared.PartWritten.{PartWritten}
 use Rattle.form.specs.Reading.{read_of}
 use Rattle.form.specs.Writing.{write_of}
 use Rattle.form.proofs.Figures.{print_line}
-use Rattle.book.specs.Decoding.{book_form_of, form_told, BookForm}
+use Rattle.book.specs.Decoding.{book_form_of, looked, form_told}
+use Rattle.book.specs.declared.Places.{Places}
+use Rattle.book.proofs.Sound.{same_looked}
 use Rattle.book.specs.Opening.{Outcome, outcome, open_of}
 use Rattle.book_judging.specs.Judging.{judge_of}
 use Rattle.book_judging.specs.Verdicts.{Judged}
@@ -251,8 +254,8 @@ module _ (ws os text file out : List ℕ) (k line d : ℕ) where
   one-write = two_writings
 
   -- `book_form::in_form`
-  pub one_form : {r s : BookForm} → r ≡ book_form_of ws → s ≡ book_form_of ws → r ≡ s
-  one_form = same
+  pub one_form : {r s : Result Places Refusal} → looked r ≡ book_form_of ws → looked s ≡ book_form_of ws → r ≡ s
+  one_form e f = same_looked _ _ (same e f)
 
   -- `book::open`
   pub one-open : {r s : Answer} {u v : List ℕ} → outcome r u ≡ open_of ws k → outcome s v ≡ open_of ws k → (r ≡ s) × (u ≡ v)

@@ -19,7 +19,7 @@ use Rattle.figures.specs.Answers.{depth_of, number_of}
 use Rattle.order.specs.Answers.{check_of, subtree_of, piece_at, writing, cut_into_of, part_writing, part_into_of}
 use Rattle.form.specs.Reading.{read_of}
 use Rattle.form.specs.Writing.{write_of}
-use Rattle.book.specs.Decoding.{book_form_of}
+use Rattle.book.specs.Decoding.{looked, book_form_of}
 use Rattle.book.specs.Opening.{outcome, open_of}
 use Rattle.book_judging.specs.Expecting.{judgement_of}
 use Rattle.book_choosing.specs.Choosing.{choose_of}
@@ -247,7 +247,7 @@ module _ {M : Type 1} {𝓤 : Ura.Ura M} (𝓛 : Logic 𝓤) (mem : Memory.Memor
 
   -- `book_form::in_form`
   pub in_form-says : (κs args g r : _) → let c = in_form.spec 𝓛 mem run κs args in
-      (c.ghost ≡ Unit {0}) × (c.requires g ≡ ⊤ₛ) × (c.ensures g r ≡ exits 𝓛 in_form.signature (in_form.ended).kept κs args (λ end. ⌜ r ≡ book_form_of args.0.now ⌝))
+      (c.ghost ≡ Unit {0}) × (c.requires g ≡ ⊤ₛ) × (c.ensures g r ≡ exits 𝓛 in_form.signature (in_form.ended).kept κs args (λ end. ⌜ looked r ≡ book_form_of args.0.now ⌝))
   in_form-says κs args g r = (refl, refl, refl)
 
   -- `book::open`

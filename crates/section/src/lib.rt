@@ -6,8 +6,6 @@ ghost use Rattle.std.specs.Prelude.{◌≡◌, ◌+◌, ◌*◌, ◌≤◌, ◌<
 ghost use Rattle.section.specs.Entries.{entries, span, look};
 ghost use Rattle.section.specs.Near.{near_in, place_at, SearchedTo};
 
-use std::cmp::Ordering;
-
 // Where a key's entry stands or would stand, and how many entries stand below it; for a key that has none, the place of the first word, counted
 // from 1, in which it differs from the last entry below it and from the first above it, 0 where there is no such entry.
 #[derive(Clone, Copy)]
@@ -98,35 +96,26 @@ pub fn search(book: &[u16], from: usize, n: usize, key: &[u16]) -> Stop
 {
     let mut last = from;
     let mut at = from;
-    let mut left = n;
-    while 0 < left {
+    for passed in 0..n {
         let start = at + 2;
         let end = past(book, at);
-        match words::standing(&book[start..end], key) {
-            Ordering::Less => {
-                last = at;
-                at = end;
-                left -= 1;
-            }
-            Ordering::Equal => return Stop {
-                there: true,
+        let stands = words::standing(&book[start..end], key);
+        if stands.is_ge() {
+            return Stop {
+                there: stands.is_eq(),
                 last,
                 at,
-                left,
-            },
-            Ordering::Greater => return Stop {
-                there: false,
-                last,
-                at,
-                left,
-            },
+                left: n - passed,
+            };
         }
+        last = at;
+        at = end;
     }
     Stop {
         there: false,
         last,
         at,
-        left,
+        left: 0,
     }
 }
 

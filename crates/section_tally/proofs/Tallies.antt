@@ -9,12 +9,11 @@ use mathlib.Core.List.Memᴰ.{head as here}
 use mathlib.Core.List.Memᴰ.{tail as there}
 use mathlib.Core.List.{List, [], ◌∷◌}
 use native.Mathlib.Nat.{not-suc-le-zero}
-use native.Mathlib.Numerals.{add-one}
 use native.Mathlib.Decide.{dec_lt}
 use native.Mathlib.Omega.{arith}
 use lib.Dec.{eqb}
-use lib.ListN.{length, get_or, set, drop, drop_of_length-le}
-use lib.Seq.{drop-cons, get_or-drop}
+use lib.ListN.{length, get_or, set}
+use lib.Seq.{get_or-drop}
 use borrow.Author.Tests.{eq-eqb, ne_eqb}
 use Rattle.words.specs.Base.{◌and◌, when◌then◌else◌, same_words, ◌∈◌}
 use Rattle.words.specs.Compare.{compare_of, ◌≺◌}
@@ -26,30 +25,26 @@ use Rattle.section_tally.specs.Tallying.{listed, sought_in, has_all, on_each, ta
 
 -- ---- equal counts
 
--- The entry listed at place i, and what was tallied for it.
-module _ (starts ws cs : List ℕ) (i : ℕ) (more : i < length starts) (long : length cs ≡ length starts) where
+-- The entry listed first, and what was tallied for it.
+module _ (at c : ℕ) (starts ws cs : List ℕ) where
   -- Its count is compared with the one tallied, and then those of the others.
-  same_step : same_counts (listed (drop i starts) ws) (drop i cs) ≡
-      (eqb (get_or ws (get_or starts i 0 + 1) 0) (get_or cs i 0) and same_counts (listed (drop (i + 1) starts) ws) (drop (i + 1) cs))
+  same_step : same_counts (listed (at ∷ starts) ws) (c ∷ cs) ≡ (eqb (get_or ws (at + 1) 0) c and same_counts (listed starts ws) cs)
   unfolding same_counts listed
-  same_step =
-      let k : i < length cs = omega arith in
-      rw (add-one i, drop-cons starts i 0, drop-cons cs i 0, get_or-drop)
+  same_step = rw get_or-drop
 
   -- Where the two are equal the others decide.
-  pub same-goes_on : get_or ws (get_or starts i 0 + 1) 0 ≡ get_or cs i 0
-      → same_counts (listed (drop i starts) ws) (drop i cs) ≡ same_counts (listed (drop (i + 1) starts) ws) (drop (i + 1) cs)
+  pub same-goes_on : get_or ws (at + 1) 0 ≡ c → same_counts (listed (at ∷ starts) ws) (c ∷ cs) ≡ same_counts (listed starts ws) cs
   unfolding ◌and◌
-  same-goes_on e = rw (same_step, eq-eqb (get_or ws (get_or starts i 0 + 1) 0) (get_or cs i 0) e)
+  same-goes_on e = rw (same_step, eq-eqb (get_or ws (at + 1) 0) c e)
 
   -- Where the two differ not all are equal.
-  pub same_ends : (get_or ws (get_or starts i 0 + 1) 0 ≡ get_or cs i 0 → ⊥) → same_counts (listed (drop i starts) ws) (drop i cs) ≡ false
-  same_ends e = same_step ∙ fails_left _ _ (ne_eqb (get_or ws (get_or starts i 0 + 1) 0) (get_or cs i 0) e)
+  pub same_ends : (get_or ws (at + 1) 0 ≡ c → ⊥) → same_counts (listed (at ∷ starts) ws) (c ∷ cs) ≡ false
+  same_ends e = same_step ∙ fails_left _ _ (ne_eqb (get_or ws (at + 1) 0) c e)
 
 -- With no place left all were equal.
-pub same-done : (starts ws cs : List ℕ) (i : ℕ) → length starts ≤ i → same_counts (listed (drop i starts) ws) (drop i cs) ≡ true
+pub same-done : (starts ws cs : List ℕ) → starts ≡ [] → same_counts (listed starts ws) cs ≡ true
 unfolding same_counts listed
-same-done starts ws cs i h = rw (drop_of_length-le starts)
+same-done starts ws cs h = rw h
 
 -- ---- a search by halving
 

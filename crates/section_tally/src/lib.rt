@@ -20,11 +20,9 @@ pub fn index(book: &[u16], from: usize, n: usize, starts: &mut [u16])
     ensures { starts.new ≡ over (starts_of from n (drop from book.now)) starts.old }
 {
     let mut at = from;
-    let mut i: usize = 0;
-    while i < n {
-        starts[i] = at as u16;
+    for start in starts[..n].iter_mut() {
+        *start = at as u16;
         at = past(book, at);
-        i += 1;
     }
 }
 
@@ -36,11 +34,8 @@ fn against(book: &[u16], at: usize, key: &[u16], first: u16) -> Ordering
 {
     let start = at + 2;
     let word = book[start];
-    if word < first {
-        return Ordering::Less;
-    }
-    if first < word {
-        return Ordering::Greater;
+    if word != first {
+        return word.cmp(&first);
     }
     let end = past(book, at);
     words::standing(&book[start..end], key)
@@ -54,6 +49,7 @@ pub fn find_entry(book: &[u16], starts: &[u16], key: &[u16]) -> Option<usize>
     let first = words::first(key);
     let mut low: usize = 0;
     let mut high = starts.len();
+    // A slice's own `binary_search_by` would ask `against` of any place, and it may be asked only of one that is listed.
     while low < high {
         let mid = low + (high - low) / 2;
         let at = starts[mid] as usize;
@@ -92,10 +88,8 @@ pub fn tally_once(
     let Some(i) = find_entry(book, starts, key) else {
         return false;
     };
-    let mark = marks[i];
-    if mark != turn {
-        let count = counts[i];
-        counts[i] = count + by;
+    if marks[i] != turn {
+        counts[i] += by;
         marks[i] = turn;
     }
     true
@@ -107,15 +101,11 @@ pub fn same_counts(book: &[u16], starts: &[u16], counts: &[u16]) -> bool
     requires counts_len { length counts.now ≡ length starts.now }
     ensures { result ≡ same_counts (listed starts.now book.now) counts.now }
 {
-    let mut i: usize = 0;
-    while i < starts.len() {
-        let at = starts[i] as usize;
-        let count = counts[i];
-        let says = book[at + 1];
-        if says != count {
+    for (at, count) in starts.iter().zip(counts) {
+        let says = book[*at as usize + 1];
+        if says != *count {
             return false;
         }
-        i += 1;
     }
     true
 }

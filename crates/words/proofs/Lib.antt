@@ -3,5 +3,4 @@ pub mod Tests
 pub mod Ordered
 pub mod Signs
 pub mod Differences
-pub mod Fronts
 pub mod Shifts

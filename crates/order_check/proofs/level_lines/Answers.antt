@@ -1,13 +1,15 @@
 -- `order_check::level_lines` meets its contract: once no line is left, all have their levels. Assumes nothing.
 use native.Mathlib.Omega.{arith}
-use Rattle.order.proofs.LevelLines.{levelled_first, level-small, row_below, levelled_next, levelled_all}
-use Rattle.order.proofs.Spots.{passed-short}
+use Rattle.order.proofs.LevelLines.{has-line, levelled_first, level-small, row_below, levelled_next, levelled_all}
 use Rattle.order_check.proofs.level_lines.Goals as goal
+
+pub bounds-levels-0 : goal.bounds-levels-0
+bounds-levels-0 c = omega (arith, has-line _ c.args.order.gone_over.sound, c.requires)
 
 pub loop-line-init : goal.loop-line-init
 loop-line-init c =
     let over = c.args.order.gone_over in
-    levelled_first _ _ c.args.levels.now over (omega (arith, passed-short _ over.sound, c.fits-levels))
+    levelled_first _ _ c.args.levels.now over c.requires
 
 pub overflow_add-below : goal.overflow_add-below
 overflow_add-below c = omega (arith, level-small _ _ _ _ c.loop-line.invariant c.loop-line-test.true)

@@ -8,6 +8,7 @@ use lib.Seq.{take_at}
 use Rattle.words.specs.Base.{over}
 use Rattle.order.proofs.LineCuts.{line-short}
 use Rattle.order.proofs.Writing.{no_output_room, has_room}
+use Rattle.order.proofs.Spots.{passed-short}
 use Rattle.order_cuts.proofs.cut_line.Goals as goal
 
 -- The words that were written to a scratch, and then copied to the front of the output.
@@ -15,6 +16,9 @@ copied : (cut old scratch out part : List ℕ) (n : ℕ) → n ≡ length cut �
 copied cut old scratch out part n came wrote copy =
     let is : part ≡ cut = copy ∙ ap (take n) wrote ∙ take_at cut (drop (length cut) old) n (sym came) in
     ap₂ (λ (l : List ℕ) (m : ℕ). l ++ drop m out) is came
+
+pub level_lines-lines-requires : goal.level_lines-lines-requires
+level_lines-lines-requires c = omega (arith, passed-short _ c.args.order.gone_over.sound)
 
 pub put_cut-count-requires-clause-d_in_bounds : goal.put_cut-count-requires-clause-d_in_bounds
 put_cut-count-requires-clause-d_in_bounds c = rw c.level_lines-lines.ensures (line-short _ _ c.args.d c.args.order.gone_over.sound c.requires)

@@ -5,13 +5,16 @@ use native.Mathlib.Omega.{arith}
 use lib.ListN.{length, drop, length-drop}
 use lib.Seq.{take_all}
 use Rattle.order.proofs.Spots.{passed-short}
-use Rattle.order.proofs.LineSpans.{line-open, line-starts, levels_room}
+use Rattle.order.proofs.LineSpans.{line-open, line-starts, spans-room, levels_room}
 use Rattle.order.proofs.Comparing.{Comparing, compare_start, compared_all, step, ends-early, other_code, other_children, both_alike}
 use Rattle.order_cuts.proofs.is_cut.Goals as goal
 use Rattle.order_cuts.proofs.is_cut.Goals.{then-order-at-via-then-order-at, then-order-at-via-else-order-at+then-kept_children-children}
 
 pub bounds-levels-line : goal.bounds-levels-line
 bounds-levels-line c = let lines = c.args.lines.now in omega (arith, c.requires, levels_room _ _ lines.order.gone_over.sound lines.levelled)
+
+pub line_end-end-requires : goal.line_end-end-requires
+line_end-end-requires c = omega (arith, c.requires, spans-room _ _ c.args.lines.now.order.gone_over)
 
 pub loop-at-init : goal.loop-at-init
 loop-at-init c =

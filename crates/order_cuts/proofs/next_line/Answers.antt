@@ -2,7 +2,12 @@
 use mathlib.Core.Path.{refl}
 use borrow.Author.Tests.{le-leb, lt-leb}
 use Rattle.words.specs.Base.{when◌then◌else◌}
+use native.Mathlib.Omega.{arith}
+use Rattle.order.proofs.LineSpans.{spans-room}
 use Rattle.order_cuts.proofs.next_line.Goals as goal
+
+pub line_end-requires : goal.line_end-requires
+line_end-requires c = omega (arith, c.requires, spans-room _ _ c.args.order.now.gone_over)
 
 pub returns-then-d-below : goal.returns-then-d-below
 unfolding when◌then◌else◌

@@ -3,13 +3,16 @@ use Prim.Native.Nat.{ℕ}
 use mathlib.Core.Path.{subst, ◌∙◌}
 use native.Mathlib.Omega.{arith}
 use lib.ListN.{length-set}
-use Rattle.order.proofs.LineSpans.{line-open, line-starts, levels_room}
+use Rattle.order.proofs.LineSpans.{line-open, line-starts, levels_room, spans-room}
 use Rattle.order.proofs.Spots.{passed-short}
 use Rattle.order.proofs.Putting.{Putting, put_start, put_done, turning}
 use Rattle.order_cuts.proofs.put_cut.Goals as goal
 
 pub bounds-levels-line : goal.bounds-levels-line
 bounds-levels-line c = let lines = c.args.lines.now in omega (arith, c.requires.line_in_bounds, levels_room _ _ lines.order.gone_over.sound lines.levelled)
+
+pub line_end-end-requires : goal.line_end-end-requires
+line_end-end-requires c = omega (arith, c.requires.line_in_bounds, spans-room _ _ c.args.lines.now.order.gone_over)
 
 pub loop-at-init : goal.loop-at-init
 loop-at-init c =

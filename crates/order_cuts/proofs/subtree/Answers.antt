@@ -10,7 +10,7 @@ use Rattle.order.specs.Spans.{GoneOver}
 use Rattle.order.specs.Standing.{At, place_of}
 use Rattle.order.specs.Answers.{piece_at, subtree_of}
 use Rattle.order.proofs.Lines.{HasLine, placed, StandsAt}
-use Rattle.order.proofs.LineSpans.{found-line}
+use Rattle.order.proofs.LineSpans.{found-line, spans-room}
 use Rattle.order.proofs.Answers.{subtree-refused, subtree_lacks, subtree-within, subtree-has}
 use Rattle.order_check.proofs.Told.{stopped_by}
 use Rattle.order_cuts.proofs.subtree.Goals as goal
@@ -41,7 +41,9 @@ returns-in_default-find_line c =
     ap (piece_at a.order.ref_ptr) (sym (subtree_lacks _ _ (placed _ _ _ _ c.in_default-find_line.ensures refl)) ∙ ap (λ (ws : Bor (List ℕ)). subtree_of ws.now a.line) c.in-Ok.ensures.same)
 
 pub line_end-end-requires : goal.line_end-end-requires
-line_end-end-requires c = (found-line _ _ _ _ c.in-Ok.passed.gone_over c.in-Some.ensures).within
+line_end-end-requires c =
+    let f = found-line _ _ _ _ c.in-Ok.passed.gone_over c.in-Some.ensures in
+    omega (arith, f.within, spans-room _ _ c.in-Ok.passed.gone_over)
 
 pub overflow_mul-end : goal.overflow_mul-end
 overflow_mul-end c =

@@ -4,6 +4,7 @@ use mathlib.Core.Bool.{Bool}
 use mathlib.Core.List.{List}
 use mathlib.Core.Path.{◌≡◌, refl, ap, ap₂, sym, ◌∙◌}
 use lib.Dec.{leb}
+use native.Mathlib.Omega.{arith}
 use Rattle.std.proofs.Common.{Bor}
 use Rattle.words.specs.Base.{when◌then◌else◌}
 use Rattle.figures.specs.declared.Written.{Written}
@@ -12,7 +13,7 @@ use Rattle.order.specs.Standing.{cut_of}
 use Rattle.order.specs.Answers.{writing, write, of_kind, part_into_of}
 use Rattle.order.specs.declared.Kind.TheVariants.{Low, Middle}
 use Rattle.order.proofs.Lines.{placed}
-use Rattle.order.proofs.LineSpans.{found-line}
+use Rattle.order.proofs.LineSpans.{spans-room, found-line}
 use Rattle.order.proofs.Answers.{part-refused, part_lacks, part-has}
 use Rattle.order_check.proofs.Told.{stopped_by}
 use Rattle.order_parts.proofs.part_into.Goals as goal
@@ -31,7 +32,9 @@ returns-in_default c =
     ∙ ap (λ (words : Bor (List ℕ)). part_into_of words.now a.line a.k.k a.out.now) c.in-Ok.ensures.same)
 
 pub is_low-requires : goal.is_low-requires
-is_low-requires c = (found-line _ _ _ _ c.in-Ok.passed.gone_over c.in-Some.ensures).within
+is_low-requires c =
+    let f = found-line _ _ _ _ c.in-Ok.passed.gone_over c.in-Some.ensures in
+    omega (arith, f.within, spans-room _ _ c.in-Ok.passed.gone_over)
 
 pub cut_line-requires : goal.cut_line-requires
 cut_line-requires c = (found-line _ _ _ _ c.in-Ok.passed.gone_over c.in-Some.ensures).within
