@@ -5,7 +5,7 @@ use native.Mathlib.Omega.{arith}
 use lib.ListN.{length, drop, length-drop}
 use lib.Seq.{take_all}
 use Rattle.order.proofs.Spots.{passed-short}
-use Rattle.order.proofs.LineSpans.{line-open, line-starts, levels_room, spans-room}
+use Rattle.order.proofs.LineSpans.{line-open, line-starts, spans-room, levels_room}
 use Rattle.order.proofs.Comparing.{Comparing, compare_start, compared_all, step, ends-early, other_code, other_children, both_alike}
 use Rattle.order_cuts.proofs.is_cut.Goals as goal
 use Rattle.order_cuts.proofs.is_cut.Goals.{then-order-at-via-then-order-at, then-order-at-via-else-order-at+then-kept_children-children}
