@@ -4,16 +4,19 @@ use mathlib.Core.Path.{◌≡◌, refl, ap, sym, ◌∙◌}
 use mathlib.Core.List.{List, [], ◌∷◌, ◌++◌, append_assoc, append-nil}
 use native.Mathlib.Omega.{arith}
 use lib.ListN.{length, get_or, set, take, drop, take-append-drop, length-append, length-drop, length-set}
-use lib.Seq.{take-suc, take_all, drop-cons, length-take-le, sets-eq}
+use lib.Seq.{take-suc, take_all, drop-cons, length-take-le, set_at, sets-eq}
 use Rattle.std.proofs.lemmas.List.{take_more, flat_map_more}
 use Rattle.std.specs.List.{flat_map}
 use Rattle.words.specs.Base.{over}
-use Rattle.words.proofs.Fronts.{stored}
 use Rattle.figures.specs.declared.Answer.{Answer}
 use Rattle.form.specs.Text.{space, line_feed, digit}
 use Rattle.form.proofs.LineBytes.{over-part, part-size}
 use Rattle.desk_line.specs.Replies.{last_digits, most_digits, decimal, field, reply, reply_room}
 use Rattle.desk_line.proofs.Decimals.{length_digits, digits-none, digits_more, decimal-last, decimal-size}
+
+-- One store in a list that is known as a front, a byte and a rest.
+stored : (l p : List ℕ) (y : ℕ) (q : List ℕ) (v n : ℕ) → l ≡ p ++ (y ∷ q) → length p ≡ n → set l n v ≡ p ++ (v ∷ q)
+stored l p y q v n e h = rw e (set_at p y q v n h)
 
 -- ---- digits
 
