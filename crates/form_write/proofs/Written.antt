@@ -10,16 +10,15 @@ use Rattle.std.proofs.lemmas.List.Sums.{sum_by-cons}
 use Rattle.words.specs.Base.{over}
 use Rattle.figures.specs.Limits.{most_nodes}
 use Rattle.figures.specs.Numbers.{done}
-use Rattle.figures.specs.declared.Written.{Written}
 use Rattle.figures.specs.Answers.{wrote}
 use Rattle.order.specs.Trees.{Tree, depth, subtrees}
-use Rattle.order.specs.Reading.{found, by_order, cause_of}
+use Rattle.order.specs.Reading.{found, by_order, refused, order_of, cause_of}
 use Rattle.order.specs.Answers.{writing, write}
 use Rattle.order.specs.Levels.{LinesLevelled, tree_levels}
 use Rattle.order.specs.Spans.{GoneOver}
 use Rattle.order.proofs.Orders.{size, two_words}
 use Rattle.order.proofs.Levels.{level-within, levels_of_lem}
-use Rattle.order.proofs.Causes.{Passed, refused-by, has-tree}
+use Rattle.order.proofs.Causes.{Passed, has-tree}
 use Rattle.order.proofs.Lines.{from_spot}
 use Rattle.order.proofs.Spots.{top-spot}
 use Rattle.order.proofs.LineSpans.{span-is, levels_room}
@@ -217,9 +216,9 @@ put_all s levels out₀ out line at fine levelled h p =
 -- ---- the call
 
 -- A cause refuses the order, and nothing is written.
-pub write-refused : (s out : List ℕ) (n : ℕ) (r : Written) → n ≡ cause_of s → (n ≡ done → ⊥) → r ≡ wrote n 0 → writing r out ≡ write_of s out
+pub write-refused : (s out : List ℕ) (n : ℕ) → order_of s ≡ refused n → writing (wrote n 0) out ≡ write_of s out
 unfolding write_of by_order
-write-refused s out n r e h a = rw (refused-by s (λ z. h (e ∙ z)), a, e)
+write-refused s out n e = rw e
 
 -- The text of an order that passes is the bytes of its lines.
 pub write-lines : (s out : List ℕ) → cause_of s ≡ done → write_of s out ≡ write (spell (lines_in s)) out

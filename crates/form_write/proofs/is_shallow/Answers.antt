@@ -5,8 +5,8 @@ use Rattle.order.proofs.LineSpans.{spans-room}
 use Rattle.form_write.proofs.Written.{some_words, shallow}
 use Rattle.form_write.proofs.is_shallow.Goals as goal
 
-pub bounds-spans-1 : goal.bounds-spans-1
-bounds-spans-1 c = let p = c.requires in omega (arith, some_words _ p.sound, spans-room _ _ p)
+pub bounds-order-1 : goal.bounds-order-1
+bounds-order-1 c = let p = c.args.order.now.gone_over in omega (arith, some_words _ p.sound, spans-room _ _ p)
 
 pub returns : goal.returns
-returns c e = shallow _ _ c.requires (ltb-true _ _ e)
+returns c e = shallow _ _ c.args.order.now.gone_over (ltb-true _ _ e)
