@@ -5,13 +5,11 @@ use mathlib.Core.List.{List, ◌++◌, append_assoc}
 use native.Mathlib.Omega.{arith}
 use lib.ListN.{length, take, drop, length-append, length-take, length-drop}
 use lib.Seq.{drop-drop, take_at, drop_at}
-use borrow.Author.Rules.{rules}
 use borrow.Rule.Slice.PartMut.{put_mid}
 use Rattle.words.specs.Base.{over}
 use Rattle.words.proofs.Shifts.{tail_all, tail_back}
 use Rattle.section_change.specs.Editing.{brought, entered}
-use Rattle.section_change.proofs.enter_behind.Statement.{statement}
-use Rattle.section_change.proofs.enter_behind.Tie as tie
+use Rattle.section_change.proofs.enter_behind.Goals as goal
 
 -- The book once the part with the entry has come back, behind the words that were moved.
 came-back : (book down entry last : List ℕ) (to kept at end : ℕ) → to + length entry ≤ kept → kept ≤ at → at ≤ length book → down ≡ brought to kept at book → end ≡ to + (at - kept)
@@ -25,21 +23,7 @@ came-back book down entry last to kept at end low mid high moved is now =
     let rest : drop end down ≡ drop (to + (at - kept)) book = ap (drop end) apart ∙ drop_at front _ end long in
     tail_back end down fits last ∙ rw (now, tail_all end down fits, first, rest, drop-drop) (simp append_assoc)
 
-returns : tie.Need-returns
+pub returns : goal.returns
 returns c =
     let x = c.args in
     (came-back x.book.now _ x.entry.now _ x.to x.kept x.at _ c.requires.0 c.requires.1 c.requires.2 c.bring_down-end.ensures.0 c.bring_down-end.ensures.1 c.copy.ensures, ap (λ (n : ℕ). n + length x.entry.now) c.bring_down-end.ensures.1)
-
-pub enter_behind_spec : {M : Type 1} → statement M
-enter_behind_spec =
-    tie.close
-    (tie.spec
-    (λ c. search rules)
-    (λ c. search rules)
-    (λ c. search rules)
-    (λ c. search rules)
-    (λ c. search rules)
-    (λ c. search rules)
-    (λ c. search rules)
-    (λ c. search rules)
-    returns)
