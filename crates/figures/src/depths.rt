@@ -30,13 +30,9 @@ impl Depth {
     pub fn new(k: u16) -> Option<Depth>
         ensures { result ≡ depth_of k }
     {
-        if k < Self::LEAST {
-            return None;
-        }
-        if Self::GREATEST < k {
-            return None;
-        }
-        Some(Self { k })
+        (Self::LEAST..=Self::GREATEST)
+            .contains(&k)
+            .then_some(Self { k })
     }
 
     // k itself.
@@ -50,13 +46,13 @@ impl Depth {
     pub fn of_tops(self) -> usize
         ensures { result ≡ self.k - 2 }
     {
-        if self.k < 2 { 0 } else { (self.k - 2) as usize }
+        usize::from(self.k).saturating_sub(2)
     }
 
     // The depth of middle parts: k-1.
     pub fn of_middles(self) -> usize
         ensures { result ≡ self.k - 1 }
     {
-        if self.k < 1 { 0 } else { (self.k - 1) as usize }
+        usize::from(self.k).saturating_sub(1)
     }
 }

@@ -8,11 +8,6 @@ use crate::limits;
 pub fn node_ok(code: u16, children: u16) -> bool
     ensures { result ≡ sound_node code children }
 {
-    if code < limits::LEAST_CODE {
-        return false;
-    }
-    if limits::GREATEST_CODE < code {
-        return false;
-    }
-    children <= limits::MOST_CHILDREN
+    (limits::LEAST_CODE..=limits::GREATEST_CODE).contains(&code)
+        && children <= limits::MOST_CHILDREN
 }
