@@ -13,7 +13,8 @@ use book::Places;
 use book_judging::{Judgement, Sought};
 use figures::{Answer, limits, numbers};
 use order_check::Lines;
-use section::{Neighbours, Stop, place_at, search};
+use section::{Neighbours, Stop, past, place_at};
+use std::cmp::Ordering;
 
 // The part that a line stands for, the lines counted from 0; the words of a middle part are written to `cut`.
 fn seek(book: &[u16], places: Places, lines: &Lines, line: usize, cut: &mut [u16]) -> Sought
@@ -102,13 +103,40 @@ pub fn first_unknown(
         (unknown_within (book_in book.now) lines.now.order.words.now from to) result }
 {
     let mut cut = [0u16; limits::MOST_WORDS];
-    for line in from..to {
-        let part = seek(book, places, lines, line, &mut cut);
-        let key = key(part, lines.order.words, &cut);
-        let stop = search(book, part.at, part.many, key);
-        if !stop.there {
-            return unknown(book, part, key, line + 1, stop);
+    // The rules of the desk name this form: loops over lines and section entries, left by a label at the first unknown part.
+    'first: {
+        'lines: for line in from..to {
+            let part = seek(book, places, lines, line, &mut cut);
+            let key = key(part, lines.order.words, &cut);
+            let mut last = part.at;
+            let mut at = part.at;
+            for left in (1..=part.many).rev() {
+                let end = past(book, at);
+                match words::standing(&book[at + 2..end], key) {
+                    Ordering::Less => {
+                        last = at;
+                        at = end;
+                    }
+                    Ordering::Equal => continue 'lines,
+                    Ordering::Greater => {
+                        let stop = Stop {
+                            there: false,
+                            last,
+                            at,
+                            left,
+                        };
+                        break 'first unknown(book, part, key, line + 1, stop);
+                    }
+                }
+            }
+            let stop = Stop {
+                there: false,
+                last,
+                at,
+                left: 0,
+            };
+            break 'first unknown(book, part, key, line + 1, stop);
         }
+        plainly(numbers::DONE)
     }
-    plainly(numbers::DONE)
 }

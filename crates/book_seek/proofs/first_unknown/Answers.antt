@@ -1,16 +1,15 @@
--- `book_seek::first_unknown` meets its contract: the lines left decide past a line whose part is known, and one whose part is not is the first. Assumes nothing.
-use Prim.Native.Nat.{ℕ, ◌+◌, ◌*◌, ◌/◌, ◌<◌}
-use mathlib.Core.Bool.{true, false}
+-- `book_seek::first_unknown` meets its contract: at each line the lines left decide, and at each entry the entries left. Assumes nothing.
+use Prim.Native.Nat.{ℕ, ◌+◌, ◌-◌, ◌*◌, ◌/◌, ◌<◌}
 use mathlib.Core.List.{List}
-use mathlib.Core.Path.{◌≡◌, sym, subst, ◌∙◌}
+use mathlib.Core.Path.{◌≡◌, refl, sym, subst, ◌∙◌}
 use native.Mathlib.Omega.{arith}
-use lib.ListN.{length}
-use Rattle.std.proofs.lemmas.Bool.{not-true, not-false}
+use lib.ListN.{length, drop}
 use Rattle.figures.specs.Numbers.{done}
-use Rattle.section.specs.Near.{SearchedTo}
-use Rattle.section.specs.declared.Stop.{Stop}
+use Rattle.section.specs.Entries.{entries, look}
+use Rattle.section.specs.Near.{place_at}
+use Rattle.section.specs.declared.Found.TheVariants.{At, Absent}
 use Rattle.section.proofs.Near.{there-told}
-use Rattle.section.proofs.Searches.{told_here, told-between}
+use Rattle.section.proofs.Searches.{Searched, searched_none, searched_room, searched_past, searched_here, searched_above, searched_end, searched_stopped}
 use Rattle.order.specs.Reading.{cause_of}
 use Rattle.book.specs.Book.{Book}
 use Rattle.book_judging.specs.Seeking.{unknown_within, key_of, Seeks, JudgedAt, unknown_of}
@@ -19,33 +18,63 @@ use Rattle.book_judging.specs.declared.Sought.{Sought}
 use Rattle.book_judging.proofs.Rounds.{none-judged, unknown-judged, within-last, within-known, within-unknown}
 use Rattle.book_seek.proofs.first_unknown.Goals as goal
 
--- What was sought for a line of the range, and where the search for its words has stopped.
-module _ (b : Book) (ws os : List ℕ) (line to : ℕ) (cut : List ℕ) (r : Sought) (sound : cause_of os ≡ done) (has : line < length os / 2) (more : line < to) (S : Seeks b ws os (line * 2) cut r) (key : List ℕ) (spelt : key ≡ key_of r os cut) (stop : Stop) (over : SearchedTo ws key r.at r.many stop) where
-  -- The search was for the part.
-  for_part : SearchedTo ws (key_of r os cut) r.at r.many stop
-  for_part = subst (λ (k : List ℕ). SearchedTo ws k r.at r.many stop) spelt over
-
+-- What was sought for a line of the range, and what the search for its words tells.
+module _ (b : Book) (ws os : List ℕ) (line to : ℕ) (cut : List ℕ) (r : Sought) (sound : cause_of os ≡ done) (has : line < length os / 2) (more : line < to) (S : Seeks b ws os (line * 2) cut r) (key : List ℕ) (spelt : key ≡ key_of r os cut) where
   -- A part that is there is known.
-  goes_on : stop.there ≡ true → unknown_within b os line to ≡ unknown_within b os (line + 1) to
-  goes_on there = within-known _ _ _ _ _ _ sound has S to more (there-told _ _ _ S.sorted _ (told_here _ _ _ _ _ for_part there))
+  goes_on : (at below : ℕ) → look key r.at 0 0 (entries r.many (drop r.at ws)) ≡ At at below → unknown_within b os line to ≡ unknown_within b os (line + 1) to
+  goes_on at below told =
+      let so = subst (λ (k : List ℕ). look k r.at 0 0 (entries r.many (drop r.at ws)) ≡ At at below) spelt told in
+      within-known _ _ _ _ _ _ sound has S to more (there-told _ _ _ S.sorted _ so)
 
   -- One that is not there is the first unknown one, and is judged so.
-  ends : stop.there ≡ false → (n : ℕ) → n ≡ unknown_within b os line to → (w : Judgement) → w ≡ unknown_of r key ws (line + 1) stop.last stop.at stop.left → JudgedAt b os n w
-  ends absent n is w judged =
-      let told = told-between _ _ _ _ _ for_part absent in
-      let first = is ∙ within-unknown _ _ _ _ _ _ sound has S to more (there-told _ _ _ S.sorted _ told) in
-      let spelt_so = subst (λ (k : List ℕ). w ≡ unknown_of r k ws (line + 1) stop.last stop.at stop.left) spelt judged in
-      subst (λ (m : ℕ). JudgedAt b os m w) (sym first) (unknown-judged _ _ _ _ _ _ _ _ _ w S told spelt_so)
+  ends : (last at left : ℕ) → look key r.at 0 0 (entries r.many (drop r.at ws)) ≡ Absent at (r.many - left) (place_at key ws last (r.many - left)) (place_at key ws at left)
+      → (n : ℕ) → n ≡ unknown_within b os line to → (w : Judgement) → w ≡ unknown_of r key ws (line + 1) last at left → JudgedAt b os n w
+  ends last at left told n is w judged =
+      let so = subst (λ (k : List ℕ). look k r.at 0 0 (entries r.many (drop r.at ws)) ≡ Absent at (r.many - left) (place_at k ws last (r.many - left)) (place_at k ws at left)) spelt told in
+      let judged_so = subst (λ (k : List ℕ). w ≡ unknown_of r k ws (line + 1) last at left) spelt judged in
+      let first = is ∙ within-unknown _ _ _ _ _ _ sound has S to more (there-told _ _ _ S.sorted _ so) in
+      subst (λ (m : ℕ). JudgedAt b os m w) (sym first) (unknown-judged _ _ _ _ _ _ _ _ _ w S so judged_so)
 
-pub returns-then-not-stop : goal.returns-then-not-stop
-returns-then-not-stop c =
-    ends _ _ _ _ _ _ _ c.args.lines.now.order.gone_over.sound (omega (arith, c.requires.from_le_to.1)) (omega arith) c.seek-part.ensures _ c.key-key.ensures _ c.search-stop.ensures (not-true _ c.if-not-stop.true) _ c.loop-line.invariant _ c.unknown.ensures
+pub loop-left-init : goal.loop-left-init
+loop-left-init c = searched_none _ _ _ _ c.seek-part.ensures.within
 
-pub loop-line-preserved : goal.loop-line-preserved
-loop-line-preserved c =
-    c.loop-line.invariant
-    ∙ goes_on _ _ _ _ _ _ _ c.args.lines.now.order.gone_over.sound (omega (arith, c.requires.from_le_to.1)) (omega arith) c.seek-part.ensures _ c.key-key.ensures _ c.search-stop.ensures (not-false _ c.if-not-stop.false)
+pub past-end-requires : goal.past-end-requires
+past-end-requires c = omega (arith, searched_room _ _ _ _ _ _ _ c.loop-left.invariant _ c.loop-left-test.true refl)
 
-pub returns : goal.returns
-returns c =
-    none-judged _ _ _ _ (c.loop-line.invariant ∙ within-last _ _ _ _ c.args.lines.now.order.gone_over.sound c.loop-line-test.false) c.plainly.ensures
+pub slice_bounds-standing-end : goal.slice_bounds-standing-end
+slice_bounds-standing-end c =
+    omega (arith, searched_room _ _ _ _ _ _ _ c.loop-left.invariant _ c.loop-left-test.true c.past-end.ensures)
+
+pub loop-left-preserved : goal.loop-left-preserved
+loop-left-preserved c =
+    searched_past _ _ _ _ _ _ _ c.loop-left.invariant _ c.loop-left-test.true c.past-end.ensures (sym c.standing.ensures ∙ c.in-Less.is)
+
+pub lines-preserved : goal.lines-preserved
+lines-preserved c =
+    let told = searched_here _ _ _ _ _ _ _ c.loop-left.invariant _ c.loop-left-test.true c.past-end.ensures (sym c.standing.ensures ∙ c.in-Equal.is) in
+    c.lines.invariant
+    ∙ goes_on _ _ _ _ _ _ _ c.args.lines.now.order.gone_over.sound (omega (arith, c.requires.from_le_to.1)) c.lines-test.true c.seek-part.ensures _ c.key-key.ensures _ _ told
+
+pub unknown-requires : goal.unknown-requires
+unknown-requires c = searched_stopped _ _ _ _ _ _ _ c.loop-left.invariant
+
+pub returns-in-Greater : goal.returns-in-Greater
+returns-in-Greater c =
+    let told = searched_above _ _ _ _ _ _ _ c.loop-left.invariant _ c.loop-left-test.true c.past-end.ensures (sym c.standing.ensures ∙ c.in-Greater.is) in
+    ends _ _ _ _ _ _ _ c.args.lines.now.order.gone_over.sound (omega (arith, c.requires.from_le_to.1)) c.lines-test.true c.seek-part.ensures _ c.key-key.ensures _ _ _ told _ c.lines.invariant _ c.unknown.ensures
+
+-- A search that has fewer than one left has none.
+all_passed : (book key : List ℕ) (from many last at left : ℕ) → Searched book key from many last at left → left < 1 → Searched book key from many last at 0
+all_passed book key from many last at left s h =
+    let none : left ≡ 0 = omega arith in
+    rw none at s
+
+pub returns-after-loop-left : goal.returns-after-loop-left
+returns-after-loop-left c =
+    let none = all_passed _ _ _ _ _ _ _ c.loop-left.invariant c.loop-left-test.false in
+    let told = searched_end _ _ _ _ _ _ _ none (omega arith) in
+    ends _ _ _ _ _ _ _ c.args.lines.now.order.gone_over.sound (omega (arith, c.requires.from_le_to.1)) c.lines-test.true c.seek-part.ensures _ c.key-key.ensures _ _ _ told _ c.lines.invariant _ c.unknown-in-lines.ensures
+
+pub returns-after-lines : goal.returns-after-lines
+returns-after-lines c =
+    none-judged _ _ _ _ (c.lines.invariant ∙ within-last _ _ _ _ c.args.lines.now.order.gone_over.sound c.lines-test.false) c.plainly.ensures
