@@ -5,14 +5,16 @@ use mathlib.Core.Path.{◌≡◌, refl, sym, ap, ◌∙◌}
 use mathlib.Core.Bool.{Bool, true, false}
 use mathlib.Core.List.{List}
 use native.Mathlib.Nat.{zero-add}
+use native.Mathlib.Omega.{arith}
 use borrow.Author.Tests.{le-leb, lt-leb, leb-true}
 use lib.Dec.{leb}
 use lib.ListN.{length, get_or, drop}
 use Rattle.book.specs.declared.Stretch.{Stretch}
 use Rattle.words.specs.Base.{◌and◌, when◌then◌else◌, within}
 use Rattle.words.proofs.Tests.{and_left, and_right, and_both, fails_left, fails_right}
-use Rattle.figures.specs.Limits.{head_words, most_book_words, least_k, greatest_k, greatest_count}
+use Rattle.figures.specs.Limits.{head_words, most_book_words, least_k, greatest_k, greatest_depth, greatest_count}
 use Rattle.figures.specs.Numbers.{book_size, not_in_form}
+use Rattle.figures.specs.Answers.{depth_of}
 use Rattle.figures.specs.declared.depths.Depth.{Depth}
 use Rattle.section.specs.Entries.{entries, span, total}
 use Rattle.book.specs.Book.{Book, section_of, shallowest, deepest}
@@ -23,6 +25,7 @@ use Rattle.book.specs.declared.Section.TheVariants.{Taught, Tops, Lows, Middles}
 use Rattle.book.specs.declared.Places.{Places}
 use Rattle.book.proofs.Passing.{each_all, one-fails, places_in, run_of, passes, section-in}
 use Rattle.book.proofs.Meaning.{formed-passes, formed-passed, is-places}
+use Rattle.book.proofs.Depths.{allowed}
 
 -- ---- the size
 
@@ -145,6 +148,17 @@ pub record Head (ws : List ℕ) (d : Depth) : Type 0 where
   pub allows : within least_k greatest_k (get_or ws 0 0) ≡ true
   pub few : get_or ws 2 0 ≤ greatest_count
 
+-- They are so, where the depth is told.
+pub head : {ws : List ℕ} {d : Depth} {w : Option Depth} → head_words ≤ length ws → length ws ≤ most_book_words → w ≡ depth_of (get_or ws 0 0) → w ≡ Some d
+    → get_or ws 2 0 ≤ greatest_count → Head ws d
+head {ws} {d} {w} l m e s f =
+    let a = allowed (get_or ws 0 0) w e d s in
+    record { long = l; short = m; is = a.0; allows = a.1; few = f }
+
+-- The parts are no deeper than an order may be.
+pub shallow : {ws : List ℕ} {d : Depth} → Head ws d → d.k ≤ greatest_depth
+shallow {ws} h = omega (arith, h.is, leb-true (get_or ws 0 0) greatest_k (and_right _ _ h.allows))
+
 -- Words that do not pass are refused by 5.
 not_passed : (ws : List ℕ) → sized ws ≡ true → passes ws ≡ false → book_form_of ws ≡ Refused not_in_form
 not_passed ws z e = form-unformed ws z (formed-passes ws ∙ e)
@@ -155,8 +169,8 @@ unfolding passes
 no_k ws z e = not_passed ws z (fails_right _ _ (fails_left _ _ e))
 
 -- The pass over a section.
-module _ (ws : List ℕ) (d : Depth) (h : Head ws d) (s : Section) (from least greatest : ℕ) (starts : from ≡ start_of s (places_in ws))
-    (low : least ≡ shallowest s d.k) (high : greatest ≡ deepest s d.k) (w : Option Stretch) (told : w ≡ stretch_of ws from (get_or ws (slot_of s) 0) least greatest) where
+module _ {ws : List ℕ} {d : Depth} (h : Head ws d) (s : Section) {from least greatest : ℕ} (starts : from ≡ start_of s (places_in ws))
+    (low : least ≡ shallowest s d.k) (high : greatest ≡ deepest s d.k) {w : Option Stretch} (told : w ≡ stretch_of ws from (get_or ws (slot_of s) 0) least greatest) where
   -- What it tells is what stands there.
   pass_tells : Tells ws s w
   pass_tells =
@@ -165,8 +179,8 @@ module _ (ws : List ℕ) (d : Depth) (h : Head ws d) (s : Section) (from least g
       rw (told, starts, a, b) (tells ws s)
 
   -- A section in order is found.
-  pub section-found : (end sum : ℕ) → w ≡ Some (record { end = end; sum = sum }) → Ran ws s end sum
-  section-found end sum e = rw e at pass_tells
+  pub section-found : {end sum : ℕ} → w ≡ Some (record { end = end; sum = sum }) → Ran ws s end sum
+  section-found e = rw e at pass_tells
 
   -- Words with a section that is broken are refused by 5.
   pub no_section : w ≡ None → book_form_of ws ≡ Refused not_in_form
@@ -185,7 +199,7 @@ pub record Sections (ws : List ℕ) (live tops lows middles used : ℕ) : Type 0
   pub sum_middles : ℕ
   pub of-middles : Ran ws Middles used sum_middles
 
-module _ (ws : List ℕ) (d : Depth) (h : Head ws d) (live tops lows middles used : ℕ) (f : Sections ws live tops lows middles used) where
+module _ {ws : List ℕ} {d : Depth} (h : Head ws d) {live tops lows middles used : ℕ} (f : Sections ws live tops lows middles used) where
   -- What the head says is asked of the book's own numbers.
   asked : head_of ws live used ≡ head_of ws (total (book_in ws).T) (end_at ws)
   unfolding section_of

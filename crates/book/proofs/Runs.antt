@@ -5,12 +5,12 @@ use mathlib.Core.Path.{◌≡◌, refl, sym, ◌∙◌}
 use mathlib.Core.Bool.{Bool, true, false}
 use mathlib.Core.List.{List}
 use native.Mathlib.Nat.{add-zero, not-suc-le-zero}
-use native.Mathlib.Numerals.{add-one, sub-one}
+use native.Mathlib.Numerals.{sub-one}
 use native.Mathlib.Omega.{arith}
-use lib.Dec.{leb, eqb}
+use lib.Dec.{leb}
 use borrow.Author.Tests.{le-leb, lt-leb, leb-true, leb-false, eq-eqb, ne_eqb}
 use lib.ListN.{length, get_or, take, drop, length-drop, drop_of_length-le}
-use lib.Seq.{drop-drop, get_or-drop, drop-cons}
+use lib.Seq.{drop-drop, get_or-drop}
 use Rattle.book.specs.declared.Whole.{Whole}
 use Rattle.words.specs.Base.{◌and◌, when◌then◌else◌}
 use Rattle.words.specs.Compare.{before}
@@ -45,42 +45,34 @@ pub record Told (ws : List ℕ) (at end count : ℕ) : Type 0 where
   pub counts : count ≡ get_or ws (at + 1) 0
   pub fits : end ≤ length ws
 
-module _ (ws : List ℕ) (at : ℕ) where
-  -- What `whole_at` tells.
-  abbrev Tells : Option Whole → Type 0
-  Tells (Some entry) = Told ws at entry.end entry.count
-  Tells None = length ws < at + 2 + 2 * get_or ws at 0
+-- What `whole_at` tells of a place.
+abbrev Tells : List ℕ → ℕ → Option Whole → Type 0
+Tells ws at (Some entry) = Told ws at entry.end entry.count
+Tells ws at None = length ws < at + 2 + 2 * get_or ws at 0
 
-  -- It tells what stands there.
-  tells : Tells (whole_at ws at)
-  unfolding whole_at when◌then◌else◌
-  tells = rw (ends_at ws at) (go (leb (at + 2 + 2 * get_or ws at 0) (length ws)) refl)
-    where
-      go : (b : Bool) → leb (at + 2 + 2 * get_or ws at 0) (length ws) ≡ b → Tells (when b then Some (record { end = at + 2 + 2 * get_or ws at 0; count = get_or ws (at + 1) 0 }) else None)
-      go true e = record { ends = refl; counts = refl; fits = leb-true _ _ e }
-      go false e = leb-false _ _ e
+-- It tells what stands there.
+tells : (ws : List ℕ) (at : ℕ) → Tells ws at (whole_at ws at)
+unfolding whole_at when◌then◌else◌
+tells ws at = rw (ends_at ws at) (go (leb (at + 2 + 2 * get_or ws at 0) (length ws)) refl)
+  where
+    go : (b : Bool) → leb (at + 2 + 2 * get_or ws at 0) (length ws) ≡ b → Tells ws at (when b then Some (record { end = at + 2 + 2 * get_or ws at 0; count = get_or ws (at + 1) 0 }) else None)
+    go true e = record { ends = refl; counts = refl; fits = leb-true _ _ e }
+    go false e = leb-false _ _ e
 
-  module _ (w : Option Whole) (is : w ≡ whole_at ws at) where
-    -- An entry that is told is there.
-    pub told : (end count : ℕ) → w ≡ Some (record { end = end; count = count }) → Told ws at end count
-    told end count e = rw (sym is ∙ e) at tells
+-- An entry that is told is there.
+pub told : {ws : List ℕ} {at : ℕ} {w : Option Whole} {end count : ℕ} → w ≡ whole_at ws at → w ≡ Some (record { end = end; count = count }) → Told ws at end count
+told {ws} {at} is e = rw (sym is ∙ e) at (tells ws at)
 
-    -- Where none is told the words end.
-    pub not_told : w ≡ None → length ws < at + 2 + 2 * get_or ws at 0
-    not_told e = rw (sym is ∙ e) at tells
+-- Where none is told the words end.
+pub not_told : (ws : List ℕ) (at : ℕ) {w : Option Whole} → w ≡ whole_at ws at → w ≡ None → length ws < at + 2 + 2 * get_or ws at 0
+not_told ws at is e = rw (sym is ∙ e) at (tells ws at)
 
 -- ---- zeros
 
-module _ (ws : List ℕ) (i : ℕ) where
-  -- The words from a place on are zero if the first is, and the others.
-  pub zeros-at : i < length ws → zeros (drop i ws) ≡ (eqb (get_or ws i 0) 0 and zeros (drop (i + 1) ws))
-  unfolding zeros
-  zeros-at h = rw (add-one, drop-cons ws i 0)
-
-  -- Past the last word all are.
-  pub zeros-end : length ws ≤ i → zeros (drop i ws) ≡ true
-  unfolding zeros
-  zeros-end h = rw (drop_of_length-le ws)
+-- Past the last word all are zero.
+pub zeros-end : (ws : List ℕ) (i : ℕ) → length ws ≤ i → zeros (drop i ws) ≡ true
+unfolding zeros
+zeros-end ws i h = rw (drop_of_length-le ws)
 
 -- ---- the head
 
@@ -129,7 +121,7 @@ module _ (book : List ℕ) (least greatest : ℕ) (last : List ℕ) (at sum left
       let l : length (drop at book) < width (drop at book) = rw (length-drop, get_or-drop, add-zero) (omega arith) in
       broken least greatest last at sum left (drop at book) (rw (run_step least greatest last (drop at book) left more, lt-leb (width (drop at book)) (length (drop at book)) l))
 
-  module _ (end count : ℕ) (is : Told book at end count) where
+  module _ {end count : ℕ} (is : Told book at end count) where
     -- The run is by the entry's count, its key, and the others.
     run_at : run least greatest last left (drop at book) ≡
         (((leb 1 count and leb count greatest_count) and fits_of least greatest (take (end - (at + 2)) (drop (at + 2) book))) and before last (take (end - (at + 2)) (drop (at + 2) book))

@@ -2,7 +2,6 @@
 pub mod Fixes
 pub mod Descents
 pub mod Seekings
-pub mod Spellings
 pub mod Tops
 pub mod Rounds
 pub mod Judgements

@@ -2,6 +2,7 @@
 use Prim.Native.Nat.{ℕ, ◌-◌, ◌/◌, ◌<◌}
 use mathlib.Core.Path.{◌≡◌, ◌∙◌}
 use mathlib.Core.List.{List}
+use native.Mathlib.Nat.{sub-zero}
 use native.Mathlib.Omega.{arith}
 use lib.ListN.{length, get_or, take, drop}
 use Rattle.words.specs.Base.{over}
@@ -32,9 +33,9 @@ module _ (os : List ℕ) (t : Tree) (p : Passed os t) where
   first-line = omega (arith, two_words-a_line os t p, some-lines t)
 
   -- Cut at k-2, the words that were written are those of the top.
-  pub top_key : (d k n : ℕ) (old cut : List ℕ) → d ≡ k - 2 → n ≡ length (cut_of os 0 d) → cut ≡ over (cut_of os 0 d) old → take (n - 0) (drop 0 cut) ≡ words (top k t)
+  pub top_key : (d k n : ℕ) (old cut : List ℕ) → d ≡ k - 2 → n ≡ length (cut_of os 0 d) → cut ≡ over (cut_of os 0 d) old → take n cut ≡ words (top k t)
   unfolding top
-  top_key d k n old cut e f g = line-lent (cut_of os 0 d) old cut n f g ∙ cut-spot os 0 (found t) (top-spot os t p) d ∙ rw e
+  top_key d k n old cut e f g = rw sub-zero at (line-lent (cut_of os 0 d) old cut n f g) ∙ cut-spot os 0 (found t) (top-spot os t p) d ∙ rw e
 
 -- What a search for the top among the entries of R says of its neighbours.
 pub top-found : (ws os : List ℕ) (p : Places) (t : Tree) → Holds ws p → Passed os t → (key : List ℕ) (n : ℕ) → key ≡ words (top p.k.k t) → n ≡ get_or ws 4 0

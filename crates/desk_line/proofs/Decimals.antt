@@ -1,5 +1,5 @@
 -- The digits of a number in decimal: how many there are, and that they are its last digits. Assumes nothing.
-use Prim.Native.Nat.{ℕ, zero, suc, ◌+◌, ◌/◌, ◌^◌, ◌≤◌, ◌<◌}
+use Prim.Native.Nat.{ℕ, zero, suc, ◌+◌, ◌*◌, ◌/◌, ◌^◌, ◌≤◌, ◌<◌, max}
 use mathlib.Core.Path.{◌≡◌, refl, ap, sym, ◌∙◌}
 use mathlib.Core.Bool.{Bool, true, false}
 use mathlib.Core.List.{List, [], ◌∷◌, ◌++◌}
@@ -165,9 +165,23 @@ pub below-limit : (n : ℕ) → n < 2 ^ 64 → n < 10 ^ most_digits
 below-limit n h = omega arith
 
 -- A number below ten has one digit.
-pub length-one : (n : ℕ) → n < 10 → length (decimal n) ≡ 1
+length-one : (n : ℕ) → n < 10 → length (decimal n) ≡ 1
 length-one n h = ap length (decimal-one n h)
 
 -- A number from ten on has one digit more than its tenth.
-pub length_more : (n : ℕ) → 10 ≤ n → n < 10 ^ most_digits → length (decimal n) ≡ length (decimal (n / 10)) + 1
+length_more : (n : ℕ) → 10 ≤ n → n < 10 ^ most_digits → length (decimal n) ≡ length (decimal (n / 10)) + 1
 length_more n h b = ap length (decimal-more n h b) ∙ length-append (decimal (n / 10)) (digit n ∷ [])
+
+-- A number from a power of ten on, and below the next, has one digit more than that power's exponent.
+length-power : (p n : ℕ) → 10 ^ p ≤ n → n < 10 ^ suc p → n < 10 ^ most_digits → length (decimal n) ≡ p + 1
+length-power zero n a b h = length-one n (omega (arith, pow-suc 10 0))
+length-power (suc p) n a b h =
+    let some : 10 ≤ n = omega (arith, pow-suc 10 p, one-le-pow p 10 (omega arith)) in
+    omega (arith, length_more n some h, length-power p (n / 10) (tenth_above p n a) (tenth_below (suc p) n b) (omega arith))
+
+-- So has 0, if 1 is taken for it.
+pub length-log : (p n : ℕ) → 10 ^ p ≤ max n 1 → max n 1 < 10 * 10 ^ p → n < 10 ^ most_digits → p + 1 ≡ length (decimal n)
+length-log zero n a b h = sym (length-one n (omega (arith, pow-suc 10 0)))
+length-log (suc p) n a b h =
+    let some : 10 ≤ 10 ^ suc p = omega (arith, pow-suc 10 p, one-le-pow p 10 (omega arith)) in
+    sym (length-power (suc p) n (omega arith) (omega (arith, pow-suc 10 (suc p))) h)

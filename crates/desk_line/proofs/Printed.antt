@@ -1,15 +1,17 @@
 -- Digits written from the last on, and the bytes of a line written one after the other. Assumes nothing.
-use Prim.Native.Nat.{ℕ, zero, suc, ◌+◌, ◌-◌, ◌/◌, ◌^◌, ◌≤◌, ◌<◌}
+use Prim.Native.Nat.{ℕ, zero, suc, ◌+◌, ◌*◌, ◌-◌, ◌/◌, ◌^◌, ◌≤◌, ◌<◌}
 use mathlib.Core.Path.{◌≡◌, refl, ap, sym, ◌∙◌}
 use mathlib.Core.List.{List, [], ◌∷◌, ◌++◌, append_assoc, append-nil}
 use native.Mathlib.Omega.{arith}
 use lib.ListN.{length, get_or, set, take, drop, take-append-drop, length-append, length-drop, length-set}
-use lib.Seq.{take-suc, drop-cons, length-take-le, sets-eq}
+use lib.Seq.{take-suc, take_all, drop-cons, length-take-le, sets-eq}
+use Rattle.std.proofs.lemmas.List.{take_more, flat_map_more}
+use Rattle.std.specs.List.{flat_map}
 use Rattle.words.specs.Base.{over}
 use Rattle.words.proofs.Fronts.{stored}
 use Rattle.figures.specs.declared.Answer.{Answer}
 use Rattle.form.specs.Text.{space, line_feed, digit}
-use Rattle.form.proofs.LineBytes.{over-part}
+use Rattle.form.proofs.LineBytes.{over-part, part-size}
 use Rattle.desk_line.specs.Replies.{last_digits, most_digits, decimal, field, reply, reply_room}
 use Rattle.desk_line.proofs.Decimals.{length_digits, digits-none, digits_more, decimal-last, decimal-size}
 
@@ -122,10 +124,9 @@ put_field n many out last h b e l =
 -- ---- a reply
 
 -- A line is its letter, its three fields and LF, one after the other.
-pub reply-parts : (letter used : ℕ) (a : Answer)
-    → reply letter a used ≡ ((((letter ∷ []) ++ field a.number) ++ field a.line) ++ field used) ++ (line_feed ∷ [])
+pub reply-parts : (letter used : ℕ) (a : Answer) → reply letter a used ≡ (letter ∷ flat_map field (a.number ∷ a.line ∷ used ∷ [])) ++ (line_feed ∷ [])
 unfolding reply
-reply-parts letter used a = sym (simp append_assoc)
+reply-parts letter used a = sym (simp (append_assoc, append-nil))
 
 -- A line has room in `reply_room` bytes.
 pub reply-size : (letter used : ℕ) (a : Answer) → length (reply letter a used) ≤ reply_room
@@ -136,3 +137,35 @@ reply-size letter used a =
     let u = field used in
     let end = line_feed ∷ [] in
     omega (arith, length-append n (l ++ (u ++ end)), length-append l (u ++ end), length-append u end, field-size a.number, field-size a.line, field-size used)
+
+-- What the loop knows that writes a line's numbers: the letter and the numbers before number i are written, and end early enough.
+pub record Numbered (letter : ℕ) (ns out₀ out : List ℕ) (i end : ℕ) : Type 0 where
+  pub written : Written (letter ∷ flat_map field (take i ns)) out₀ out end
+  pub soon : end ≤ 1 + suc most_digits * i
+
+-- Before the first number the letter is written.
+pub numbered_none : (letter : ℕ) (ns out : List ℕ) → reply_room ≤ length out → Numbered letter ns out (set out 0 letter) 0 1
+numbered_none letter ns out room = record { written = first_byte letter out (omega arith); soon = omega arith }
+
+module _ (letter : ℕ) (ns out₀ out : List ℕ) (i end : ℕ) (room : reply_room ≤ length out₀) (k : Numbered letter ns out₀ out i end) where
+  -- Number i has room behind those before it.
+  pub number_room : i < 3 → (n : ℕ) → length (field n) ≤ length (take (length out - end) (drop end out))
+  number_room h n = omega (arith, k.soon, k.written.same, part-size end out, field-size n)
+
+  -- Number i is written.
+  pub numbered_more : i < 3 → i < length ns → (last : List ℕ) (n : ℕ) → n ≡ length (field (get_or ns i 0)) → last ≡ over (field (get_or ns i 0)) (take (length out - end) (drop end out))
+      → Numbered letter ns out₀ (take end out ++ (last ++ drop (length out - end) (drop end out))) (i + 1) (end + n)
+  numbered_more h some last n e l =
+      let m : ℕ = get_or ns i 0 in
+      let size = field-size m in
+      let w = then_text _ _ _ end k.written (field m) last n (omega (arith, size, k.soon)) e l in
+      let is : (letter ∷ flat_map field (take i ns)) ++ field m ≡ letter ∷ flat_map field (take (i + 1) ns) =
+      flat_map_more field (letter ∷ []) (take i ns) m ∙ ap (λ (ms : List ℕ). letter ∷ flat_map field ms) (sym (take_more ns i 0 some)) in
+      record { written = rw (← is) w; soon = omega (arith, size, k.soon) }
+
+  -- LF is written behind the last number.
+  pub numbered_all : (used : ℕ) (a : Answer) → ns ≡ a.number ∷ a.line ∷ used ∷ [] → 3 ≤ i → i ≤ 3 → Written (reply letter a used) out₀ (set out end line_feed) (end + 1)
+  numbered_all used a is past h =
+      let all : take i ns ≡ a.number ∷ a.line ∷ used ∷ [] = take_all i ns (omega (arith, ap length is)) ∙ is in
+      let w = then_byte _ _ _ _ (rw all at k.written) line_feed (omega (arith, k.soon)) in
+      rw (reply-parts letter used a) w

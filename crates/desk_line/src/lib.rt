@@ -18,25 +18,19 @@ pub const REPLY_ROOM: usize = 3 * MOST_DIGITS + 5;
 fn digits_in(n: usize) -> usize
     ensures { result ≡ length (decimal n) }
 {
-    let mut many = 1;
-    let mut rest = n;
-    while 10 <= rest {
-        rest /= 10;
-        many += 1;
-    }
-    many
+    n.max(1).ilog10() as usize + 1
 }
 
-// Writes the last digits of a number, so many of them, to the front of `out`.
+// Writes the last digits of a number, so many of them, to the front of `out`. By hand, since what `write!` wrote is known only where it answers
+// Ok, that it does is said nowhere, and a line is written without fail.
 fn put_digits(out: &mut [u8], n: usize, many: usize)
     requires { many ≤ length out.old }
     ensures { out.new ≡ over (last_digits many n) out.old }
 {
-    let mut at = many;
     let mut rest = n;
-    while 0 < at {
-        at -= 1;
-        out[at] = digit_of(rest);
+    // By index: tried with `iter_mut().rev()`, whose contract says nothing of what the slice holds after it.
+    for place in (0..many).rev() {
+        out[place] = digit_of(rest);
         rest /= 10;
     }
 }
@@ -60,9 +54,10 @@ pub fn put_reply(out: &mut [u8], letter: u8, answer: Answer, used: u16) -> usize
     ensures wrote { out.new ≡ over (reply letter answer used) out.old }
 {
     out[0] = letter;
-    let line_at = 1 + put_field(&mut out[1..], answer.number as usize);
-    let used_at = line_at + put_field(&mut out[line_at..], answer.line);
-    let end = used_at + put_field(&mut out[used_at..], used as usize);
+    let mut end = 1;
+    for n in [usize::from(answer.number), answer.line, usize::from(used)] {
+        end += put_field(&mut out[end..], n);
+    }
     out[end] = b'\n';
     end + 1
 }

@@ -2,8 +2,6 @@
 // std does of the C functions below it, and nothing else.
 #![tactic(auto)]
 
-ghost use Rattle.std.specs.Prelude.{◌≤◌, length, IfOk};
-
 use desk_line::REPLY_ROOM;
 use figures::limits;
 use std::io;
@@ -31,24 +29,21 @@ fn run(rt: &impl Print, input: &[u8]) -> io::Result<()> {
     }
 }
 
-// Reads until the buffer is full or the input ends, and answers how many bytes were put at its front.
-fn read_full(reader: &mut impl Read, buffer: &mut [u8]) -> io::Result<usize>
-    ensures { IfOk result (λ n. n ≤ length buffer.new) }
-{
+// Reads until the buffer is full or the input ends, and gives what was read. (std's `read_to_end` reads to the heap, which the desk does without.)
+fn read_full<'a>(reader: &mut impl Read, buffer: &'a mut [u8]) -> io::Result<&'a [u8]> {
     let mut done = 0;
     while done < buffer.len() {
-        let n = reader.read(&mut buffer[done..])?;
-        if n == 0 {
-            break;
+        match reader.read(&mut buffer[done..])? {
+            0 => break,
+            n => done += n,
         }
-        done += n;
     }
-    Ok(done)
+    Ok(&buffer[..done])
 }
 
 // Reads an input and runs the desk on it.
 pub fn from(rt: &impl Print, reader: &mut impl Read) -> io::Result<()> {
-    let mut input = [0u8; READ];
-    let n = read_full(reader, &mut input)?;
-    run(rt, &input[..n])
+    let mut buffer = [0u8; READ];
+    let input = read_full(reader, &mut buffer)?;
+    run(rt, input)
 }

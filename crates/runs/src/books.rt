@@ -11,177 +11,142 @@
 //   show              says every word of it
 // All calls but that of `form` are made through the functions for C (`ofb`). Each call on the kept book says its answer, word 1 of the book and a
 // mark of all the words of its slice; a joining also says whether the words of the other book are the same as before.
-use crate::kinds;
-use book::Places;
-use figures::Refusal;
 use ofb::OfbAnswer;
-use runs_kit::{fill, kept, mark, say, wide};
-use std::io;
+use runs_kit::fault::Fault;
+use runs_kit::kept::{self, Kept};
+use runs_kit::say::Slice;
+use runs_kit::{mark, say};
+use std::fmt;
 
-// Says the k of a book, the places where its sections R, L and P start, and its words used.
-fn places(rt: &impl Print, places: Places) -> io::Result<()> {
-    say::text(rt, b"k ")?;
-    say::word(rt, places.k.value())?;
-    say::text(rt, b", R at ")?;
-    say::count(rt, places.tops)?;
-    say::text(rt, b", L at ")?;
-    say::count(rt, places.lows)?;
-    say::text(rt, b", P at ")?;
-    say::count(rt, places.middles)?;
-    say::text(rt, b", ")?;
-    say::count(rt, places.used)?;
-    say::text(rt, b" words used")
-}
-
-// Says what a look at a book's form gave.
-pub fn form(rt: &impl Print, form: Result<Places, Refusal>) -> io::Result<()> {
-    match form {
-        Err(refusal) => {
-            say::text(rt, b"refused ")?;
-            say::word(rt, refusal.number())
-        }
-        Ok(found) => places(rt, found),
+// Runs a case of `form`: says the k of the book, the places where its sections R, L and P start, and its words used, or why it is none.
+pub fn form(rt: &impl Print, given: &[u16]) -> Result<(), Fault> {
+    match book_form::in_form(given) {
+        Err(refusal) => print!(rt; "refused {}", refusal.number())?,
+        Ok(places) => print!(rt;
+            "k {}, R at {}, L at {}, P at {}, {} words used",
+            places.k.value(),
+            places.tops,
+            places.lows,
+            places.middles,
+            places.used
+        )?,
     }
-}
-
-// Says word 1 of a book, which has its words used, or 0 where there is no such word, and the mark of all its words.
-fn state(rt: &impl Print, book: &[u16]) -> io::Result<()> {
-    let mut used = 0;
-    if 1 < book.len() {
-        used = book[1];
-    }
-    say::word(rt, used)?;
-    say::text(rt, b" used, mark ")?;
-    say::count(rt, mark::of(book) as usize)
-}
-
-// Opens a book in a slice, each of whose words is 9 before, and says the answer and every word of the slice.
-fn open_in(rt: &impl Print, slice: &mut [u16], k: u16) -> io::Result<()> {
-    fill::words(slice, kept::BEFORE);
-    let answer = ofb::ofb_open(slice, k);
-    say::heard(rt, answer.number, answer.line as usize)?;
-    say::text(rt, b":")?;
-    say::slice(rt, slice)
-}
-
-// Runs a case of `open`.
-pub fn open(rt: &impl Print, given: &[u16], held: &mut [u16]) -> io::Result<()> {
-    if given.len() != 2 {
-        return say::not_understood(rt);
-    }
-    let room = given[0];
-    let end = 1 + wide::number(room);
-    if held.len() < end {
-        return say::not_understood(rt);
-    }
-    open_in(rt, &mut held[1..end], given[1])?;
-    held[0] = room;
     Ok(())
 }
 
-// Keeps words as a book, and says how many they are and how it stands.
-pub fn lay(rt: &impl Print, given: &[u16], held: &mut [u16]) -> io::Result<()> {
-    if !kept::put(given, 0, held) {
-        return say::not_understood(rt);
+// How a book stands: its word 1, which has its words used, or 0 where there is no such word, and the mark of all its words.
+#[derive(Clone, Copy)]
+struct State<'a>(&'a [u16]);
+
+impl fmt::Display for State<'_> {
+    fn fmt<W: fmt::Write>(&self, f: &mut fmt::Formatter<W>) -> fmt::Result {
+        let used = self.0.get(1).copied().unwrap_or(0);
+        write!(f, "{used} used, mark {}", mark::of(self.0))
     }
-    say::count(rt, given.len())?;
-    say::text(rt, b" words, ")?;
-    state(rt, given)
+}
+
+// Runs a case of `open`: says the answer and every word of the slice.
+pub fn open(rt: &(impl Print + AllocGlobal), given: &[u16], kept: &mut Kept) -> Result<(), Fault> {
+    let &[room, k] = given else {
+        return Err(Fault::NotUnderstood);
+    };
+    let mut book = kept::slice(rt.alloc(), room)?;
+    let answer = ofb::ofb_open(&mut book, k);
+    print!(rt; "{}, line {}:{}", answer.number, answer.line, Slice(&book))?;
+    kept.book = book;
+    Ok(())
+}
+
+// Runs a case of `lay`: says how many words there are, and how the book stands.
+pub fn lay(rt: &(impl Print + AllocGlobal), given: &[u16], kept: &mut Kept) -> Result<(), Fault> {
+    kept.keep_book(rt.alloc(), given)?;
+    print!(rt; "{} words, {}", given.len(), State(given))?;
+    Ok(())
 }
 
 // Runs a case of `show`.
-pub fn show(rt: &impl Print, given: &[u16], held: &[u16]) -> io::Result<()> {
-    if given.len() != 0 {
-        return say::not_understood(rt);
+pub fn show(rt: &impl Print, given: &[u16], kept: &Kept) -> Result<(), Fault> {
+    if !given.is_empty() {
+        return Err(Fault::NotUnderstood);
     }
-    say::text(rt, b"words:")?;
-    say::slice(rt, kept::all(held))
+    print!(rt; "words:{}", Slice(&kept.book))?;
+    Ok(())
 }
 
-// Makes a call on a book, by its kind, one of the four, and what it is given: an order, or the words of the book that is joined.
-fn made(kind: u64, given: &[u16], book: &mut [u16]) -> OfbAnswer {
-    match kind {
-        kinds::TEACH => ofb::ofb_teach(book, given),
-        kinds::WITHDRAW => ofb::ofb_withdraw(book, given),
-        kinds::JOIN => ofb::ofb_join(book, given),
-        _ => ofb::ofb_check(book),
-    }
+// Says what a call on a book answered, and how the book stands then.
+fn called(rt: &impl Print, answer: OfbAnswer, book: &[u16]) -> Result<(), Fault> {
+    print!(rt; "{}, line {}, {}", answer.number, answer.line, State(book))?;
+    Ok(())
 }
 
-// Makes a call on the kept book, by its kind and what it is given, and says what it answered and how the book stands then.
-fn on_kept(rt: &impl Print, kind: u64, given: &[u16], held: &mut [u16]) -> io::Result<()> {
-    if held.len() == 0 {
-        return Ok(());
-    }
-    let end = 1 + wide::number(held[0]);
-    if held.len() < end {
-        return Ok(());
-    }
-    let answer = made(kind, given, &mut held[1..end]);
-    say::heard(rt, answer.number, answer.line as usize)?;
-    say::text(rt, b", ")?;
-    state(rt, kept::all(held))
+// Runs a case of `teach`.
+pub fn teach(rt: &impl Print, order: &[u16], kept: &mut Kept) -> Result<(), Fault> {
+    let answer = ofb::ofb_teach(&mut kept.book, order);
+    called(rt, answer, &kept.book)
 }
 
-// Says whether something is there, by a number that is not 0 if it is.
-fn whether(rt: &impl Print, there: u16) -> io::Result<()> {
-    if there == 0 {
-        say::text(rt, b"not ")?;
-    }
-    say::text(rt, b"there")
+// Runs a case of `withdraw`.
+pub fn withdraw(rt: &impl Print, order: &[u16], kept: &mut Kept) -> Result<(), Fault> {
+    let answer = ofb::ofb_withdraw(&mut kept.book, order);
+    called(rt, answer, &kept.book)
 }
 
 // Runs a case of `ask`: says the answer, what the book expected, and how the book stands.
-pub fn ask(rt: &impl Print, given: &[u16], held: &[u16]) -> io::Result<()> {
-    let judged = ofb::ofb_judge(kept::all(held), given);
-    say::heard(rt, judged.number, judged.line as usize)?;
-    say::text(rt, b", below ")?;
-    say::word(rt, judged.below)?;
-    say::text(rt, b", ")?;
-    whether(rt, judged.there)?;
-    say::text(rt, b", places ")?;
-    say::word(rt, judged.place_below)?;
-    say::text(rt, b" and ")?;
-    say::word(rt, judged.place_above)?;
-    say::text(rt, b", ")?;
-    state(rt, kept::all(held))
+pub fn ask(rt: &impl Print, order: &[u16], kept: &Kept) -> Result<(), Fault> {
+    let judged = ofb::ofb_judge(&kept.book, order);
+    let there = if judged.there == 0 {
+        "not there"
+    } else {
+        "there"
+    };
+    print!(rt;
+        "{}, line {}, below {}, {there}, places {} and {}, {}",
+        judged.number,
+        judged.line,
+        judged.below,
+        judged.place_below,
+        judged.place_above,
+        State(&kept.book)
+    )?;
+    Ok(())
 }
 
 // Runs a case of `choose`: says the answer, the image, and how the book stands.
-pub fn choose(rt: &impl Print, given: &[u16], held: &[u16]) -> io::Result<()> {
-    if given.len() == 0 {
-        return say::not_understood(rt);
-    }
-    let end = 1 + wide::number(given[0]);
-    if given.len() < end {
-        return say::not_understood(rt);
-    }
-    let chosen = ofb::ofb_choose(kept::all(held), &given[1..end], &given[end..]);
-    say::heard(rt, chosen.number, chosen.line as usize)?;
-    say::text(rt, b", image ")?;
-    say::count(rt, chosen.image as usize)?;
-    say::text(rt, b", ")?;
-    state(rt, kept::all(held))
+pub fn choose(rt: &impl Print, given: &[u16], kept: &Kept) -> Result<(), Fault> {
+    let [count, words @ ..] = given else {
+        return Err(Fault::NotUnderstood);
+    };
+    let (order, rules) = words
+        .split_at_checked(usize::from(*count))
+        .ok_or(Fault::NotUnderstood)?;
+    let chosen = ofb::ofb_choose(&kept.book, order, rules);
+    print!(rt;
+        "{}, line {}, image {}, {}",
+        chosen.number,
+        chosen.line,
+        chosen.image,
+        State(&kept.book)
+    )?;
+    Ok(())
 }
 
-// Runs a case of `teach`, `withdraw` or `agrees`, of which the last has no order.
-pub fn call(rt: &impl Print, kind: u64, given: &[u16], held: &mut [u16]) -> io::Result<()> {
-    if kind == kinds::AGREES {
-        if given.len() != 0 {
-            return say::not_understood(rt);
-        }
+// Runs a case of `agrees`.
+pub fn agrees(rt: &impl Print, given: &[u16], kept: &Kept) -> Result<(), Fault> {
+    if !given.is_empty() {
+        return Err(Fault::NotUnderstood);
     }
-    on_kept(rt, kind, given, held)
+    called(rt, ofb::ofb_check(&kept.book), &kept.book)
 }
 
 // Runs a case of `join`, and says whether the words of the other book are the same as before, by their mark.
-pub fn join(rt: &impl Print, given: &[u16], held: &mut [u16], other: &[u16]) -> io::Result<()> {
-    if given.len() != 0 {
-        return say::not_understood(rt);
+pub fn join(rt: &impl Print, given: &[u16], kept: &mut Kept) -> Result<(), Fault> {
+    if !given.is_empty() {
+        return Err(Fault::NotUnderstood);
     }
-    let before = mark::of(kept::all(other));
-    on_kept(rt, kinds::JOIN, kept::all(other), held)?;
-    let after = mark::of(kept::all(other));
-    say::text(rt, b", the other ")?;
-    say::came_back(rt, after == before)
+    let before = mark::of(&kept.other);
+    let answer = ofb::ofb_join(&mut kept.book, &kept.other);
+    called(rt, answer, &kept.book)?;
+    let after = mark::of(&kept.other);
+    print!(rt; ", the other {}", say::came_back(after == before))?;
+    Ok(())
 }

@@ -1,96 +1,68 @@
 // What comes of the case on a line: its kind, and behind that a text or, mostly, a list of words, each behind one space; *N behind a word lets it
 // stand N times in all. A line that begins with # is no case: it says what the next cases are about.
-use crate::{books, forms, kinds, orders, stored};
-use runs_kit::{line, same, say};
+use crate::kinds::Kind;
+use crate::{books, forms, orders, stored};
+use runs_kit::fault::Fault;
+use runs_kit::kept::Kept;
+use runs_kit::line;
 use std::io;
 
-// Runs a case by its kind and the words that stand behind that, with two kept books and a kept file.
-fn with_words(
-    rt: &impl Print,
-    kind: u64,
-    given: &[u16],
-    book: &mut [u16],
-    other: &mut [u16],
-    file: &mut [u16],
-) -> io::Result<()> {
-    match kind {
-        kinds::CHECK => orders::check(rt, given),
-        kinds::K => orders::k(rt, given),
-        kinds::SUBTREE => orders::subtree(rt, given),
-        kinds::CUT => orders::cut(rt, given),
-        kinds::PART => orders::part(rt, given),
-        kinds::WRITE => forms::write(rt, given),
-        kinds::THERE => forms::there(rt, given),
-        kinds::FORM => books::form(rt, book_form::in_form(given)),
-        kinds::OPEN => books::open(rt, given, book),
-        kinds::LAY => books::lay(rt, given, book),
-        kinds::SHOW => books::show(rt, given, book),
-        kinds::TEACH | kinds::WITHDRAW | kinds::AGREES => books::call(rt, kind, given, book),
-        kinds::ASK => books::ask(rt, given, book),
-        kinds::CHOOSE => books::choose(rt, given, book),
-        kinds::JOIN => books::join(rt, given, book, other),
-        kinds::FILE => stored::lay(rt, given, 0, file),
-        kinds::MORE => stored::more(rt, given, file),
-        kinds::PUT => stored::put(rt, given, file),
-        kinds::STORE => stored::store(rt, given, book, file),
-        kinds::LOAD => stored::load(rt, given, file),
-        kinds::FRONT => stored::front(rt, given, file),
-        kinds::WITH => stored::with(rt, given, file),
-        kinds::START => stored::start(rt, given, file, book),
-        kinds::TRIP => stored::trip(rt, given, book),
-        kinds::AGAIN => stored::again(rt, given, file),
-        kinds::SWAP => stored::swap(rt, given, book, other),
-        _ => say::not_understood(rt),
-    }
-}
-
-// Runs a case by its kind and what stands behind that; words are read to the front of `given`.
+// Runs a case by its name and what stands behind that, with what is kept.
 fn case(
-    rt: &impl Print,
-    kind: u64,
-    behind: &[u8],
-    given: &mut [u16],
-    book: &mut [u16],
-    other: &mut [u16],
-    file: &mut [u16],
-) -> io::Result<()> {
-    if kind == kinds::READ {
-        return forms::read(rt, behind);
+    rt: &(impl Print + AllocGlobal),
+    name: &[u8],
+    behind: Option<&[u8]>,
+    kept: &mut Kept,
+) -> Result<(), Fault> {
+    let kind = Kind::from_name(name).ok_or(Fault::NotUnderstood)?;
+    let given = || line::words(rt.alloc(), behind);
+    match kind {
+        Kind::Check => orders::check(rt, &given()?),
+        Kind::K => orders::k(rt, &given()?),
+        Kind::Subtree => orders::subtree(rt, &given()?),
+        Kind::Cut => orders::cut(rt, &given()?),
+        Kind::Part => orders::part(rt, &given()?),
+        Kind::Read => forms::read(rt, behind),
+        Kind::Back => forms::back(rt, behind),
+        Kind::Write => forms::write(rt, &given()?),
+        Kind::There => forms::there(rt, &given()?),
+        Kind::Form => books::form(rt, &given()?),
+        Kind::Open => books::open(rt, &given()?, kept),
+        Kind::Lay => books::lay(rt, &given()?, kept),
+        Kind::Show => books::show(rt, &given()?, kept),
+        Kind::Teach => books::teach(rt, &given()?, kept),
+        Kind::Withdraw => books::withdraw(rt, &given()?, kept),
+        Kind::Ask => books::ask(rt, &given()?, kept),
+        Kind::Choose => books::choose(rt, &given()?, kept),
+        Kind::Agrees => books::agrees(rt, &given()?, kept),
+        Kind::Join => books::join(rt, &given()?, kept),
+        Kind::File => stored::file(rt, &given()?, kept),
+        Kind::More => stored::more(rt, &given()?, kept),
+        Kind::Put => stored::put(rt, &given()?, kept),
+        Kind::Store => stored::store(rt, &given()?, kept),
+        Kind::Load => stored::load(rt, &given()?, kept),
+        Kind::Front => stored::front(rt, &given()?, kept),
+        Kind::With => stored::with(rt, &given()?, kept),
+        Kind::Start => stored::start(rt, &given()?, kept),
+        Kind::Trip => stored::trip(rt, &given()?, kept),
+        Kind::Again => stored::again(rt, &given()?, kept),
+        Kind::Swap => stored::swap(rt, &given()?, kept),
     }
-    if kind == kinds::BACK {
-        return forms::back(rt, behind);
-    }
-    let n = line::words(behind, given);
-    if given.len() < n {
-        return say::not_understood(rt);
-    }
-    with_words(rt, kind, &given[0..n], book, other, file)
 }
 
 // Says a line, and what comes of the case on it.
-pub fn run(
-    rt: &impl Print,
-    line: &[u8],
-    given: &mut [u16],
-    book: &mut [u16],
-    other: &mut [u16],
-    file: &mut [u16],
-) -> io::Result<()> {
-    say::text(rt, line)?;
-    say::end(rt)?;
-    let end = line::find(line, b' ', 0);
-    if same::bytes(&line[0..end], b"#") {
+pub fn run(rt: &(impl Print + AllocGlobal), line: &[u8], kept: &mut Kept) -> io::Result<()> {
+    rt.write_all(line)?;
+    println!(rt; "")?;
+    let (name, behind) = line::split(line);
+    if matches!(name, b"#") {
         return Ok(());
     }
-    say::text(rt, b"  ")?;
-    case(
-        rt,
-        line::kind(&line[0..end]),
-        &line[end..],
-        given,
-        book,
-        other,
-        file,
-    )?;
-    say::end(rt)
+    print!(rt; "  ")?;
+    match case(rt, name, behind, kept) {
+        Ok(()) => {}
+        Err(Fault::NotUnderstood) => print!(rt; "not understood")?,
+        Err(Fault::Io(error)) => return Err(error),
+    }
+    println!(rt; "")
 }

@@ -4,116 +4,87 @@
 //   back TEXT            the text is read and written back
 //   there W W ..         the order of these words is written and read back
 // All calls are made through the functions for C (`ofb`).
-use figures::numbers;
-use runs_kit::lent::{HELD, HELD_BYTE, MOST};
-use runs_kit::{lent, line, same, say, wide};
-use std::io;
+use figures::Written;
+use figures::numbers::DONE;
+use ofb::OfbAnswer;
+use runs_kit::fault::Fault;
+use runs_kit::lent::{self, HELD, HELD_BYTE, MOST};
+use runs_kit::{line, say};
 
-// Reads a text to an output, and says what came of it.
-fn read_to(rt: &impl Print, text: &[u8], out: &mut [u16]) -> io::Result<()> {
-    let answer = ofb::ofb_read_text(text, out);
-    let count = answer.written as usize;
-    lent::answer(rt, answer.number, answer.line as usize, count)?;
-    lent::words(rt, out, count)
+// Runs a case of `read`: reads the text to an output, and says what came of it.
+pub fn read(rt: &(impl Print + AllocGlobal), behind: Option<&[u8]>) -> Result<(), Fault> {
+    let (room, spelt) = line::split(behind.ok_or(Fault::NotUnderstood)?);
+    let room = line::number(room).ok_or(Fault::NotUnderstood)?;
+    let room = line::room(usize::from(room), MOST)?;
+    let mut out = vec![in rt.alloc(); HELD; room]?;
+    let text = line::text(rt.alloc(), spelt)?;
+    let answer = ofb::ofb_read_text(&text, &mut out);
+    lent::words(rt, told(answer), &out)?;
+    Ok(())
 }
 
-// Runs a case of `read`, by what stands behind its kind.
-pub fn read(rt: &impl Print, behind: &[u8]) -> io::Result<()> {
-    if behind.len() == 0 {
-        return say::not_understood(rt);
+// Runs a case of `write`: writes the order to an output, and says what came of it.
+pub fn write(rt: &(impl Print + AllocGlobal), given: &[u16]) -> Result<(), Fault> {
+    let [room, order @ ..] = given else {
+        return Err(Fault::NotUnderstood);
+    };
+    let room = line::room(usize::from(*room), MOST)?;
+    let mut out = vec![in rt.alloc(); HELD_BYTE; room]?;
+    let answer = ofb::ofb_write_text(order, &mut out);
+    lent::text(rt, told(answer), &out)?;
+    Ok(())
+}
+
+// An answer of a function for C, as it is said.
+pub fn told(answer: OfbAnswer) -> Written {
+    Written {
+        number: answer.number,
+        line: usize::from(answer.line),
+        count: answer.written as usize,
     }
-    let end = line::find(behind, b' ', 1);
-    let room = line::number(&behind[1..end]);
-    let mut out = [HELD; MOST];
-    let mut text = [0u8; MOST];
-    let n = line::text(&behind[end..], &mut text);
-    if out.len() < room {
-        return say::not_understood(rt);
+}
+
+// What a call wrote to an output, if it was done.
+fn written<T>(answer: OfbAnswer, out: &[T]) -> Option<&[T]> {
+    if answer.number != DONE {
+        return None;
     }
-    if text.len() < n {
-        return say::not_understood(rt);
-    }
-    read_to(rt, &text[0..n], &mut out[0..room])
+    out.get(..answer.written as usize)
 }
 
 // Whether a text is read, and its words are written, to the same bytes.
 fn is_back(text: &[u8]) -> bool {
-    let mut words = [HELD; MOST];
-    let read = ofb::ofb_read_text(text, &mut words);
-    let count = read.written as usize;
-    if read.number != numbers::DONE {
+    let mut out = [HELD; MOST];
+    let read = ofb::ofb_read_text(text, &mut out);
+    let Some(order) = written(read, &out) else {
         return false;
-    }
-    if words.len() < count {
-        return false;
-    }
+    };
     let mut bytes = [HELD_BYTE; MOST];
-    let wrote = ofb::ofb_write_text(&words[0..count], &mut bytes);
-    let size = wrote.written as usize;
-    if wrote.number != numbers::DONE {
-        return false;
-    }
-    if bytes.len() < size {
-        return false;
-    }
-    same::bytes(text, &bytes[0..size])
+    let wrote = ofb::ofb_write_text(order, &mut bytes);
+    written(wrote, &bytes) == Some(text)
 }
 
-// Runs a case of `back`, by what stands behind its kind.
-pub fn back(rt: &impl Print, behind: &[u8]) -> io::Result<()> {
-    let mut text = [0u8; MOST];
-    let n = line::text(behind, &mut text);
-    if text.len() < n {
-        return say::not_understood(rt);
-    }
-    say::came_back(rt, is_back(&text[0..n]))
-}
-
-// Writes an order to an output, and says what came of it.
-fn write_to(rt: &impl Print, order: &[u16], out: &mut [u8]) -> io::Result<()> {
-    let answer = ofb::ofb_write_text(order, out);
-    let count = answer.written as usize;
-    lent::answer(rt, answer.number, answer.line as usize, count)?;
-    lent::text(rt, out, count)
-}
-
-// Runs a case of `write`.
-pub fn write(rt: &impl Print, given: &[u16]) -> io::Result<()> {
-    if given.len() == 0 {
-        return say::not_understood(rt);
-    }
-    let room = wide::number(given[0]);
-    let mut out = [HELD_BYTE; MOST];
-    if out.len() < room {
-        return say::not_understood(rt);
-    }
-    write_to(rt, &given[1..], &mut out[0..room])
+// Runs a case of `back`.
+pub fn back(rt: &(impl Print + AllocGlobal), behind: Option<&[u8]>) -> Result<(), Fault> {
+    let text = line::text(rt.alloc(), behind)?;
+    print!(rt; "{}", say::came_back(is_back(&text)))?;
+    Ok(())
 }
 
 // Whether an order is written, and its text is read, to the same words.
 fn is_there(order: &[u16]) -> bool {
-    let mut bytes = [HELD_BYTE; MOST];
-    let wrote = ofb::ofb_write_text(order, &mut bytes);
-    let size = wrote.written as usize;
-    if wrote.number != numbers::DONE {
+    let mut out = [HELD_BYTE; MOST];
+    let wrote = ofb::ofb_write_text(order, &mut out);
+    let Some(text) = written(wrote, &out) else {
         return false;
-    }
-    if bytes.len() < size {
-        return false;
-    }
+    };
     let mut words = [HELD; MOST];
-    let read = ofb::ofb_read_text(&bytes[0..size], &mut words);
-    let count = read.written as usize;
-    if read.number != numbers::DONE {
-        return false;
-    }
-    if words.len() < count {
-        return false;
-    }
-    same::words(order, &words[0..count])
+    let read = ofb::ofb_read_text(text, &mut words);
+    written(read, &words) == Some(order)
 }
 
 // Runs a case of `there`.
-pub fn there(rt: &impl Print, order: &[u16]) -> io::Result<()> {
-    say::came_back(rt, is_there(order))
+pub fn there(rt: &impl Print, order: &[u16]) -> Result<(), Fault> {
+    print!(rt; "{}", say::came_back(is_there(order)))?;
+    Ok(())
 }

@@ -7,105 +7,73 @@
 // The call of `subtree` is made through the function for C (`ofb`); there is none for the others.
 use figures::{Depth, asked_number};
 use order::Kind;
-use runs_kit::{lent, say, wide};
-use std::io;
+use runs_kit::fault::Fault;
+use runs_kit::lent::{self, HELD, MOST};
+use runs_kit::{line, say};
 
 // Runs a case of `check`.
-pub fn check(rt: &impl Print, given: &[u16]) -> io::Result<()> {
+pub fn check(rt: &impl Print, given: &[u16]) -> Result<(), Fault> {
     let answer = order_check::check(given);
-    say::heard(rt, answer.number, answer.line)
+    print!(rt; "{}, line {}", answer.number, answer.line)?;
+    Ok(())
 }
 
 // Runs a case of `k`.
-pub fn k(rt: &impl Print, given: &[u16]) -> io::Result<()> {
-    if given.len() != 1 {
-        return say::not_understood(rt);
-    }
-    say::word(rt, asked_number(Depth::new(given[0])))
+pub fn k(rt: &impl Print, given: &[u16]) -> Result<(), Fault> {
+    let &[k] = given else {
+        return Err(Fault::NotUnderstood);
+    };
+    print!(rt; "{}", asked_number(Depth::new(k)))?;
+    Ok(())
 }
 
 // Runs a case of `subtree`: says the tree at the place that is answered, or that this is no place in the order.
-pub fn subtree(rt: &impl Print, given: &[u16]) -> io::Result<()> {
-    if given.len() < 1 {
-        return say::not_understood(rt);
-    }
-    let part = ofb::ofb_subtree(&given[1..], wide::number(given[0]));
-    let start = 1 + part.start as usize;
-    let end = start + part.words as usize;
-    if given.len() < end {
-        return say::text(rt, b"no place in the order");
-    }
-    say::tree(rt, &given[start..end])
-}
-
-// Writes the cut at d of a line to an output, and says what came of it.
-fn cut_to(
-    rt: &impl Print,
-    order: &[u16],
-    line: usize,
-    d: usize,
-    out: &mut [u16],
-) -> io::Result<()> {
-    let written = order_cuts::cut_into(order, line, d, out);
-    let count = written.count;
-    lent::answer(rt, written.number, written.line, count)?;
-    lent::tree(rt, out, count)
-}
-
-// Runs a case of `cut`.
-pub fn cut(rt: &impl Print, given: &[u16]) -> io::Result<()> {
-    if given.len() < 3 {
-        return say::not_understood(rt);
-    }
-    let line = wide::number(given[0]);
-    let d = wide::number(given[1]);
-    let room = wide::number(given[2]);
-    let mut out = [lent::HELD; lent::MOST];
-    if out.len() < room {
-        return say::not_understood(rt);
-    }
-    cut_to(rt, &given[3..], line, d, &mut out[0..room])
-}
-
-// Says a kind of part.
-fn kind(rt: &impl Print, kind: Kind) -> io::Result<()> {
-    match kind {
-        Kind::Absent => say::text(rt, b"absent, "),
-        Kind::Low => say::text(rt, b"low, "),
-        Kind::Middle => say::text(rt, b"middle, "),
-    }
-}
-
-// Writes the part of a line to an output, and says what came of it.
-fn part_to(
-    rt: &impl Print,
-    order: &[u16],
-    line: usize,
-    k: Depth,
-    out: &mut [u16],
-) -> io::Result<()> {
-    let found = order_parts::part_into(order, line, k, out);
-    let sort = found.kind;
-    let written = found.written;
-    let count = written.count;
-    kind(rt, sort)?;
-    lent::answer(rt, written.number, written.line, count)?;
-    lent::tree(rt, out, count)
-}
-
-// Runs a case of `part`.
-pub fn part(rt: &impl Print, given: &[u16]) -> io::Result<()> {
-    if given.len() < 3 {
-        return say::not_understood(rt);
-    }
-    let Some(k) = Depth::new(given[1]) else {
-        return say::not_understood(rt);
+pub fn subtree(rt: &(impl Print + AllocGlobal), given: &[u16]) -> Result<(), Fault> {
+    let [line, order @ ..] = given else {
+        return Err(Fault::NotUnderstood);
     };
-    let line = wide::number(given[0]);
-    let room = wide::number(given[2]);
-    let mut out = [lent::HELD; lent::MOST];
-    if out.len() < room {
-        return say::not_understood(rt);
+    let part = ofb::ofb_subtree(order, usize::from(*line));
+    let start = part.start as usize;
+    match order.get(start..start + part.words as usize) {
+        Some(words) => print!(rt; "{}", say::tree(rt.alloc(), words)?)?,
+        None => print!(rt; "no place in the order")?,
     }
-    part_to(rt, &given[3..], line, k, &mut out[0..room])
+    Ok(())
+}
+
+// Runs a case of `cut`: writes the cut at d of a line to an output, and says what came of it.
+pub fn cut(rt: &(impl Print + AllocGlobal), given: &[u16]) -> Result<(), Fault> {
+    let [line, d, room, order @ ..] = given else {
+        return Err(Fault::NotUnderstood);
+    };
+    let room = line::room(usize::from(*room), MOST)?;
+    let mut out = vec![in rt.alloc(); HELD; room]?;
+    let written = order_cuts::cut_into(order, usize::from(*line), usize::from(*d), &mut out);
+    lent::tree(rt, written, &out)?;
+    Ok(())
+}
+
+// A kind of part in words.
+fn named(kind: Kind) -> &'static str {
+    match kind {
+        Kind::Absent => "absent",
+        Kind::Low => "low",
+        Kind::Middle => "middle",
+    }
+}
+
+// Runs a case of `part`: writes the part of a line to an output, and says what came of it.
+pub fn part(rt: &(impl Print + AllocGlobal), given: &[u16]) -> Result<(), Fault> {
+    let [line, k, room, order @ ..] = given else {
+        return Err(Fault::NotUnderstood);
+    };
+    let Some(k) = Depth::new(*k) else {
+        return Err(Fault::NotUnderstood);
+    };
+    let room = line::room(usize::from(*room), MOST)?;
+    let mut out = vec![in rt.alloc(); HELD; room]?;
+    let found = order_parts::part_into(order, usize::from(*line), k, &mut out);
+    print!(rt; "{}, ", named(found.kind))?;
+    lent::tree(rt, found.written, &out)?;
+    Ok(())
 }

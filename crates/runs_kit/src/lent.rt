@@ -1,10 +1,11 @@
 // What a call did with a lent output: its answer, what it wrote at the front, and what stands behind that. Assumes nothing.
-ghost use Rattle.std.specs.Prelude.{◌≤◌, IfOk};
-
-use crate::{kept, mark, say, wide};
+use crate::say::{Runs, Shown};
+use crate::{mark, say};
+use figures::Written;
+use std::alloc::{AllocError, Global};
 use std::io;
 
-// The words or bytes that are lent to be written an order, a part or a form to: more than any has.
+// The words or bytes that may be lent to be written an order, a part or a form to: more than any has.
 pub const MOST: usize = 640;
 
 // What every word of a lent output holds before a call.
@@ -16,75 +17,67 @@ pub const HELD_BYTE: u8 = b'#';
 // Of what was written so many words are said; of more, their mark.
 const MANY: usize = 512;
 
-// Says the answer: its number, its line and its count.
-pub fn answer(rt: &impl Print, number: u16, line: usize, count: usize) -> io::Result<()> {
-    say::heard(rt, number, line)?;
-    say::text(rt, b", ")?;
-    say::count(rt, count)?;
-    say::text(rt, b" written:")
-}
-
-// How many words or bytes of an output are said as written, by how many it has and the count that a call answered: so many, or none where that is
-// more than was lent. Where there are none, says why.
-fn front(rt: &impl Print, lent: usize, count: usize) -> io::Result<usize>
-    ensures { IfOk result (λ end. end ≤ lent) }
-{
-    if lent < count {
-        say::text(rt, b" more than was lent")?;
-        return Ok(0);
+// Says an answer, and gives what was written at the front of the output, and what stands behind it. Where nothing was written there, says why.
+fn parted<'a, T>(rt: &impl Print, answer: Written, out: &'a [T]) -> io::Result<(&'a [T], &'a [T])> {
+    let Written {
+        number,
+        line,
+        count,
+    } = answer;
+    print!(rt; "{number}, line {line}, {count} written:")?;
+    let Some((front, behind)) = out.split_at_checked(count) else {
+        print!(rt; " more than was lent")?;
+        return Ok((&[], out));
+    };
+    if front.is_empty() {
+        print!(rt; " nothing")?;
     }
-    if count == 0 {
-        say::text(rt, b" nothing")?;
-    }
-    Ok(count)
+    Ok((front, behind))
 }
 
 // Says the words behind those that were written, if there are any.
 fn behind(rt: &impl Print, rest: &[u16]) -> io::Result<()> {
-    if rest.len() == 0 {
+    if rest.is_empty() {
         return Ok(());
     }
-    say::text(rt, b", then")?;
-    say::runs(rt, rest)
+    print!(rt; ", then{}", Runs(rest))
 }
 
-// Says the words that were written, or their mark where they are many, and the words behind them.
-pub fn words(rt: &impl Print, out: &[u16], count: usize) -> io::Result<()> {
-    let end = front(rt, out.len(), count)?;
-    if MANY < end {
-        say::text(rt, b" mark ")?;
-        say::count(rt, mark::of(&out[0..end]) as usize)?;
+// Says what was written, or its mark where it is much, and the words behind it.
+pub fn words(rt: &impl Print, answer: Written, out: &[u16]) -> io::Result<()> {
+    let (front, rest) = parted(rt, answer, out)?;
+    if MANY < front.len() {
+        print!(rt; " mark {}", mark::of(front))?;
     } else {
-        say::runs(rt, &out[0..end])?;
+        print!(rt; "{}", Runs(front))?;
     }
-    behind(rt, &out[end..])
+    behind(rt, rest)
 }
 
 // Says the tree that was written, and the words behind it.
-pub fn tree(rt: &impl Print, out: &[u16], count: usize) -> io::Result<()> {
-    let end = front(rt, out.len(), count)?;
-    if 0 < end {
-        say::text(rt, b" ")?;
-        say::tree(rt, &out[0..end])?;
+pub fn tree(rt: &(impl Print + AllocGlobal), answer: Written, out: &[u16]) -> io::Result<()> {
+    let (front, rest) = parted(rt, answer, out)?;
+    if !front.is_empty() {
+        print!(rt; " {}", say::tree(rt.alloc(), front)?)?;
     }
-    behind(rt, &out[end..])
+    behind(rt, rest)
+}
+
+// Bytes as words.
+fn widened(alloc: Global, bytes: &[u8]) -> Result<Vec<u16>, AllocError> {
+    bytes.iter().map(|byte| u16::from(*byte)).collect(alloc)
 }
 
 // Says the text that was written, and the bytes behind it as numbers.
-pub fn text(rt: &impl Print, out: &[u8], count: usize) -> io::Result<()> {
-    let end = front(rt, out.len(), count)?;
-    if 0 < end {
-        say::text(rt, b" ")?;
-        say::bytes(rt, &out[0..end])?;
+pub fn text(rt: &(impl Print + AllocGlobal), answer: Written, out: &[u8]) -> io::Result<()> {
+    let (front, rest) = parted(rt, answer, out)?;
+    if !front.is_empty() {
+        print!(rt; " {}", Shown(front))?;
     }
-    let mut rest = [0u16; MOST];
-    let n = wide::widen(&out[end..], &mut rest);
-    behind(rt, &rest[0..n])
+    behind(rt, &widened(rt.alloc(), rest)?)
 }
 
 // Says the bytes that were written as `words` says words.
-pub fn bytes(rt: &impl Print, out: &[u8], count: usize) -> io::Result<()> {
-    let mut wide = [0u16; kept::MOST_FILE];
-    let n = wide::widen(out, &mut wide);
-    words(rt, &wide[0..n], count)
+pub fn bytes(rt: &(impl Print + AllocGlobal), answer: Written, out: &[u8]) -> io::Result<()> {
+    words(rt, answer, &widened(rt.alloc(), out)?)
 }

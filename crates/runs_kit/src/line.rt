@@ -1,139 +1,63 @@
-// What stands on a line of a file of cases: numbers, words and text, each behind one space. Assumes nothing beyond a function's `requires`.
-ghost use Rattle.std.specs.Prelude.{◌≤◌, length};
+// What stands on a line of a file of cases: a kind, and behind it numbers, words or a text, each behind one space. Assumes nothing.
+use crate::fault::Fault;
+use crate::{kept, lent};
+use std::alloc::Global;
+use std::str;
 
-use crate::fill;
+// The words that a list may have: one more than a kept file has bytes.
+const MOST_WORDS: usize = kept::MOST_FILE + 1;
 
-// The greatest number that is read: what a word holds.
-pub const GREATEST: usize = 65535;
+// The bytes that a text may have: one fewer than an output that is lent.
+const MOST_TEXT: usize = lent::MOST - 1;
 
-// The answer where a number, words or a text cannot be read: above every number, and above every room.
-const NONE: usize = 65536;
-
-// The place of a byte, the first at `from` or behind it; the length where there is none.
-pub fn find(bytes: &[u8], byte: u8, from: usize) -> usize
-    requires { from ≤ length bytes.now }
-    ensures { (from ≤ result) × (result ≤ length bytes.now) }
-{
-    let mut at = from;
-    while at < bytes.len() {
-        if bytes[at] == byte {
-            return at;
-        }
-        at += 1;
+// What stands before the first space, and what behind it; of bytes with no space, all of them and none.
+pub fn split(bytes: &[u8]) -> (&[u8], Option<&[u8]>) {
+    match bytes.iter().position(|byte| *byte == b' ') {
+        Some(at) => (&bytes[..at], Some(&bytes[at + 1..])),
+        None => (bytes, None),
     }
-    at
 }
 
-// The number that these digits are, or NONE.
-pub fn number(digits: &[u8]) -> usize {
-    if digits.len() == 0 {
-        return NONE;
+// The number that these digits are, if it is one that a word holds.
+pub fn number(digits: &[u8]) -> Option<u16> {
+    if !digits.iter().all(|digit| digit.is_ascii_digit()) {
+        return None;
     }
-    let mut n = 0;
-    for i in 0..digits.len() {
-        let digit = digits[i];
-        if digit < b'0' {
-            return NONE;
-        }
-        if b'9' < digit {
-            return NONE;
-        }
-        n = n * 10 + (digit - b'0') as usize;
-        if GREATEST < n {
-            return NONE;
-        }
-    }
-    n
+    str::from_utf8(digits).ok()?.parse().ok()
 }
 
-// A kind of cases has at most eight letters; this is the greatest number of seven.
-const SEVEN_LETTERS: u64 = 26_26_26_26_26_26_26;
-
-// The number of a kind of cases by its name: two digits for each letter, a being 01 and z 26; 0 where it is no name of small letters, at most eight.
-pub fn kind(name: &[u8]) -> u64 {
-    let mut kind: u64 = 0;
-    for i in 0..name.len() {
-        let letter = name[i];
-        if letter < b'a' {
-            return 0;
-        }
-        if b'z' < letter {
-            return 0;
-        }
-        if SEVEN_LETTERS < kind {
-            return 0;
-        }
-        kind = kind * 100 + (letter - b'a' + 1) as u64;
+// So many words or bytes, if there may be so many.
+pub fn room(count: usize, most: usize) -> Result<usize, Fault> {
+    if count <= most {
+        Ok(count)
+    } else {
+        Err(Fault::NotUnderstood)
     }
-    kind
 }
 
-// Lets the last of the first `count` words stand so many times in all, and answers how many words there are then, or NONE.
-fn repeat(words: &mut [u16], count: usize, times: usize) -> usize {
-    if count == 0 {
-        return NONE;
+// What a piece of a list puts behind the words before it, a word and how many times: itself once, or, for *N, the last of them N - 1 times.
+fn meant_by(piece: &[u8], before: &[u16]) -> Option<(u16, u16)> {
+    match piece.strip_prefix(b"*") {
+        Some(times) => Some((*before.last()?, number(times)?.checked_sub(1)?)),
+        None => Some((number(piece)?, 1)),
     }
-    if times == 0 {
-        return NONE;
-    }
-    if words.len() < count {
-        return NONE;
-    }
-    let more = times - 1;
-    if words.len() - count < more {
-        return NONE;
-    }
-    let word = words[count - 1];
-    let end = count + more;
-    fill::words(&mut words[count..end], word);
-    end
 }
 
-// Puts a word behind the first `count` words, and answers how many there are then, or NONE.
-fn put(digits: &[u8], words: &mut [u16], count: usize) -> usize {
-    let word = number(digits);
-    if GREATEST < word {
-        return NONE;
+// The words of a list; *N behind a word lets it stand N times in all.
+pub fn words(alloc: Global, list: Option<&[u8]>) -> Result<Vec<u16>, Fault> {
+    let mut words = Vec::new(alloc);
+    let Some(list) = list else {
+        return Ok(words);
+    };
+    for piece in list.split(|byte| *byte == b' ') {
+        let (word, times) = meant_by(piece, &words).ok_or(Fault::NotUnderstood)?;
+        let count = room(words.len() + usize::from(times), MOST_WORDS)?;
+        words.resize(count, word)?;
     }
-    if words.len() <= count {
-        return NONE;
-    }
-    words[count] = word as u16;
-    count + 1
+    Ok(words)
 }
 
-// Does what a piece of a list says, a word or *N, behind the first `count` words, and answers how many there are then, or NONE.
-fn piece(spelt: &[u8], words: &mut [u16], count: usize) -> usize {
-    if spelt.len() == 0 {
-        return NONE;
-    }
-    if spelt[0] == b'*' {
-        return repeat(words, count, number(&spelt[1..]));
-    }
-    put(spelt, words, count)
-}
-
-// Reads a list of words, each behind one space, to the front of `words`, and answers how many they are, or NONE; *N behind a word lets it stand
-// N times in all.
-pub fn words(list: &[u8], words: &mut [u16]) -> usize {
-    let mut at = 0;
-    let mut count = 0;
-    while at < list.len() {
-        if list[at] != b' ' {
-            return NONE;
-        }
-        let from = at + 1;
-        let end = find(list, b' ', from);
-        count = piece(&list[from..end], words, count);
-        if words.len() < count {
-            return NONE;
-        }
-        at = end;
-    }
-    count
-}
-
-// The byte that a byte of a line stands for: LF for |, CR for ^, a tab for ~, byte 0 for @, byte 255 for $, and else itself.
+// The byte that a byte of a text stands for: LF for |, CR for ^, a tab for ~, byte 0 for @, byte 255 for $, and else itself.
 fn meant(byte: u8) -> u8 {
     match byte {
         b'|' => b'\n',
@@ -145,17 +69,9 @@ fn meant(byte: u8) -> u8 {
     }
 }
 
-// Reads a text, which stands behind one space, to the front of `text`, and answers how many bytes it has, or NONE.
-pub fn text(spelt: &[u8], text: &mut [u8]) -> usize {
-    let end = spelt.len();
-    if end == 0 {
-        return NONE;
-    }
-    if text.len() < end {
-        return NONE;
-    }
-    for i in 1..end {
-        text[i - 1] = meant(spelt[i]);
-    }
-    end - 1
+// The text that is spelt so.
+pub fn text(alloc: Global, spelt: Option<&[u8]>) -> Result<Vec<u8>, Fault> {
+    let spelt = spelt.ok_or(Fault::NotUnderstood)?;
+    room(spelt.len(), MOST_TEXT)?;
+    Ok(spelt.iter().map(|byte| meant(*byte)).collect(alloc)?)
 }

@@ -62,6 +62,7 @@ pub fn weigh(book: &[u16], many: usize, other: &[u16], more: usize) -> Weighed
     let mut rest = more;
     let mut lacking: usize = 0;
     let mut overfull = false;
+    // Each turn passes an entry of the one row, of the other, or of both: no `for` counts that.
     while 0 < rest {
         let start = from + 2;
         let end = past(other, from);
@@ -104,8 +105,7 @@ fn raise(part: &mut [u16], by: u16)
     requires { (2 ≤ length part.old) × (get_or part.old 1 0 + by ≤ greatest_count) }
     ensures { part.new ≡ set part.old 1 (get_or part.old 1 0 + by) }
 {
-    let count = part[1];
-    part[1] = count + by;
+    part[1] += by;
 }
 
 // Enters an entry among the `many` at the front of the part, unless one of them has its key. Answers the size then.
@@ -122,11 +122,9 @@ pub fn enter_once(part: &mut [u16], many: usize, used: usize, entry: &[u16]) -> 
     }
     let at = stop.at;
     enter(&mut part[at..], used - at, entry);
-    let grown = used + end;
-    let more = many + 1;
     Size {
-        used: grown,
-        many: more,
+        used: used + end,
+        many: many + 1,
     }
 }
 
@@ -178,6 +176,7 @@ pub fn add_all(
     let mut from: usize = 0;
     let mut rest = more;
     let mut count = many;
+    // Each turn passes an entry of the one row, of the other, or of both: no `for` counts that.
     while 0 < rest {
         let start = from + 2;
         let end = past(other, from);
@@ -216,8 +215,7 @@ fn lessen(book: &mut [u16], to: usize, kept: usize, at: usize) -> Lessened
     ensures { (book.new ≡ lessened_words to kept at book.old) × (result ≡ lessened_by to kept at book.old) }
 {
     let next = past(book, at);
-    let count = book[at + 1];
-    if count <= 1 {
+    if book[at + 1] <= 1 {
         let end = bring_down(book, to, kept, at);
         return Lessened {
             to: end,
@@ -226,7 +224,7 @@ fn lessen(book: &mut [u16], to: usize, kept: usize, at: usize) -> Lessened
             out: 1,
         };
     }
-    book[at + 1] = count - 1;
+    book[at + 1] -= 1;
     Lessened {
         to,
         kept,
@@ -250,6 +248,7 @@ pub fn lower_all(book: &mut [u16], many: usize, used: usize, other: &[u16], more
     let mut from: usize = 0;
     let mut rest = more;
     let mut count = many;
+    // Each turn passes an entry of the one row, of the other, or of both: no `for` counts that.
     while 0 < rest {
         let start = from + 2;
         let end = past(other, from);

@@ -49,6 +49,7 @@ pub fn find_entry(book: &[u16], starts: &[u16], key: &[u16]) -> Option<usize>
     let first = words::first(key);
     let mut low: usize = 0;
     let mut high = starts.len();
+    // A slice's own `binary_search_by` would ask `against` of any place, and it may be asked only of one that is listed.
     while low < high {
         let mid = low + (high - low) / 2;
         let at = starts[mid] as usize;
