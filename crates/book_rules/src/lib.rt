@@ -39,12 +39,8 @@ fn has_cut(lines: &Lines, d: usize, tree: &[u16]) -> bool
 {
     let code = tree[0];
     let words = lines.order.words;
-    for line in 0..words.len() / 2 {
-        if words[line * 2] == code && order_cuts::is_cut(lines, line, d, tree) {
-            return true;
-        }
-    }
-    false
+    (0..words.len() / 2).any(|line| words[line * 2] == code
+        && order_cuts::is_cut(lines, line, d, tree))
 }
 
 // What is named once a rule with this image fits too.
