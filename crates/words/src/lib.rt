@@ -49,7 +49,7 @@ pub fn size(place: i64) -> usize
     place.unsigned_abs() as usize
 }
 
-// How the first slice stands to the second: the side that comparing tells, for callers that need no place. The slices' own `cmp` takes 1.5 to 2.0
+// How the first slice stands to the second: the side that comparing tells, for callers that need no place. The slices' own `cmp` takes 1.4 to 2.0
 // of the time in a search, where most keys differ in one of their first words.
 pub fn standing(a: &[u16], b: &[u16]) -> Ordering
     ensures { result ≡ compare_of a.now b.now }
