@@ -1,5 +1,5 @@
 -- What a letter does with the book and an order, and what a call does with the book once its form is read. Assumes nothing.
-use Prim.Native.Nat.{ℕ, ◌+◌, ◌-◌, ◌≤◌}
+use Prim.Native.Nat.{ℕ, ◌+◌, ◌≤◌}
 use mathlib.Core.Path.{◌≡◌, refl, ap, sym, ◌∙◌}
 use mathlib.Core.List.{List, ◌++◌}
 use native.Mathlib.Omega.{arith}
@@ -112,13 +112,12 @@ module _ (letter : Letter) (text book : List ℕ) where
         go (made xs q e t l) = absurd (h (ap (λ (x : Written). x.number) e))
 
     -- Where it is read, the letter is asked with its words.
-    pub call_asked : w.number ≡ done → ask_of letter book (take (w.count - 0) (drop 0 now)) ≡ call_of (record { letter = letter; text = text }) book
+    pub call_asked : w.number ≡ done → ask_of letter book (take w.count now) ≡ call_of (record { letter = letter; text = text }) book
     call_asked h = go (read text out now w long is)
       where
         -- By which of the two it is.
-        go : Read text w now → ask_of letter book (take (w.count - 0) (drop 0 now)) ≡ call_of (record { letter = letter; text = text }) book
+        go : Read text w now → ask_of letter book (take w.count now) ≡ call_of (record { letter = letter; text = text }) book
         go (refused n line q e) = absurd (text-refused text q (sym (ap (λ (x : Written). x.number) e) ∙ h))
         go (made xs q e t l) =
             let c : w.count ≡ length (words_of_lines xs) = ap (λ (x : Written). x.count) e in
-            let z : w.count - 0 ≡ length (words_of_lines xs) = omega arith in
-            ap (ask_of letter book) (ap (λ (n : ℕ). take n now) z ∙ t) ∙ form-call xs q
+            ap (ask_of letter book) (ap (λ (n : ℕ). take n now) c ∙ t) ∙ form-call xs q

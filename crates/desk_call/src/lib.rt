@@ -7,7 +7,7 @@ ghost use Rattle.book.specs.Opening.{outcome};
 ghost use Rattle.desk_call.specs.Asking.{ask_of, call_of};
 
 use desk_input::Letter;
-use figures::{Answer, limits, numbers};
+use figures::{Answer, Written, limits, numbers};
 
 // Word 1 of a book, which has its words used; 0 where there is no such word.
 pub fn used_words(book: &[u16]) -> u16
@@ -23,10 +23,7 @@ fn ask(letter: Letter, book: &mut [u16], order: &[u16]) -> Answer
     match letter {
         Letter::Teach => book_teach::teach(book, order),
         Letter::Withdraw => book_teach::withdraw(book, order),
-        Letter::Judge => {
-            let judged = book_judge::judge(book, order);
-            judged.answer
-        }
+        Letter::Judge => book_judge::judge(book, order).answer,
     }
 }
 
@@ -35,13 +32,13 @@ pub fn call(letter: Letter, text: &[u8], book: &mut [u16]) -> Answer
     ensures { outcome result book.new ≡ call_of (record { letter = letter; text = text.entry.now }) book.old }
 {
     let mut order = [0u16; limits::MOST_WORDS];
-    let read = form_read::read(text, &mut order);
-    if read.number != numbers::DONE {
-        return Answer {
-            number: read.number,
-            line: read.line,
-        };
+    let Written {
+        number,
+        line,
+        count,
+    } = form_read::read(text, &mut order);
+    if number != numbers::DONE {
+        return Answer { number, line };
     }
-    let count = read.count;
-    ask(letter, book, &order[0..count])
+    ask(letter, book, &order[..count])
 }

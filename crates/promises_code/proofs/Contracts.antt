@@ -92,9 +92,9 @@ use Rattle.desk_step.proofs.step.Met as desk-step-met
 use Rattle.figures.specs.contracts.depths.Depth.new as depth-new
 use Rattle.figures.proofs.depths.Depth.new.Statement as depth-new-statement
 use Rattle.figures.proofs.depths.Depth.new.Met as depth-new-met
-use Rattle.figures.specs.contracts.depths.asked_number as asked-number
-use Rattle.figures.proofs.depths.asked_number.Statement as asked-number-statement
-use Rattle.figures.proofs.depths.asked_number.Met as asked-number-met
+use Rattle.figures.specs.contracts.asked_number as asked-number
+use Rattle.figures.proofs.asked_number.Statement as asked-number-statement
+use Rattle.figures.proofs.asked_number.Met as asked-number-met
 use Rattle.figures.specs.contracts.depths.Depth.value as depth-value
 use Rattle.figures.proofs.depths.Depth.value.Statement as depth-value-statement
 use Rattle.figures.proofs.depths.Depth.value.Met as depth-value-met
