@@ -12,7 +12,7 @@ use Rattle.figures.specs.Numbers.{done}
 use Rattle.section.specs.Entries.{Entry, counted, has, Sorted, add_once}
 use Rattle.section.proofs.Once.{has-once}
 use Rattle.section_tally.specs.Tallying.{sought_in, has_all, on_each, tallied, marked, Few, on_one, tallied_once, marked_once, TurnReady, Taken}
-use Rattle.section_tally.proofs.Tallies.{length-each, each_none, tallied-more, once_more, all_known_lem, one-unknown}
+use Rattle.section_tally.proofs.Tallies.{each_none, tallied-more, once_more, all_known_lem, one-unknown}
 use Rattle.order.specs.Trees.{Tree}
 use Rattle.order.specs.Reading.{cause_of}
 use Rattle.order.specs.Standing.{cut_of}
@@ -83,14 +83,6 @@ module _ (low : Bool) (k : ℕ) (os : List ℕ) (es : List Entry) (turn n : ℕ)
   }
 
   module _ (cs₀ ms₀ cs ms : List ℕ) (line : ℕ) (st : Turning low k os es turn n cs₀ ms₀ cs ms line) where
-    -- There are as many counts as at first.
-    pub turn_counts : length cs ≡ length cs₀
-    turn_counts = ap length st.counts ∙ length-each (λ (c : ℕ). c + n) st.entered es cs₀
-
-    -- There are as many marks as at first.
-    pub turn_marks : length ms ≡ length ms₀
-    turn_marks = ap length st.marks ∙ length-each (λ (m : ℕ). turn) st.entered es ms₀
-
     -- Past the last line the turn is taken.
     pub turn_end : length os / 2 ≤ line → Taken turn n (list_of low k 1 os) es cs₀ ms₀ cs ms true
     turn_end past =

@@ -1,6 +1,6 @@
 -- Inner: no promise rests on these definitions.
--- What is tallied for a section of a book by the orders in its T. Assumes nothing: these are definitions, and that what is known of places where
--- entries start is known in one way.
+-- What is tallied for a section of a book by the orders in its T. Assumes nothing: these are definitions, and that what a struct says
+-- of the places of entries has one proof.
 use Rattle.std.specs.Coded.{Unit-prop}
 use Rattle.std.specs.Ordering.{Ordering-set}
 use Rattle.std.proofs.Props.{props}
@@ -31,18 +31,18 @@ unfoldable pub marked_all : Section → ℕ → List Entry → List Entry → Li
 marked_all s k [] es ms = ms
 marked_all s k (t ∷ ts) es ms = marked_all s k ts es (marked (length (t ∷ ts)) (parts_in s k t.key) es ms)
 
--- A key stands below a first entry in one way.
+-- That a key stands below the first entry has one proof at most.
 Below-prop : (key : List ℕ) (es : List Entry) → IsProp (Below key es)
 unfolding Below
 Below-prop key [] = Unit-prop
 Below-prop key (e ∷ es) = Ordering-set _ _
 
--- Entries ascend in one way.
+-- That entries are sorted has one proof at most.
 Sorted-prop : (es : List Entry) → IsProp (Sorted es)
 unfolding Sorted
 Sorted-prop [] = Unit-prop
 Sorted-prop (e ∷ es) = Prim.hlevel (Below-prop e.key es, Sorted-prop es, props)
 
--- Places are those of entries in one way.
+-- That places are those of entries has one proof at most.
 pub Indexed-prop : (starts ws : List ℕ) → IsProp (Indexed starts ws)
 Indexed-prop starts ws = Prim.hlevel (Sorted-prop, props)

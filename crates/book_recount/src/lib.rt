@@ -90,18 +90,10 @@ fn tally_parts(
     ensures { Taken turn.number turn.by (list_of low k.k 1 lines.now.order.words.now)
         (listed entries.now.starts.now entries.now.book.now) counts.old marks.old counts.new marks.new result }
 {
+    let d = k.of_middles();
     for line in 0..lines.order.words.len() / 2 {
         if order_parts::is_low(lines.order.spans, line, k) == low
-            && !tally_cut(
-                lines,
-                line,
-                k.of_middles(),
-                part,
-                entries,
-                counts,
-                marks,
-                turn,
-            )
+            && !tally_cut(lines, line, d, part, entries, counts, marks, turn)
         {
             return false;
         }

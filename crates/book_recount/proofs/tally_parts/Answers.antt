@@ -23,14 +23,14 @@ tally_cut-requires-clause-counts_len c =
 pub tally_cut-requires-clause-few : goal.tally_cut-requires-clause-few
 tally_cut-requires-clause-few c =
     let tells = span-tells _ _ _ _ _ c.args.lines.now.order.gone_over c.loop-line-test.true c.is_low.ensures in
-    turn_few _ _ _ _ _ _ _ _ _ _ _ c.loop-line.invariant c.loop-line-test.true _ c.requires.least_k_le_k tells c.if-is_low-low.true _ c.of_middles.ensures
+    turn_few _ _ _ _ _ _ _ _ _ _ _ c.loop-line.invariant c.loop-line-test.true _ c.requires.least_k_le_k tells c.if-is_low-low.true _ c.of_middles-d.ensures
     c.args.entries.now.indexed.sorted c.requires.turn_ready
 
 pub returns-then-not-tally_cut : goal.returns-then-not-tally_cut
 returns-then-not-tally_cut c =
     let tells = span-tells _ _ _ _ _ c.args.lines.now.order.gone_over c.loop-line-test.true c.is_low.ensures in
     refused-taken _ _ _ _ _ _ _ _
-    (turn_unknown _ _ _ _ _ _ _ _ _ _ _ c.loop-line.invariant c.loop-line-test.true _ c.requires.least_k_le_k tells c.if-is_low-low.true _ c.of_middles.ensures
+    (turn_unknown _ _ _ _ _ _ _ _ _ _ _ c.loop-line.invariant c.loop-line-test.true _ c.requires.least_k_le_k tells c.if-is_low-low.true _ c.of_middles-d.ensures
     (sym c.if-not-tally_cut.true ∙ c.tally_cut.ensures.known))
 
 pub loop-line-preserved : goal.loop-line-preserved
@@ -41,7 +41,7 @@ loop-line-preserved c =
     let tells = span-tells _ _ _ _ _ c.args.lines.now.order.gone_over more c.is_low.ensures in
     elim c.else-is_low-low.branch [
       | else-is_low-low-via-then-is_low-low+else-not-tally_cut w ↦
-          turn_tallied _ _ _ _ _ _ _ _ _ _ _ st more _ least tells w.if-is_low-low.true _ w.of_middles.ensures c.args.entries.now.indexed.sorted c.requires.turn_ready
+          turn_tallied _ _ _ _ _ _ _ _ _ _ _ st more _ least tells w.if-is_low-low.true _ c.of_middles-d.ensures c.args.entries.now.indexed.sorted c.requires.turn_ready
           _ _ (sym w.if-not-tally_cut.false ∙ w.tally_cut.ensures.known) (w.counts-is ∙ w.tally_cut.ensures.counted) (w.marks-is ∙ w.tally_cut.ensures.noted)
       | else-is_low-low-via-else-is_low-low w ↦
           turning_named _ _ _ _ _ _ _ _ _ _ _ _ _ w.counts-is w.marks-is (turn_passed _ _ _ _ _ _ _ _ _ _ _ st more _ least tells w.if-is_low-low.false)
