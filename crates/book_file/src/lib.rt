@@ -46,7 +46,7 @@ fn try_write(book: &[u16], out: &mut [u8]) -> Result<usize, Refusal>
 {
     let places = in_form(book)?;
     check_sections(book, places)?;
-    let used = usize::from(book[limits::USED_WORD]);
+    let used = book[limits::USED_WORD] as usize;
     let count = FRONT_BYTES + 2 * used;
     if out.len() < count {
         return Err(Refusal::ShortOutput);

@@ -3,45 +3,18 @@ use mathlib.Core.Path.{◌≡◌, refl, ap, sym, ◌∙◌}
 use mathlib.Core.List.{List}
 use Prim.Native.Nat.{ℕ}
 use Rattle.std.specs.Prelude.{Result, Ok, Err}
-use Rattle.std.specs.Result.{IsErrAnd, IsOk, IsOkAnd, MatchResult}
-use Rattle.figures.specs.Numbers.{done}
+use Rattle.std.specs.Result.{IsErrAnd, IsOkAnd, MatchResult}
 use Rattle.figures.specs.Refusals.{refusal_number, number_told}
 use Rattle.figures.specs.declared.refusals.Refusal.{Refusal}
-use Rattle.figures.specs.declared.refusals.Refusal.TheVariants.{NoOrder, TooLarge, KOutside, BookSize, NotInForm, NoRoom, TooMany, NotTaught, NotAgreeing, NoForm, ShortOutput, NoMark, OtherVersion, NoStoredBook, OtherK, NoImage, TwoImages, NoRules}
+use Rattle.figures.proofs.SameRefusal.{not_done}
 use Rattle.order.specs.Reading.{refused, order_of, cause_of}
 use Rattle.order.proofs.Causes.{refused-by}
-
--- No refusal has the number 0.
-pub not_done : (r : Refusal) → refusal_number r ≡ done → ⊥
-not_done NoOrder e = cc
-not_done TooLarge e = cc
-not_done KOutside e = cc
-not_done BookSize e = cc
-not_done NotInForm e = cc
-not_done NoRoom e = cc
-not_done TooMany e = cc
-not_done NotTaught e = cc
-not_done NotAgreeing e = cc
-not_done NoForm e = cc
-not_done ShortOutput e = cc
-not_done NoMark e = cc
-not_done OtherVersion e = cc
-not_done NoStoredBook e = cc
-not_done OtherK e = cc
-not_done NoImage e = cc
-not_done TwoImages e = cc
-not_done NoRules e = cc
 
 module _ {A : Type 0} where
   -- What refuses so is this refusal.
   pub err-is : (r : Result A Refusal) (e : Refusal) → IsErrAnd r (λ x. x ≡ e) → r ≡ Err e
   err-is (Ok a) e h = absurd h
   err-is (Err x) e h = ap Err h
-
-  -- What has the number 0 was done.
-  pub was_done : (r : Result A Refusal) → number_told r ≡ done → IsOk r
-  was_done (Ok a) e = refl
-  was_done (Err x) e = absurd (not_done x e)
 
   -- A value that is put for another leaves the number as it is.
   pub mapped : {B : Type 0} (P : A → B → Type 0) (r : Result A Refusal) (s : Result B Refusal) → MatchResult r (λ a. IsOkAnd s (P a)) (λ e. s ≡ Err e)

@@ -3,7 +3,7 @@ use Rattle.std.proofs.Common.{sym, ap, List, ℕ, ◌∙◌}
 use Rattle.std.proofs.lemmas.Result.{err_from_is_err_and}
 use Rattle.figures.specs.Numbers.{done}
 use Rattle.figures.specs.Answers.{answered}
-use Rattle.figures.proofs.Refusals.{not_done}
+use Rattle.figures.proofs.SameRefusal.{not_done}
 use Rattle.book.specs.Opening.{outcome}
 use Rattle.book.proofs.Holding.{holds}
 use Rattle.book_filing.proofs.Restoring.{restore_refused, restore_numbered, restore_short, restore_written}

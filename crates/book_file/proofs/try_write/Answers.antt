@@ -2,7 +2,7 @@
 use Rattle.std.proofs.Common.{refl, sym, ap, arith, ◌∙◌}
 use Rattle.std.proofs.lemmas.Result.{err_from_is_err_and}
 use Rattle.figures.specs.declared.Answer.{Answer}
-use Rattle.figures.proofs.Refusals.{not_done}
+use Rattle.figures.proofs.SameRefusal.{not_done}
 use Rattle.order.proofs.Writing.{no_output_room, has_room}
 use Rattle.book.proofs.Holding.{holds}
 use Rattle.book_filing.proofs.Writing.{file_unheld, checked_agreed, agreed_file, refused-file, telling, file_over}
@@ -31,7 +31,7 @@ pub returns-then-out-count : goal.returns-then-out-count
 returns-then-out-count c =
     let a = checked_agreed _ (sym (ap (λ (x : Answer). x.number) c.in_ok-check_sections.ensures)) in
     let t = telling _ _ a.is_book in
-    no_output_room _ _ _ refl (omega (arith, t.size, c.if-out-count.true, c.from-used.ensures)) ∙ sym (agreed_file _ _ a)
+    no_output_room _ _ _ refl (omega (arith, t.size, c.if-out-count.true)) ∙ sym (agreed_file _ _ a)
 
 pub slice_bounds-put_words-end : goal.slice_bounds-put_words-end
 slice_bounds-put_words-end c =

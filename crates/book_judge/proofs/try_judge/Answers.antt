@@ -5,7 +5,8 @@ use native.Mathlib.Omega.{arith}
 use Prim.Native.Nat.{ℕ}
 use Rattle.std.proofs.Common.{Bor}
 use Rattle.order.proofs.Spots.{passed-short}
-use Rattle.order_check.proofs.Told.{err-is, not_done}
+use Rattle.figures.proofs.SameRefusal.{not_done}
+use Rattle.order_check.proofs.Told.{err-is}
 use Rattle.book.proofs.Holding.{holds}
 use Rattle.book_judging.specs.Expecting.{judgement_of}
 use Rattle.book_judging.specs.Seeking.{plainly_of}

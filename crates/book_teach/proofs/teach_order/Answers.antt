@@ -1,7 +1,8 @@
 -- `book_teach::teach_order`, by the tests that it makes in turn. Assumes nothing.
 use Rattle.std.proofs.Common.{ap, sym, arith}
 use Rattle.order.proofs.Spots.{passed-short}
-use Rattle.order_check.proofs.Told.{err-is, not_done}
+use Rattle.figures.proofs.SameRefusal.{not_done}
+use Rattle.order_check.proofs.Told.{err-is}
 use Rattle.book.proofs.Holding.{used-room, allowed}
 use Rattle.book_change.specs.declared.BookWeighed.{BookWeighed}
 use Rattle.book_teaching.proofs.Outcomes.{own_holds, teach-refused, teach-full, teach-overfull, teach-crowded, teach-ready, teach-done}

@@ -2,7 +2,8 @@
 use Rattle.std.proofs.Common.{Bor, List, ℕ, arith, ap, refl, sym, ◌∙◌}
 use Rattle.order.proofs.Spots.{passed-short}
 use Rattle.order.proofs.Writing.{no_output_room, has_room}
-use Rattle.order_check.proofs.Told.{err-is, not_done}
+use Rattle.figures.proofs.SameRefusal.{not_done}
+use Rattle.order_check.proofs.Told.{err-is}
 use Rattle.form.specs.Writing.{write_of}
 use Rattle.form_write.proofs.Written.{write-refused, write-lines}
 use Rattle.form_write.proofs.try_write.Goals as goal
