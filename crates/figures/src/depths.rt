@@ -1,23 +1,11 @@
 // How deep the book looks: k, with its least and its greatest. Assumes nothing.
 ghost use Rattle.std.specs.Prelude.{◌≡◌, ◌-◌};
-ghost use Rattle.figures.specs.Answers.{depth_of, number_of};
-
-use crate::numbers;
+ghost use Rattle.figures.specs.Answers.{depth_of};
 
 // A k. The field is the module's own: other code has a `Depth` from the checked constructor alone.
 #[derive(Clone, Copy)]
 pub struct Depth {
     k: u16,
-}
-
-// 01's number for a k that was asked for: 0, or 3 for one outside 2 to 6.
-pub fn asked_number(asked: Option<Depth>) -> u16
-    ensures { result ≡ number_of asked }
-{
-    match asked {
-        Some(_) => numbers::DONE,
-        None => numbers::K_OUTSIDE,
-    }
 }
 
 impl Depth {

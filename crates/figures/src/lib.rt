@@ -2,7 +2,7 @@
 #![tactic(auto)]
 
 ghost use Rattle.std.specs.Prelude.{◌≡◌};
-ghost use Rattle.figures.specs.Answers.{answered, refused_at, wrote};
+ghost use Rattle.figures.specs.Answers.{answered, number_of, refused_at, wrote};
 
 mod depths;
 pub mod limits;
@@ -10,7 +10,7 @@ pub mod nodes;
 pub mod numbers;
 mod refusals;
 
-pub use depths::{Depth, asked_number};
+pub use depths::Depth;
 pub use refusals::Refusal;
 
 // An answer: its number by 01's table, and its line.
@@ -54,5 +54,15 @@ pub fn refused(number: u16, line: usize) -> Written
         number,
         line,
         count: 0,
+    }
+}
+
+// 01's number for a k that was asked for: 0, or 3 for one outside 2 to 6.
+pub fn asked_number(asked: Option<Depth>) -> u16
+    ensures { result ≡ number_of asked }
+{
+    match asked {
+        Some(_) => numbers::DONE,
+        None => numbers::K_OUTSIDE,
     }
 }

@@ -34,6 +34,7 @@ pub fn go_over<'a>(words: &'a [u16], spans: &'a mut [u16]) -> Result<Order<'a>, 
     requires { most_words ≤ length spans.old }
     ensures came { number_told result ≡ cause_of words.now }
     ensures same { IfOk result (λ o. o.words ≡ words.entry) }
+    ensures kept { IfOk result (λ o. length o.spans.now ≡ length spans.old) }
 {
     let n = words.len();
     if n == 0 || n % 2 == 1 {
@@ -72,7 +73,8 @@ fn level_row(spans: &[u16], from: usize, trees: u16, level: u8, levels: &mut [u8
 // The lines of an order, whose levels are written to the front of `levels`: that of each line's children is one more than its own.
 pub fn level_lines<'a>(order: Order<'a>, levels: &'a mut [u8]) -> Lines<'a>
     requires { length order.words.now / 2 ≤ length levels.old }
-    ensures { result.order ≡ order.entry }
+    ensures same { result.order ≡ order.entry }
+    ensures kept { length result.levels.now ≡ length levels.old }
 {
     levels[0] = 0;
     for line in 0..order.words.len() / 2 {

@@ -30,5 +30,5 @@ judge_order-requires c = holds _ _ (sym c.in_ok-places.ensures)
 
 pub returns : goal.returns
 returns c =
-    let judged = rw c.level_lines-lines.ensures at c.judge_order.ensures in
+    let judged = rw c.level_lines-lines.ensures.same at c.judge_order.ensures in
     judged ∙ ap (λ (words : Bor (List ℕ)). judgement_of c.args.book.now words.now) c.in_ok-order.ensures.same

@@ -23,15 +23,15 @@ level_lines-lines-requires c =
 pub weigh_book-weighed-requires-clause-holds_2 : goal.weigh_book-weighed-requires-clause-holds_2
 weigh_book-weighed-requires-clause-holds_2 c =
     let e = sym c.in_ok-passed.ensures.came in
-    let came = rw (c.level_lines-lines.ensures, c.in_ok-passed.ensures.same) at c.list_own-owns.ensures.came in
-    let wrote = rw (c.level_lines-lines.ensures, c.in_ok-passed.ensures.same) at c.list_own-owns.ensures.wrote in
+    let came = rw (c.level_lines-lines.ensures.same, c.in_ok-passed.ensures.same) at c.list_own-owns.ensures.came in
+    let wrote = rw (c.level_lines-lines.ensures.same, c.in_ok-passed.ensures.same) at c.list_own-owns.ensures.wrote in
     own_holds _ _ _ c.requires e _ _ came wrote
 
 pub returns-then-weighed : goal.returns-then-weighed
 returns-then-weighed c =
     let e = sym c.in_ok-passed.ensures.came in
-    let came = rw (c.level_lines-lines.ensures, c.in_ok-passed.ensures.same) at c.list_own-owns.ensures.came in
-    let wrote = rw (c.level_lines-lines.ensures, c.in_ok-passed.ensures.same) at c.list_own-owns.ensures.wrote in
+    let came = rw (c.level_lines-lines.ensures.same, c.in_ok-passed.ensures.same) at c.list_own-owns.ensures.came in
+    let wrote = rw (c.level_lines-lines.ensures.same, c.in_ok-passed.ensures.same) at c.list_own-owns.ensures.wrote in
     teach-overfull _ _ _ c.requires e _ _ came wrote _ c.weigh_book-weighed.ensures c.if-weighed.true
 
 pub overflow_sub-book : goal.overflow_sub-book
@@ -41,22 +41,22 @@ overflow_sub-book c =
 pub returns-then-book-places : goal.returns-then-book-places
 returns-then-book-places c =
     let e = sym c.in_ok-passed.ensures.came in
-    let came = rw (c.level_lines-lines.ensures, c.in_ok-passed.ensures.same) at c.list_own-owns.ensures.came in
-    let wrote = rw (c.level_lines-lines.ensures, c.in_ok-passed.ensures.same) at c.list_own-owns.ensures.wrote in
+    let came = rw (c.level_lines-lines.ensures.same, c.in_ok-passed.ensures.same) at c.list_own-owns.ensures.came in
+    let wrote = rw (c.level_lines-lines.ensures.same, c.in_ok-passed.ensures.same) at c.list_own-owns.ensures.wrote in
     teach-crowded _ _ _ c.requires e _ _ came wrote _ c.weigh_book-weighed.ensures c.if-book.false c.if-weighed.false c.if-book-places.true
 
 pub change_book-requires-clause-holds_2 : goal.change_book-requires-clause-holds_2
 change_book-requires-clause-holds_2 c =
     let e = sym c.in_ok-passed.ensures.came in
-    let came = rw (c.level_lines-lines.ensures, c.in_ok-passed.ensures.same) at c.list_own-owns.ensures.came in
-    let wrote = rw (c.level_lines-lines.ensures, c.in_ok-passed.ensures.same) at c.list_own-owns.ensures.wrote in
+    let came = rw (c.level_lines-lines.ensures.same, c.in_ok-passed.ensures.same) at c.list_own-owns.ensures.came in
+    let wrote = rw (c.level_lines-lines.ensures.same, c.in_ok-passed.ensures.same) at c.list_own-owns.ensures.wrote in
     own_holds _ _ _ c.requires e _ _ came wrote
 
 pub change_book-requires-clause-ready_all : goal.change_book-requires-clause-ready_all
 change_book-requires-clause-ready_all c =
     let e = sym c.in_ok-passed.ensures.came in
-    let came = rw (c.level_lines-lines.ensures, c.in_ok-passed.ensures.same) at c.list_own-owns.ensures.came in
-    let wrote = rw (c.level_lines-lines.ensures, c.in_ok-passed.ensures.same) at c.list_own-owns.ensures.wrote in
+    let came = rw (c.level_lines-lines.ensures.same, c.in_ok-passed.ensures.same) at c.list_own-owns.ensures.came in
+    let wrote = rw (c.level_lines-lines.ensures.same, c.in_ok-passed.ensures.same) at c.list_own-owns.ensures.wrote in
     teach-ready _ _ _ c.requires e _ _ came wrote _ c.weigh_book-weighed.ensures c.if-book.false c.if-weighed.false c.if-book-places.false
 
 pub change_book-requires-clause-lacks_each : goal.change_book-requires-clause-lacks_each
@@ -66,6 +66,6 @@ change_book-requires-clause-lacks_each c =
 pub returns : goal.returns
 returns c =
     let e = sym c.in_ok-passed.ensures.came in
-    let came = rw (c.level_lines-lines.ensures, c.in_ok-passed.ensures.same) at c.list_own-owns.ensures.came in
-    let wrote = rw (c.level_lines-lines.ensures, c.in_ok-passed.ensures.same) at c.list_own-owns.ensures.wrote in
+    let came = rw (c.level_lines-lines.ensures.same, c.in_ok-passed.ensures.same) at c.list_own-owns.ensures.came in
+    let wrote = rw (c.level_lines-lines.ensures.same, c.in_ok-passed.ensures.same) at c.list_own-owns.ensures.wrote in
     teach-done _ _ _ c.requires e _ _ came wrote _ c.weigh_book-weighed.ensures c.if-book.false c.if-weighed.false c.if-book-places.false _ c.change_book.ensures

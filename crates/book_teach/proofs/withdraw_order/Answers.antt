@@ -19,48 +19,48 @@ level_lines-lines-requires c =
 pub weigh_section-taught-requires-clause-holds_2 : goal.weigh_section-taught-requires-clause-holds_2
 weigh_section-taught-requires-clause-holds_2 c =
     let e = sym c.in_ok-passed.ensures.came in
-    let came = rw (c.level_lines-lines.ensures, c.in_ok-passed.ensures.same) at c.list_own-owns.ensures.came in
-    let wrote = rw (c.level_lines-lines.ensures, c.in_ok-passed.ensures.same) at c.list_own-owns.ensures.wrote in
+    let came = rw (c.level_lines-lines.ensures.same, c.in_ok-passed.ensures.same) at c.list_own-owns.ensures.came in
+    let wrote = rw (c.level_lines-lines.ensures.same, c.in_ok-passed.ensures.same) at c.list_own-owns.ensures.wrote in
     own_holds _ _ _ c.requires e _ _ came wrote
 
 pub returns-then-taught-gt0 : goal.returns-then-taught-gt0
 returns-then-taught-gt0 c =
     let e = sym c.in_ok-passed.ensures.came in
-    let came = rw (c.level_lines-lines.ensures, c.in_ok-passed.ensures.same) at c.list_own-owns.ensures.came in
-    let wrote = rw (c.level_lines-lines.ensures, c.in_ok-passed.ensures.same) at c.list_own-owns.ensures.wrote in
+    let came = rw (c.level_lines-lines.ensures.same, c.in_ok-passed.ensures.same) at c.list_own-owns.ensures.came in
+    let wrote = rw (c.level_lines-lines.ensures.same, c.in_ok-passed.ensures.same) at c.list_own-owns.ensures.wrote in
     withdraw-untaught _ _ _ c.requires e _ _ came wrote _ c.weigh_section-taught.ensures c.if-taught-gt0.true
 
 pub lacking_parts-requires-clause-holds_2 : goal.lacking_parts-requires-clause-holds_2
 lacking_parts-requires-clause-holds_2 c =
     let e = sym c.in_ok-passed.ensures.came in
-    let came = rw (c.level_lines-lines.ensures, c.in_ok-passed.ensures.same) at c.list_own-owns.ensures.came in
-    let wrote = rw (c.level_lines-lines.ensures, c.in_ok-passed.ensures.same) at c.list_own-owns.ensures.wrote in
+    let came = rw (c.level_lines-lines.ensures.same, c.in_ok-passed.ensures.same) at c.list_own-owns.ensures.came in
+    let wrote = rw (c.level_lines-lines.ensures.same, c.in_ok-passed.ensures.same) at c.list_own-owns.ensures.wrote in
     own_holds _ _ _ c.requires e _ _ came wrote
 
 pub returns-then-lacking_parts-gt0 : goal.returns-then-lacking_parts-gt0
 returns-then-lacking_parts-gt0 c =
     let e = sym c.in_ok-passed.ensures.came in
-    let came = rw (c.level_lines-lines.ensures, c.in_ok-passed.ensures.same) at c.list_own-owns.ensures.came in
-    let wrote = rw (c.level_lines-lines.ensures, c.in_ok-passed.ensures.same) at c.list_own-owns.ensures.wrote in
+    let came = rw (c.level_lines-lines.ensures.same, c.in_ok-passed.ensures.same) at c.list_own-owns.ensures.came in
+    let wrote = rw (c.level_lines-lines.ensures.same, c.in_ok-passed.ensures.same) at c.list_own-owns.ensures.wrote in
     withdraw-disagrees _ _ _ c.requires e _ _ came wrote _ c.weigh_section-taught.ensures c.if-taught-gt0.false _ c.lacking_parts.ensures c.if-lacking_parts-gt0.true
 
 pub change_book-requires-clause-holds_2 : goal.change_book-requires-clause-holds_2
 change_book-requires-clause-holds_2 c =
     let e = sym c.in_ok-passed.ensures.came in
-    let came = rw (c.level_lines-lines.ensures, c.in_ok-passed.ensures.same) at c.list_own-owns.ensures.came in
-    let wrote = rw (c.level_lines-lines.ensures, c.in_ok-passed.ensures.same) at c.list_own-owns.ensures.wrote in
+    let came = rw (c.level_lines-lines.ensures.same, c.in_ok-passed.ensures.same) at c.list_own-owns.ensures.came in
+    let wrote = rw (c.level_lines-lines.ensures.same, c.in_ok-passed.ensures.same) at c.list_own-owns.ensures.wrote in
     own_holds _ _ _ c.requires e _ _ came wrote
 
 pub change_book-requires-clause-ready_all : goal.change_book-requires-clause-ready_all
 change_book-requires-clause-ready_all c =
     let e = sym c.in_ok-passed.ensures.came in
-    let came = rw (c.level_lines-lines.ensures, c.in_ok-passed.ensures.same) at c.list_own-owns.ensures.came in
-    let wrote = rw (c.level_lines-lines.ensures, c.in_ok-passed.ensures.same) at c.list_own-owns.ensures.wrote in
+    let came = rw (c.level_lines-lines.ensures.same, c.in_ok-passed.ensures.same) at c.list_own-owns.ensures.came in
+    let wrote = rw (c.level_lines-lines.ensures.same, c.in_ok-passed.ensures.same) at c.list_own-owns.ensures.wrote in
     withdraw-ready _ _ _ c.requires e _ _ came wrote _ c.weigh_section-taught.ensures c.if-taught-gt0.false
 
 pub returns : goal.returns
 returns c =
     let e = sym c.in_ok-passed.ensures.came in
-    let came = rw (c.level_lines-lines.ensures, c.in_ok-passed.ensures.same) at c.list_own-owns.ensures.came in
-    let wrote = rw (c.level_lines-lines.ensures, c.in_ok-passed.ensures.same) at c.list_own-owns.ensures.wrote in
+    let came = rw (c.level_lines-lines.ensures.same, c.in_ok-passed.ensures.same) at c.list_own-owns.ensures.came in
+    let wrote = rw (c.level_lines-lines.ensures.same, c.in_ok-passed.ensures.same) at c.list_own-owns.ensures.wrote in
     withdraw-done _ _ _ c.requires e _ _ came wrote _ c.weigh_section-taught.ensures c.if-taught-gt0.false _ c.lacking_parts.ensures c.if-lacking_parts-gt0.false _ c.change_book.ensures

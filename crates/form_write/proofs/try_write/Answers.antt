@@ -17,7 +17,7 @@ level_lines-lines-requires c = omega (arith, passed-short _ c.in_ok-order.order.
 pub returns-then-out-count : goal.returns-then-out-count
 returns-then-out-count c =
     let o = c.in_ok-order.order in
-    let size = rw c.level_lines-lines.ensures at c.text_size-count.ensures in
+    let size = rw c.level_lines-lines.ensures.same at c.text_size-count.ensures in
     no_output_room _ _ _ refl (omega (arith, size, c.if-out-count.true))
     ∙ sym (write-lines o.words.now _ o.gone_over.sound)
     ∙ ap (λ (words : Bor (List ℕ)). write_of words.now c.args.out.now) c.in_ok-order.ensures.same
@@ -25,8 +25,8 @@ returns-then-out-count c =
 pub returns : goal.returns
 returns c =
     let o = c.in_ok-order.order in
-    let size = rw c.level_lines-lines.ensures at c.text_size-count.ensures in
-    let text = rw c.level_lines-lines.ensures at c.put_text.ensures in
+    let size = rw c.level_lines-lines.ensures.same at c.text_size-count.ensures in
+    let text = rw c.level_lines-lines.ensures.same at c.put_text.ensures in
     has_room _ _ _ _ _ refl (sym size) c.if-out-count.false text
     ∙ sym (write-lines o.words.now _ o.gone_over.sound)
     ∙ ap (λ (words : Bor (List ℕ)). write_of words.now c.args.out.now) c.in_ok-order.ensures.same

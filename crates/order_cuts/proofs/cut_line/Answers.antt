@@ -21,15 +21,15 @@ pub level_lines-lines-requires : goal.level_lines-lines-requires
 level_lines-lines-requires c = omega (arith, passed-short _ c.args.order.gone_over.sound)
 
 pub put_cut-count-requires-clause-d_in_bounds : goal.put_cut-count-requires-clause-d_in_bounds
-put_cut-count-requires-clause-d_in_bounds c = rw c.level_lines-lines.ensures (line-short _ _ c.args.d c.args.order.gone_over.sound c.requires)
+put_cut-count-requires-clause-d_in_bounds c = rw c.level_lines-lines.ensures.same (line-short _ _ c.args.d c.args.order.gone_over.sound c.requires)
 
 pub returns-then-out-count : goal.returns-then-out-count
 returns-then-out-count c =
-    let came = rw c.level_lines-lines.ensures at c.put_cut-count.ensures.came in
+    let came = rw c.level_lines-lines.ensures.same at c.put_cut-count.ensures.came in
     no_output_room _ _ _ refl (omega (arith, came, c.if-out-count.true))
 
 pub returns : goal.returns
 returns c =
-    let came = rw c.level_lines-lines.ensures at c.put_cut-count.ensures.came in
-    let written = rw c.level_lines-lines.ensures at c.put_cut-count.ensures.wrote in
+    let came = rw c.level_lines-lines.ensures.same at c.put_cut-count.ensures.came in
+    let written = rw c.level_lines-lines.ensures.same at c.put_cut-count.ensures.wrote in
     has_room _ _ _ _ _ refl (sym came) c.if-out-count.false (copied _ _ _ _ _ _ came written c.copy_from_slice.ensures.after)
