@@ -37,7 +37,11 @@ fn next_line(text: &[u8], at: usize, n: usize, greatest: usize) -> Result<Node, 
     if limits::MOST_NODES <= n {
         return Err(Fault::PastLast);
     }
-    let node = spelt_at(text, at)?;
+    // The rules of the desk name this form: an enum for each line, and `let .. else`, which takes the node or hands the refusal on.
+    let read = spelt_at(text, at);
+    let Ok(node) = read else {
+        return read;
+    };
     if node.code == 0 {
         return Err(Fault::NoOption);
     }
@@ -84,7 +88,11 @@ fn line_at(
     ensures counted { words.new ≡ counted_in words.old latest.now
         (next_of n greatest (drop at text.now)) }
 {
-    let node = next_line(text, at, n, greatest)?;
+    // As in `next_line`.
+    let read = next_line(text, at, n, greatest);
+    let Ok(node) = read else {
+        return read;
+    };
     if !adopt(words, latest, node.level) {
         return Err(Fault::NinthChild);
     }
