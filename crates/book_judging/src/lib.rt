@@ -5,7 +5,8 @@
 use figures::Answer;
 use section::Neighbours;
 
-// The part that a line stands for: whether it is low, which words it has, of the order or of its cut, and its section's entries.
+// The part that a line stands for: whether it is low, which words it has, of the order or of its cut, and its section's entries. (No word is there for
+// the one kind alone, so that an enum would say each twice.)
 #[derive(Clone, Copy)]
 pub struct Sought {
     pub low: bool,

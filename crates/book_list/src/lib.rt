@@ -43,6 +43,7 @@ fn write_entry(lines: &Lines, line: usize, d: usize, times: u16, out: &mut [u16]
 
 // Lists the order's low parts, or its middle parts, at the front of `out`, whose words are zero: an entry that counts `times` for each, once
 // however often it occurs, ascending. The words of either kind are the cut at k-1, since that of a low part is the subtree itself.
+// (`low` is a test, and no `order::Kind`: that has a third case.)
 fn list_parts(lines: &Lines, k: Depth, low: bool, times: u16, out: &mut [u16]) -> Size
     requires least_k_le_k { least_k ≤ k.k }
     requires le_times { 1 ≤ times }

@@ -72,7 +72,7 @@ fn tally_cut(
 }
 
 // Tallies each of the order's low parts, or of its middle parts, as `tally_cut` does one. Answers false where one has no entry;
-// what was tallied then is of no use.
+// what was tallied then is of no use. (`low` is a test, and no `order::Kind`: that has a third case.)
 fn tally_parts(
     lines: &Lines,
     k: Depth,

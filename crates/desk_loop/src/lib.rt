@@ -18,6 +18,7 @@ fn run(rt: &impl Print, input: &[u8]) -> io::Result<()> {
     let begun = desk_step::begin(input, &mut book, &mut line);
     let mut at = begun.taken;
     let mut count = begun.count;
+    // A step tells how much of the input the next one begins behind: no range has these places.
     loop {
         rt.write_all(&line[..count])?;
         if input.len() <= at {

@@ -13,7 +13,8 @@ mod refusals;
 pub use depths::Depth;
 pub use refusals::Refusal;
 
-// An answer: its number by 01's table, and its line.
+// An answer: its number by 01's table, and its line. The number is the word that is heard and that C has, not a `Refusal`: what is promised compares numbers
+// (`judge_exactly`, `promises/proofs/Choosing.antt`), and some of them have a line.
 #[derive(Clone, Copy)]
 pub struct Answer {
     pub number: u16,

@@ -7,7 +7,8 @@ pub const GREATEST_CODE: u16 = 9999;
 
 pub const MOST_CHILDREN: u16 = 8;
 
-// "1 to 64 nodes", of two words each
+// "1 to 64 nodes", of two words each. What is gone over, cut or read stands in an array of the most that it can be, on the stack: no call of the
+// library asks for memory, since there is no number for a call that gets none.
 pub const MOST_NODES: usize = 64;
 
 pub const MOST_WORDS: usize = 2 * MOST_NODES;

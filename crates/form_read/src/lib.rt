@@ -112,6 +112,7 @@ fn lines(text: &[u8], words: &mut [u16; limits::MOST_WORDS]) -> Written
     let mut at = 0;
     let mut n = 0;
     let mut greatest = 0;
+    // A line tells where the next one begins: no range has these places.
     while at < text.len() {
         let line = n + 1;
         let Node { level, code, size } = match line_at(text, at, n, greatest, words, &latest) {

@@ -18,7 +18,7 @@ pub struct Popped {
     pub depth: usize,
 }
 
-// The kind of part that a line stands for.
+// The kind of part that a line stands for. (Not an `Option` of two: `part_into_of` says `Absent` of a line with a refusal's number too.)
 #[derive(Clone, Copy)]
 pub enum Kind {
     Absent,

@@ -7,7 +7,8 @@ ghost use Rattle.section.specs.Entries.{entries, span, look};
 ghost use Rattle.section.specs.Near.{near_in, place_at, SearchedTo};
 
 // Where a key's entry stands or would stand, and how many entries stand below it; for a key that has none, the place of the first word, counted
-// from 1, in which it differs from the last entry below it and from the first above it, 0 where there is no such entry.
+// from 1, in which it differs from the last entry below it and from the first above it, 0 where there is no such entry. (Not a `Result`: to be
+// absent is no failure, and both cases have places.)
 #[derive(Clone, Copy)]
 pub enum Found {
     At {
@@ -23,7 +24,7 @@ pub enum Found {
 }
 
 // Where a search has stopped: whether at the key's entry, the last entry that it has passed, the word that it has come to, and how many entries
-// are left there.
+// are left there. (Its words stand whether it is there or not.)
 #[derive(Clone, Copy)]
 pub struct Stop {
     pub there: bool,
@@ -33,7 +34,7 @@ pub struct Stop {
 }
 
 // A key's neighbours in a section: how many entries stand below it, whether it is there, and the places of its first difference from the last
-// entry below and from the first above, 0 where there is no such entry.
+// entry below and from the first above, 0 where there is no such entry. (So C has them, in `ofb_judged`.)
 #[derive(Clone, Copy)]
 pub struct Neighbours {
     pub below: usize,

@@ -21,7 +21,8 @@ pub struct Size {
     pub many: usize,
 }
 
-// What a section's entries would do to another section: how many words those take that it lacks, and whether a count would pass 65,535.
+// What a section's entries would do to another section: how many words those take that it lacks, and whether a count would pass 65,535. (Both are told at
+// once: what is lacking is known however the counts are.)
 #[derive(Clone, Copy)]
 pub struct Weighed {
     pub lacking: usize,

@@ -9,7 +9,8 @@ ghost use Rattle.words.specs.Compare.{compare_of, before, signed_of, size_of};
 use std::cmp::Ordering;
 
 // Compares two slices word by word from the first; a slice that ends first is lower. Answers the place of the first word in which they differ,
-// counted from 1: negative if the first slice is lower, positive if it is higher; 0 if they are equal.
+// counted from 1: negative if the first slice is lower, positive if it is higher; 0 if they are equal: a signed place, as `SignedPlace` of
+// specs/Differences.antt says it in the words of the rules.
 pub fn compare(a: &[u16], b: &[u16]) -> i64
     ensures { result ≡ signed_of a.now b.now }
 {
