@@ -1,29 +1,21 @@
--- An answer as it is handed on to C: its figures fit C's numbers, and C gets what the call below it answers. Assumes nothing.
+-- An answer as it is handed on to C: its figures fit C's numbers. Assumes nothing.
 use Prim.Native.Nat.{ℕ, ◌^◌, ◌<◌}
-use mathlib.Core.Path.{◌≡◌, ap, ◌∙◌}
+use mathlib.Core.Path.{◌≡◌, ap}
 use mathlib.Core.List.{List}
 use native.Mathlib.Omega.{arith}
-use Rattle.figures.specs.declared.Answer.{Answer}
-use Rattle.figures.specs.declared.Written.{Written}
-use Rattle.order.specs.Answers.{Writing, writing}
+use Rattle.order.specs.Answers.{Writing}
 use Rattle.form.specs.Reading.{read_of}
 use Rattle.form.specs.Writing.{write_of}
 use Rattle.form.proofs.Figures.{read-line_most, read-count_most, print_line, print_count}
-use Rattle.book.specs.Opening.{Outcome, outcome}
+use Rattle.book.specs.Opening.{Outcome}
 use Rattle.book_filing.specs.Files.{write_file_of}
 use Rattle.book_filing.proofs.Writing.{filed-line, filed-count}
-use Rattle.ofb.specs.Interface.{told_of, told_written_of, handed, outcome_in_c, writing_in_c}
-use Rattle.ofb.specs.declared.OfbAnswer.{OfbAnswer}
 
 -- ---- calls that may write a book
 
 -- The line of an outcome that is known to be 0 fits.
 pub outcome_fits : {o p : Outcome} → o ≡ p → p.answer.line ≡ 0 → o.answer.line < 2 ^ 16
 outcome_fits e z = omega (arith, ap (λ (o : Outcome). o.answer.line) e)
-
--- C gets the outcome.
-pub outcome-handed : {a : Answer} {ws : List ℕ} {o : Outcome} {r : OfbAnswer} → outcome a ws ≡ o → r ≡ told_of a → handed r ws ≡ outcome_in_c o
-outcome-handed {a} {ws} e t = ap (λ (r : OfbAnswer). handed r ws) t ∙ ap outcome_in_c e
 
 -- ---- calls that write words or bytes
 
@@ -42,7 +34,3 @@ read_fits s out = (omega (arith, read-line_most s out), omega (arith, read-count
 -- Those of a form that is written fit.
 pub print_fits : (os out : List ℕ) → Fits (write_of os out)
 print_fits os out = (omega (arith, print_line os out), omega (arith, print_count os out))
-
--- C gets the writing.
-pub writing-handed : {a : Written} {out : List ℕ} {w : Writing} {r : OfbAnswer} → writing a out ≡ w → r ≡ told_written_of a → handed r out ≡ writing_in_c w
-writing-handed {a} {out} e t = ap (λ (r : OfbAnswer). handed r out) t ∙ ap writing_in_c e
