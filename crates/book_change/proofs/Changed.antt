@@ -1,6 +1,6 @@
 -- A book changed by another, section by section: what each section is then, that it stays in form, what it takes and counts, and when such a
 -- change can be made. Assumes nothing.
-use Prim.Native.Nat.{ℕ, ◌+◌, ◌-◌, ◌≤◌}
+use Prim.Native.Nat.{ℕ, ◌+◌, ◌≤◌}
 use mathlib.Core.Path.{◌≡◌, refl, sym, ap, ◌∙◌}
 use mathlib.Core.Bool.{true}
 use mathlib.Core.List.Memᴰ.{head as here}

@@ -1,5 +1,5 @@
 -- `book_change::weigh_book`: what each section lacks is little, and the four sections together are what is asked. Assumes nothing.
-use Rattle.std.proofs.Common.{rules, arith, ◌+◌}
+use Rattle.std.proofs.Common.{arith}
 use Rattle.book.specs.declared.Section.TheVariants.{Taught, Tops, Lows, Middles}
 use Rattle.book_change.proofs.Weights.{weighed-few, book-weighed}
 use Rattle.book_change.proofs.weigh_book.Goals as goal
