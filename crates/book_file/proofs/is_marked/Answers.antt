@@ -1,9 +1,9 @@
 -- `book_file::is_marked`, by its two tests. Assumes nothing.
-use Rattle.std.proofs.Common.{sym, ◌∙◌, take, refl}
+use Rattle.std.proofs.Common.{◌∙◌, take, refl}
 use borrow.Author.Tests.{le-leb, lt-leb}
 use Rattle.words.specs.Base.{◌and◌}
 use Rattle.words.proofs.Tests.{pointwise-same}
-use Rattle.book_filing.specs.Files.{mark, mark_bytes, front_bytes, is_marked}
+use Rattle.book_filing.specs.Files.{mark, mark_bytes, is_marked}
 use Rattle.book_file.proofs.is_marked.Goals as goal
 
 pub returns-then-file-ge-FRONT_BYTES : goal.returns-then-file-ge-FRONT_BYTES

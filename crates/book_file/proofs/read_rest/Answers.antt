@@ -4,7 +4,6 @@ use lib.ListN.{length-append}
 use lib.Seq.{take_at}
 use borrow.Rule.Slice.PartMut.{put_mid}
 use Rattle.figures.specs.Limits.{most_book_words}
-use Rattle.figures.specs.Refusals.{number_told}
 use Rattle.octets.specs.Octets.{bytes_of, words_of}
 use Rattle.book_filing.specs.Files.{read_rest_of}
 use Rattle.octets.proofs.Bytes.{words_long, bytes-of_words}

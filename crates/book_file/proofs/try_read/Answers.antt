@@ -1,5 +1,5 @@
 -- `book_file::try_read`: each test that led to a return decides a case of `read_file_of`. Assumes nothing.
-use Rattle.std.proofs.Common.{List, ℕ, ◌≤◌, length, refl, sym, ap, arith, ◌∙◌}
+use Rattle.std.proofs.Common.{List, ℕ, refl, sym, ap, arith, ◌∙◌}
 use borrow.Author.Tests.{eq-eqb, ne_eqb}
 use Rattle.words.proofs.Shifts.{tail_all}
 use Rattle.book.proofs.Heads.{sized-by}

@@ -1,6 +1,5 @@
 -- `form_read::lines`: each turn reads one line, which has room, and takes some bytes and no more than there are. Assumes nothing.
-use Rattle.std.proofs.Common.{rules, ◌+◌, ◌≤◌, ◌<◌, length, arith}
-use Rattle.figures.specs.Limits.{most_nodes, greatest_depth}
+use Rattle.std.proofs.Common.{arith}
 use Rattle.form.proofs.Turn.{start, empty-text, all_read, parents, bad_line, room_for, bytes_of, turn}
 use Rattle.form_read.proofs.lines.Goals as goal
 
