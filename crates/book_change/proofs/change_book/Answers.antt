@@ -17,14 +17,17 @@ use Rattle.book_change.proofs.change_book.Goals as goal
 -- The words at each stage: ps once section P is changed, ls once section L is too, and rs once section R is too.
 module _ {ws : List ℕ} {p : Places} (h : Holds ws p) {c : Change} {other : Book} (r : ReadyAll (length ws) c other (book_in ws)) where
   module _ {ps : List ℕ} (e : ps ≡ lay (length ws) (changed_in c Middles other (book_in ws))) where
+    -- Section P is changed.
     second : Stage (length ws) (changed_in c Middles other (book_in ws)) ps
     second = next-stage _ _ _ (first-stage _ _ h) c Middles other r.middles _ e
 
     module _ {ls : List ℕ} (f : ls ≡ lay (length ps) (changed_in c Lows other (book_in ps))) where
+      -- Section L is changed too.
       third : Stage (length ws) (changed_in c Lows other (changed_in c Middles other (book_in ws))) ls
       third = next-stage _ _ _ second c Lows other r.lows _ f
 
       module _ {rs : List ℕ} (g : rs ≡ lay (length ls) (changed_in c Tops other (book_in ls))) where
+        -- Section R is changed too.
         fourth : Stage (length ws) (changed_in c Tops other (changed_in c Lows other (changed_in c Middles other (book_in ws)))) rs
         fourth = next-stage _ _ _ third c Tops other r.tops _ g
 
