@@ -2,19 +2,36 @@
 // written before the last refusal is ruled out. Assumes nothing beyond each inner function's `requires`.
 #![tactic(auto)]
 
-ghost use Rattle.std.specs.Prelude.{◌≡◌};
+ghost use Rattle.std.specs.Prelude.{◌≡◌, ◌≤◌, length, replicate};
+ghost use Rattle.figures.specs.Limits.{least_k, greatest_k};
 ghost use Rattle.figures.specs.Answers.{answered};
 ghost use Rattle.figures.specs.Refusals.{number_told};
+ghost use Rattle.book.specs.Book.{lay};
+ghost use Rattle.book.specs.Decoding.{places_of};
 ghost use Rattle.book.specs.Holding.{Holds};
 ghost use Rattle.book.specs.Opening.{outcome};
+ghost use Rattle.book_listing.specs.Own.{own_words, own_of};
 ghost use Rattle.book_teaching.specs.Calls.{teach_of, withdraw_of};
 
 use book::{Places, Section};
 use book_change::{Change, Lacking, change_book, lacking_parts, weigh_book, weigh_section};
 use book_form::in_form;
 use book_list::{OWN_WORDS, list_own};
-use figures::{Answer, Refusal, limits};
-use order_check::{go_over, level_lines};
+use figures::{Answer, Depth, Refusal, limits};
+use order_check::{Order, go_over, level_lines};
+
+// Lists an order's own book, as one teaching of it has it, in `own`, whose words are zero. Answers where its sections start.
+fn list_taught(order: Order, k: Depth, own: &mut [u16]) -> Places
+    requires least_k_le_k { (least_k ≤ k.k) × (k.k ≤ greatest_k) }
+    requires own_value { own.old ≡ replicate (length own.old) 0 }
+    requires own_len { length own.old ≡ own_words }
+    ensures came { result ≡ places_of (own_of k.k 1 order.entry.words.now) }
+    ensures wrote { own.new ≡ lay own_words (own_of k.k 1 order.entry.words.now) }
+{
+    let mut levels = [0u8; limits::MOST_NODES];
+    let lines = level_lines(order, &mut levels);
+    list_own(&lines, k, 1, own)
+}
 
 // Teaches an order to a book in form, or refuses: 1, 2, 7 or 6.
 fn teach_order(book: &mut [u16], places: Places, order: &[u16]) -> Result<(), Refusal>
@@ -26,10 +43,8 @@ fn teach_order(book: &mut [u16], places: Places, order: &[u16]) -> Result<(), Re
     if book[limits::LIVE_WORD] == limits::GREATEST_COUNT {
         return Err(Refusal::TooMany); // one teaching more would pass 65,535
     }
-    let mut levels = [0u8; limits::MOST_NODES];
-    let lines = level_lines(passed, &mut levels);
     let mut own = [0u16; OWN_WORDS];
-    let owns = list_own(&lines, places.k, 1, &mut own);
+    let owns = list_taught(passed, places.k, &mut own);
     let weighed = weigh_book(book, places, &own, owns);
     if weighed.overfull {
         return Err(Refusal::TooMany);
@@ -48,10 +63,8 @@ fn withdraw_order(book: &mut [u16], places: Places, order: &[u16]) -> Result<(),
 {
     let mut spans = [0u16; limits::MOST_WORDS];
     let passed = go_over(order, &mut spans)?;
-    let mut levels = [0u8; limits::MOST_NODES];
-    let lines = level_lines(passed, &mut levels);
     let mut own = [0u16; OWN_WORDS];
-    let owns = list_own(&lines, places.k, 1, &mut own);
+    let owns = list_taught(passed, places.k, &mut own);
     let taught = weigh_section(book, Section::Taught, places, &own, owns);
     if 0 < taught.lacking {
         return Err(Refusal::NotTaught);
