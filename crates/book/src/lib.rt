@@ -4,11 +4,13 @@
 
 ghost use Rattle.std.specs.Prelude.{◌≡◌};
 ghost use Rattle.words.specs.Base.{within};
+ghost use Rattle.figures.specs.Answers.{answered};
 ghost use Rattle.figures.specs.Limits.{head_words, most_book_words};
+ghost use Rattle.figures.specs.Refusals.{number_told};
 ghost use Rattle.book.specs.Decoding.{start_of, slot_of};
 ghost use Rattle.book.specs.Opening.{outcome, open_of};
 
-use figures::{Answer, Depth, answered, limits, numbers};
+use figures::{Answer, Depth, Refusal, limits};
 
 // A section of the book.
 #[derive(Clone, Copy)]
@@ -74,18 +76,25 @@ pub fn is_book_size(words: usize) -> bool
     limits::HEAD_WORDS <= words && words <= limits::MOST_BOOK_WORDS
 }
 
-// Opens an empty book of that k in the slice: 4, 3, or done, with the whole slice written.
-pub fn open(book: &mut [u16], k: u16) -> Answer
-    ensures { outcome result book.new ≡ open_of book.old k }
+// Opens an empty book of that k in the slice, or refuses: 4 or 3.
+fn try_open(book: &mut [u16], k: u16) -> Result<(), Refusal>
+    ensures { outcome (answered (number_told result)) book.new ≡ open_of book.old k }
 {
     if !is_book_size(book.len()) {
-        return answered(numbers::BOOK_SIZE);
+        return Err(Refusal::BookSize);
     }
     let Some(depth) = Depth::new(k) else {
-        return answered(numbers::K_OUTSIDE);
+        return Err(Refusal::KOutside);
     };
     words::clear(book);
     book[limits::K_WORD] = depth.value();
     book[limits::USED_WORD] = limits::HEAD_WORDS as u16;
-    answered(numbers::DONE)
+    Ok(())
+}
+
+// Opens an empty book of that k in the slice: 4, 3, or done, with the whole slice written.
+pub fn open(book: &mut [u16], k: u16) -> Answer
+    ensures { outcome result book.new ≡ open_of book.old k }
+{
+    Answer::from(try_open(book, k))
 }
