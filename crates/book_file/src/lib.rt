@@ -45,7 +45,8 @@ fn try_write(book: &[u16], out: &mut [u8]) -> Result<usize, Refusal>
     ensures { writing (wrote (number_told result) (count_told result)) out.new ≡ write_file_of book.now out.old }
 {
     let places = in_form(book)?;
-    check_sections(book, places)?;
+    let checked = check_sections(book, places);
+    checked?;
     let used = book[limits::USED_WORD] as usize;
     let count = FRONT_BYTES + 2 * used;
     if out.len() < count {

@@ -50,7 +50,8 @@ fn also(named: Named, image: u16) -> Named
     match named {
         Named::Nothing => Named::One(image),
         Named::One(first) if image == first => named,
-        _ => Named::Two,
+        Named::One(_) => Named::Two,
+        Named::Two => Named::Two,
     }
 }
 

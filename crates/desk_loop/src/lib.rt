@@ -2,6 +2,8 @@
 // std does of the C functions below it, and nothing else.
 #![tactic(auto)]
 
+ghost use Rattle.std.specs.Prelude.{◌≤◌, length, IfOk};
+
 use desk_line::REPLY_ROOM;
 use figures::limits;
 use std::io;
@@ -31,7 +33,9 @@ fn run(rt: &impl Print, input: &[u8]) -> io::Result<()> {
 }
 
 // Reads until the buffer is full or the input ends, and gives what was read. (std's `read_to_end` reads to the heap, which the desk does without.)
-fn read_full<'a>(reader: &mut impl Read, buffer: &'a mut [u8]) -> io::Result<&'a [u8]> {
+fn read_full<'a>(reader: &mut impl Read, buffer: &'a mut [u8]) -> io::Result<&'a [u8]>
+    ensures { IfOk result (λ read. length read.now ≤ length buffer.old) }
+{
     let mut done = 0;
     while done < buffer.len() {
         match reader.read(&mut buffer[done..])? {

@@ -6,10 +6,10 @@ use mathlib.Core.List.{List, [], ◌∷◌, ◌++◌, append_assoc, append-nil}
 use native.Mathlib.Omega.{arith}
 use borrow.Author.Tests.{eqb-true, eq-eqb}
 use lib.Dec.{leb, eqb}
-use lib.ListN.{length, take, drop, get_or, length-append}
-use lib.Seq.{take_all, drop_at}
+use lib.ListN.{length, drop, get_or, length-append}
+use lib.Seq.{drop_at}
 use Rattle.words.specs.Base.{when◌then◌else◌, same_words}
-use Rattle.words.proofs.Tests.{never, same-words, words_same, either, fails}
+use Rattle.words.proofs.Tests.{same-words, words_same, either, fails}
 use Rattle.order.specs.Trees.{node, subtrees}
 use Rattle.order.specs.Standing.{cut_of}
 use Rattle.order.specs.Levels.{LinesLevelled}

@@ -139,6 +139,11 @@ pub record LacksLine (s : List ℕ) (line : ℕ) : Type 0 where
   pub is : order_of s ≡ order tree
   pub lacks : tree_of_line line (subtrees tree) ≡ missing
 
+-- Words that have the line are an order.
+pub has-no-cause : (s : List ℕ) (line at : ℕ) → HasLine s line at → cause_of s ≡ done
+unfolding cause_of by_order
+has-no-cause s line at h = rw h.is refl
+
 -- What a place says of the order and the line.
 abbrev pub Placed : List ℕ → ℕ → Place → Type 0
 Placed s line (Refused n) = order_of s ≡ refused n
@@ -167,7 +172,7 @@ placed_of s line = go (seen s)
     go (stopped k e) = rw e e
     go (passed t k p) = rw p.is (placed_line s line t p)
 
--- `Placed` holds of what a call of `find_line` answered: its result w is known to be v.
+-- `Placed` holds of what a call of `find_line` or `find_in` answered: its result w is known to be v.
 pub placed : (s : List ℕ) (line : ℕ) (w v : Place) → w ≡ place_of s line → w ≡ v → Placed s line v
 placed s line w v e f = subst (Placed s line) (sym e ∙ f) (placed_of s line)
 

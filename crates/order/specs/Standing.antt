@@ -1,7 +1,9 @@
 -- Inner: no promise rests on these definitions.
 -- What stands at a word of an order, by the trees: a tree, its cut, a line. Assumes nothing: these are definitions.
-use Rattle.std.specs.Prelude.{List, [], ℕ, zero, suc, ◌*◌, ltb, length, drop, None, Option, Some}
+use Rattle.std.specs.Prelude.{List, [], ℕ, zero, suc, ◌*◌, ltb, length, drop, None, Option, Some, Result, Ok, Err}
 use Rattle.words.specs.Base.{when◌then◌else◌}
+use Rattle.figures.specs.Refusals.{refusal_number}
+use Rattle.figures.specs.declared.refusals.Refusal.{Refusal}
 use Rattle.order.specs.Trees.{bare, cons, words, cut, subtrees}
 use Rattle.order.specs.Reading.{Reading, broken, read, read_trees, TreeFound, missing, found, by_found, by_order, order_of}
 
@@ -29,6 +31,11 @@ pub data Place : Type 0 where
 abbrev pub place_told : Option ℕ → Place
 place_told None = Lacking
 place_told (Some at) = At at
+
+-- The place that is told of words: the number by which they are refused, or the word at which the line was found, if any.
+abbrev pub place_found : Result (Option ℕ) Refusal → Place
+place_found (Err r) = Refused (refusal_number r)
+place_found (Ok at) = place_told at
 
 -- A line of an order stands at a word; line i + 1 stands at word 2 i.
 unfoldable pub line_place : ℕ → ℕ → Place

@@ -1,10 +1,11 @@
 -- What is told of a call that was done or refused, and of an order by it. Assumes nothing.
-use mathlib.Core.Path.{◌≡◌, refl, ap, sym, ◌∙◌}
+use mathlib.Core.Path.{◌≡◌, ap, sym, ◌∙◌}
 use mathlib.Core.List.{List}
 use Prim.Native.Nat.{ℕ}
 use Rattle.std.specs.Prelude.{Result, Ok, Err}
-use Rattle.std.specs.Result.{IsErrAnd, IsOkAnd, MatchResult}
-use Rattle.figures.specs.Refusals.{refusal_number, number_told}
+use Rattle.std.specs.Result.{IsErrAnd}
+use Rattle.figures.specs.Numbers.{done}
+use Rattle.figures.specs.Refusals.{refusal_number}
 use Rattle.figures.specs.declared.refusals.Refusal.{Refusal}
 use Rattle.figures.proofs.SameRefusal.{not_done}
 use Rattle.order.specs.Reading.{refused, order_of, cause_of}
@@ -16,13 +17,10 @@ module _ {A : Type 0} where
   err-is (Ok a) e h = absurd h
   err-is (Err x) e h = ap Err h
 
-  -- A value that is put for another leaves the number as it is.
-  pub mapped : {B : Type 0} (P : A → B → Type 0) (r : Result A Refusal) (s : Result B Refusal) → MatchResult r (λ a. IsOkAnd s (P a)) (λ e. s ≡ Err e)
-      → number_told s ≡ number_told r
-  mapped P (Ok a) (Ok b) h = refl
-  mapped P (Ok a) (Err e) h = absurd h
-  mapped P (Err e) s h = ap number_told h
-
 -- An order by whose cause a call was refused.
 pub stopped_by : (s : List ℕ) (r : Refusal) → refusal_number r ≡ cause_of s → order_of s ≡ refused (refusal_number r)
 stopped_by s r e = refused-by s (λ h. not_done r (e ∙ h)) ∙ ap refused (sym e)
+
+-- Of words by whose cause a call was refused no spans are asked.
+pub unlisted : {G : Type 0} (s : List ℕ) (r : Refusal) → refusal_number r ≡ cause_of s → cause_of s ≡ done → G
+unlisted s r e h = absurd (not_done r (e ∙ h))

@@ -4,6 +4,7 @@
 
 ghost use Rattle.std.specs.Prelude.{◌≡◌, ◌/◌, ◌≤◌, length, IfOk};
 ghost use Rattle.figures.specs.Limits.{most_words};
+ghost use Rattle.figures.specs.Numbers.{done};
 ghost use Rattle.order.specs.Reading.{cause_of};
 ghost use Rattle.order.specs.Levels.{LinesLevelled};
 ghost use Rattle.order.specs.Spans.{GoneOver, RowAt, hopped};
@@ -29,6 +30,35 @@ pub struct Lines<'a> {
     pub ghost levelled: { LinesLevelled order.words.now levels.now },
 }
 
+// Whether the words are an order, or the first cause of 1 or 2; and where they are one, the spans of its lines, at the front of `spans`.
+pub fn cause_into(order: &[u16], spans: &mut [u16]) -> Result<(), Refusal>
+    requires { most_words ≤ length spans.old }
+    ensures came { number_told result ≡ cause_of order.now }
+    ensures listed { cause_of order.now ≡ done → GoneOver order.now spans.new }
+    ensures kept { length spans.new ≡ length spans.old }
+{
+    let n = order.len();
+    if n == 0 || n % 2 == 1 {
+        return Err(Refusal::NoOrder);
+    }
+    if limits::MOST_WORDS < n {
+        return Err(Refusal::TooLarge);
+    }
+    let depth = measure(order, spans).ok_or(Refusal::NoOrder)?;
+    if limits::GREATEST_DEPTH < depth {
+        return Err(Refusal::TooLarge);
+    }
+    Ok(())
+}
+
+// Whether the words are an order, or the first cause of 1 or 2.
+pub fn cause(order: &[u16]) -> Result<(), Refusal>
+    ensures { number_told result ≡ cause_of order.now }
+{
+    let mut spans = [0u16; limits::MOST_WORDS];
+    cause_into(order, &mut spans)
+}
+
 // The order that words are, with the spans of its lines written to the scratch, or the first cause of 1 or 2.
 pub fn go_over<'a>(words: &'a [u16], spans: &'a mut [u16]) -> Result<Order<'a>, Refusal>
     requires { most_words ≤ length spans.old }
@@ -36,17 +66,7 @@ pub fn go_over<'a>(words: &'a [u16], spans: &'a mut [u16]) -> Result<Order<'a>, 
     ensures same { IfOk result (λ o. o.words ≡ words.entry) }
     ensures kept { IfOk result (λ o. length o.spans.now ≡ length spans.old) }
 {
-    let n = words.len();
-    if n == 0 || n % 2 == 1 {
-        return Err(Refusal::NoOrder);
-    }
-    if limits::MOST_WORDS < n {
-        return Err(Refusal::TooLarge);
-    }
-    let depth = measure(words, spans).ok_or(Refusal::NoOrder)?;
-    if limits::GREATEST_DEPTH < depth {
-        return Err(Refusal::TooLarge);
-    }
+    cause_into(words, spans)?;
     Ok(Order { words, spans })
 }
 
@@ -54,8 +74,7 @@ pub fn go_over<'a>(words: &'a [u16], spans: &'a mut [u16]) -> Result<Order<'a>, 
 pub fn check(order: &[u16]) -> Answer
     ensures { result ≡ check_of order.now }
 {
-    let mut spans = [0u16; limits::MOST_WORDS];
-    Answer::from(go_over(order, &mut spans).map(|_| ()))
+    Answer::from(cause(order))
 }
 
 // Writes a level for each of the trees of a row that begins on line `from`, each of which ends where the next begins.

@@ -6,14 +6,18 @@ ghost use Rattle.std.specs.Prelude.{◌≡◌, ◌+◌, ◌*◌, ◌/◌, ◌≤
 ghost use Rattle.words.specs.Base.{over, when◌then◌else◌, same_words};
 ghost use Rattle.figures.specs.Answers.{wrote};
 ghost use Rattle.figures.specs.Refusals.{number_told, count_told};
-ghost use Rattle.order.specs.Standing.{cut_of, place_told, place_of};
+ghost use Rattle.figures.specs.Limits.{most_words};
+ghost use Rattle.figures.specs.Numbers.{done};
+ghost use Rattle.order.specs.Reading.{cause_of};
+ghost use Rattle.order.specs.Spans.{GoneOver};
+ghost use Rattle.order.specs.Standing.{cut_of, place_told, place_found, place_of};
 ghost use Rattle.order.specs.Answers.{subtree_of, piece_at, writing, write, cut_into_of};
 
 use figures::{Refusal, Written, limits};
-use order_check::{Lines, Order, go_over, level_lines};
+use order_check::{Lines, Order, cause_into, go_over, level_lines};
 
 // The word at which a line of an order stands, the lines counted from 1, if the order has it.
-pub fn find_line(order: &Order, line: usize) -> Option<usize>
+pub fn find_in(order: &Order, line: usize) -> Option<usize>
     ensures { place_told result ≡ place_of order.now.words.now line }
 {
     if line == 0 || order.words.len() / 2 < line {
@@ -21,6 +25,21 @@ pub fn find_line(order: &Order, line: usize) -> Option<usize>
     }
     let at = (line - 1) * 2;
     Some(at)
+}
+
+// The same of words, if they are an order, or the first cause of 1 or 2; and the spans of the order's lines, at the front of `spans`.
+pub fn find_line(order: &[u16], line: usize, spans: &mut [u16]) -> Result<Option<usize>, Refusal>
+    requires { most_words ≤ length spans.old }
+    ensures came { place_found result ≡ place_of order.now line }
+    ensures listed { cause_of order.now ≡ done → GoneOver order.now spans.new }
+    ensures kept { length spans.new ≡ length spans.old }
+{
+    cause_into(order, spans)?;
+    let passed = Order {
+        words: order,
+        spans,
+    };
+    Ok(find_in(&passed, line))
 }
 
 // The line past the subtree of a line, both counted from 0, by the spans of an order's lines.
@@ -37,13 +56,13 @@ pub fn subtree(order: &[u16], line: usize) -> &[u16]
     ensures { (result.ref_ptr, result.now) ≡ piece_at order.entry.ref_ptr (subtree_of order.now line) }
 {
     let mut spans = [0u16; limits::MOST_WORDS];
-    let Ok(passed) = go_over(order, &mut spans) else {
+    let Ok(found) = find_line(order, line, &mut spans) else {
         return &order[0..0];
     };
-    let Some(at) = find_line(&passed, line) else {
+    let Some(at) = found else {
         return &order[0..0];
     };
-    let end = line_end(passed.spans, at / 2) * 2;
+    let end = line_end(&spans, at / 2) * 2;
     &order[at..end]
 }
 
@@ -139,7 +158,7 @@ fn try_cut(order: &[u16], line: usize, d: usize, out: &mut [u16]) -> Result<usiz
 {
     let mut spans = [0u16; limits::MOST_WORDS];
     let passed = go_over(order, &mut spans)?;
-    match find_line(&passed, line) {
+    match find_in(&passed, line) {
         Some(at) => cut_line(passed, at / 2, d, out),
         None => Ok(0),
     }

@@ -9,7 +9,7 @@ ghost use Rattle.order.specs.declared.Kind.TheVariants.{Low, Middle};
 use figures::{Depth, Written, limits, numbers, wrote};
 use order::{Kind, PartWritten};
 use order_check::go_over;
-use order_cuts::{cut_line, find_line};
+use order_cuts::{cut_line, find_in};
 
 // Whether a line, counted from 0, stands for a low part at k, by the spans of the order's lines: its subtree is at most k-2 deep.
 pub fn is_low(spans: &[u16], line: usize, k: Depth) -> bool
@@ -46,7 +46,7 @@ pub fn part_into(order: &[u16], line: usize, k: Depth, out: &mut [u16]) -> PartW
         Ok(passed) => passed,
         Err(refusal) => return no_part(refusal.number()),
     };
-    let Some(at) = find_line(&passed, line) else {
+    let Some(at) = find_in(&passed, line) else {
         return no_part(numbers::DONE);
     };
     let kind = kind_of(is_low(passed.spans, at / 2, k));

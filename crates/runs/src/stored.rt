@@ -11,6 +11,8 @@
 //   again               the kept file is read into a slice of 16,384 words, and what is read is written
 //   swap                the kept book and the other, of which there is none at first, change places
 // All calls are made through the functions for C (`ofb`).
+ghost use Rattle.std.specs.Prelude.{◌≤◌, length, IfOk};
+
 use crate::forms;
 use figures::limits::MOST_BOOK_WORDS;
 use figures::numbers::DONE;
@@ -137,7 +139,9 @@ impl fmt::Display for Stopped {
 }
 
 // Writes the file of a book to an output, and gives what was written.
-fn written<'a>(book: &[u16], out: &'a mut [u8]) -> Result<&'a [u8], Stopped> {
+fn written<'a>(book: &[u16], out: &'a mut [u8]) -> Result<&'a [u8], Stopped>
+    ensures { IfOk result (λ file. length file.now ≤ length out.old) }
+{
     let answer = ofb::ofb_write_file(book, out);
     if answer.number != DONE {
         return Err(Stopped::WritingRefused(answer.number));

@@ -3,4 +3,5 @@ pub mod Tests
 pub mod Ordered
 pub mod Signs
 pub mod Differences
+pub mod Fronts
 pub mod Shifts

@@ -1,6 +1,6 @@
 -- Signed places: the side that they tell is the order of the lists, and their size the place of the first difference. Assumes nothing.
 use Prim.Native.Nat.{ℕ, suc, ◌+◌, ◌^◌, ◌<◌, ◌≤◌}
-use mathlib.Core.Path.{◌≡◌, refl}
+use mathlib.Core.Path.{◌≡◌, refl, ap, sym, ◌∙◌}
 use mathlib.Core.Bool.{Bool, true, false}
 use mathlib.Core.List.{List, [], ◌∷◌}
 use native.Mathlib.Omega.{arith}
@@ -10,7 +10,7 @@ use lib.Signed.{mag}
 use mir.Syntax.{w64}
 use mir.Val.{to_z, of_z}
 use mir.ValLaws.{to_z-of_z}
-use lib.ListN.{length}
+use lib.ListN.{length, drop}
 use Rattle.words.specs.Compare.{compare_of, first_words, signed_words, signed_from, signed_of, side_of, size_of}
 
 -- The side that a signed place tells is how the lists stand.
@@ -30,6 +30,10 @@ side_from i (a ∷ x) (b ∷ y) = go (ltb a b) (ltb b a) (side_from (suc i) x y)
 pub side_is : (x y : List ℕ) → side_of (signed_of x y) ≡ compare_of x y
 unfolding signed_of
 side_is x y = side_from 0 x y
+
+-- The side is told by what is left from a place on, where that decides.
+pub side_told : (a b : List ℕ) (i : ℕ) (z : ℤ) → signed_of a b ≡ signed_from i (drop i a) (drop i b) → signed_from i (drop i a) (drop i b) ≡ z → side_of z ≡ compare_of a b
+side_told a b i z d e = ap side_of (sym (d ∙ e)) ∙ side_is a b
 
 -- The place is one of the shorter list, or just past it.
 size-from : (i : ℕ) (x y : List ℕ) → size_of (signed_from i x y) ≤ suc (i + length y)

@@ -82,7 +82,11 @@ pub fn copy(out: &mut [u16], words: &[u16])
     requires { length words.now ≤ length out.old }
     ensures { out.new ≡ over words.now out.old }
 {
-    out[..words.len()].copy_from_slice(words);
+    // Word by word: by the slice's own `copy_from_slice`, where an entry is copied from one book to another, the archive for C would need `memmove`, and
+    // ofb.h says that it needs memcpy and memset alone.
+    for (i, word) in words.iter().enumerate() {
+        out[i] = *word;
+    }
 }
 
 // Sets every word to zero.

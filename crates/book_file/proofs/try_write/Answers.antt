@@ -13,34 +13,34 @@ returns-in_err-places c =
     let p = err_from_is_err_and c.from_residual.result c.from_residual.ensures.1 in
     rw (p.1, p.2) (sym (file_unheld _ _ _ (sym c.in_err-places.ensures)))
 
-pub check_sections-requires : goal.check_sections-requires
-check_sections-requires c = holds _ _ (sym c.in_ok-places.ensures)
+pub check_sections-checked-requires : goal.check_sections-checked-requires
+check_sections-checked-requires c = holds _ _ (sym c.in_ok-places.ensures)
 
-pub returns-in_err-check_sections : goal.returns-in_err-check_sections
-returns-in_err-check_sections c =
-    let p = err_from_is_err_and c.from_residual-in_err-check_sections.result c.from_residual-in_err-check_sections.ensures.1 in
-    rw (p.1, p.2) (refused-file _ _ _ _ (ap (λ (x : Answer). x.number) c.in_err-check_sections.ensures) (not_done _) refl)
+pub returns-in_err-checked : goal.returns-in_err-checked
+returns-in_err-checked c =
+    let p = err_from_is_err_and c.from_residual-in_err-checked.result c.from_residual-in_err-checked.ensures.1 in
+    rw (p.1, p.2) (refused-file _ _ _ _ (ap (λ (x : Answer). x.number) c.in_err-checked.ensures) (not_done _) refl)
 
 pub bounds-book-1 : goal.bounds-book-1
 bounds-book-1 c =
-    let a = checked_agreed _ (sym (ap (λ (x : Answer). x.number) c.in_ok-check_sections.ensures)) in
+    let a = checked_agreed _ (sym (ap (λ (x : Answer). x.number) c.in_ok-checked.ensures)) in
     let t = telling _ _ a.is_book in
     t.long
 
 pub returns-then-out-count : goal.returns-then-out-count
 returns-then-out-count c =
-    let a = checked_agreed _ (sym (ap (λ (x : Answer). x.number) c.in_ok-check_sections.ensures)) in
+    let a = checked_agreed _ (sym (ap (λ (x : Answer). x.number) c.in_ok-checked.ensures)) in
     let t = telling _ _ a.is_book in
     no_output_room _ _ _ refl (omega (arith, t.size, c.if-out-count.true)) ∙ sym (agreed_file _ _ a)
 
 pub slice_bounds-put_words-end : goal.slice_bounds-put_words-end
 slice_bounds-put_words-end c =
-    let a = checked_agreed _ (sym (ap (λ (x : Answer). x.number) c.in_ok-check_sections.ensures)) in
+    let a = checked_agreed _ (sym (ap (λ (x : Answer). x.number) c.in_ok-checked.ensures)) in
     let t = telling _ _ a.is_book in
     t.fits
 
 pub returns : goal.returns
 returns c =
-    let a = checked_agreed _ (sym (ap (λ (x : Answer). x.number) c.in_ok-check_sections.ensures)) in
+    let a = checked_agreed _ (sym (ap (λ (x : Answer). x.number) c.in_ok-checked.ensures)) in
     let t = telling _ _ a.is_book in
     has_room _ _ _ _ _ refl t.size c.if-out-count.false (file_over _ _ _ _ _ t c.put_front.ensures c.put_words.ensures) ∙ sym (agreed_file _ _ a)

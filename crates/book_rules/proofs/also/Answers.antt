@@ -12,10 +12,10 @@ pub returns-in-One : goal.returns-in-One
 unfolding also_of when◌then◌else◌
 returns-in-One c = rw (c.in-One.is, eq-eqb _ _ c.if-image-first.true)
 
-pub returns-in_default : goal.returns-in_default
+pub returns-in-One-2 : goal.returns-in-One-2
 unfolding also_of when◌then◌else◌
-returns-in_default c = rw (c.in-One.is, ne_eqb _ _ c.if-image-first.false)
+returns-in-One-2 c = rw (c.in-One.is, ne_eqb _ _ c.if-image-first.false)
 
-pub returns-in_default-2 : goal.returns-in_default-2
+pub returns-in-Two : goal.returns-in-Two
 unfolding also_of
-returns-in_default-2 c = rw c.in_default.is
+returns-in-Two c = rw c.in-Two.is

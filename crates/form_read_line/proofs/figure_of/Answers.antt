@@ -1,17 +1,10 @@
-use Rattle.std.proofs.Common.{arith, refl}
-use borrow.Author.Tests.{le-leb}
-use Rattle.words.proofs.Tests.{and_both, fails}
-use Rattle.form.specs.Reading.{is_digit}
+-- `form_read_line::figure_of` meets its contract. Assumes nothing.
+use Rattle.std.proofs.Common.{arith}
 use Rattle.form.proofs.Spelling.{of-digit}
 use Rattle.form_read_line.proofs.figure_of.Goals as goal
 
-pub returns-then-is_ascii_digit : goal.returns-then-is_ascii_digit
-unfolding is_digit
-returns-then-is_ascii_digit c =
-    let h = c.if-is_ascii_digit.ensures.cases in
-    (and_both (le-leb _ _ h.0) (le-leb _ _ h.1), c.from.ensures, omega (arith, c.from.ensures, h.1))
+pub overflow_sub-b : goal.overflow_sub-b
+overflow_sub-b c = let d = of-digit _ c.requires in omega (arith, d)
 
-pub returns-else-is_ascii_digit : goal.returns-else-is_ascii_digit
-returns-else-is_ascii_digit c =
-    let h = c.if-is_ascii_digit.ensures.cases in
-    (fails _ (λ e. let o = of-digit _ e in omega (arith, h)), refl)
+pub returns : goal.returns
+returns c = let d = of-digit _ c.requires in (c.from.ensures, omega (arith, d, c.from.ensures))

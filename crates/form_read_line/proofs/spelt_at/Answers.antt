@@ -1,6 +1,5 @@
 -- The digits of the level decide.
-use Rattle.std.proofs.Common.{◌≡◌, ℕ, ◌-◌, List, length, take, drop, ap, ◌∙◌, arith, length-drop}
-use Rattle.std.proofs.lemmas.Result.{err_from_is_err_and}
+use Rattle.std.proofs.Common.{◌≡◌, ℕ, ◌-◌, List, length, take, drop, ap, sym, ◌∙◌, arith, length-drop}
 use lib.Seq.{take_all}
 use Rattle.form.specs.Reading.{spelt_of}
 use Rattle.form.proofs.Spelling.{line-short, line-bad, line-one, line-zero, line-two}
@@ -17,30 +16,34 @@ from text at = take (length text - at) (drop at text)
 pub returns-in_default : goal.returns-in_default
 returns-in_default c = let a = c.args in line-short 0 (from a.text.now a.at) (omega (arith, c.in_default.len_below)) ∙ ap spelt_of (all a.at a.text.now)
 
-pub returns-in_err-first : goal.returns-in_err-first
-returns-in_err-first c =
+pub returns-then-not-is_digit : goal.returns-then-not-is_digit
+returns-then-not-is_digit c =
     let a = c.args in
-    let e = c.in_err-first.ensures in
-    let p = err_from_is_err_and c.from_residual.result c.from_residual.ensures.1 in
-    rw (p.1, p.2, e.1) (line-bad 0 (from a.text.now a.at) c.in-len2-up.len_at_least e.0 ∙ ap spelt_of (all a.at a.text.now))
+    line-bad 0 (from a.text.now a.at) c.in-len2-up.len_at_least (sym c.is_digit.ensures ∙ c.if-not-is_digit.true) ∙ ap spelt_of (all a.at a.text.now)
 
-pub returns-in_default-figure_of : goal.returns-in_default-figure_of
-returns-in_default-figure_of c =
+pub figure_of-first-requires : goal.figure_of-first-requires
+figure_of-first-requires c = sym c.is_digit.ensures ∙ c.if-not-is_digit.false
+
+pub returns-then-not-is_digit-2 : goal.returns-then-not-is_digit-2
+returns-then-not-is_digit-2 c =
     let a = c.args in
-    let x = c.in_ok-first.ensures in
-    let y = c.in_default-figure_of.ensures in
+    let x = c.figure_of-first.ensures in
     let b = from a.text.now a.at in
-    c.code_behind.ensures ∙ rw (x.1, all 1 b) (line-one 0 b c.in-len2-up.len_at_least x.0 y.0) ∙ ap spelt_of (all a.at a.text.now)
+    let first = sym c.is_digit.ensures ∙ c.if-not-is_digit.false in
+    c.code_behind.ensures ∙ rw (x.0, all 1 b) (line-one 0 b c.in-len2-up.len_at_least first (sym c.is_digit-2.ensures ∙ c.if-not-is_digit-2.true)) ∙ ap spelt_of (all a.at a.text.now)
 
 pub returns-then-x-eq48 : goal.returns-then-x-eq48
 returns-then-x-eq48 c =
     let a = c.args in
-    line-zero 0 (from a.text.now a.at) c.in-len2-up.len_at_least c.in_ok-first.ensures.0 c.in-Ok.ensures.0 c.if-x-eq48.true ∙ ap spelt_of (all a.at a.text.now)
+    let first = sym c.is_digit.ensures ∙ c.if-not-is_digit.false in
+    line-zero 0 (from a.text.now a.at) c.in-len2-up.len_at_least first (sym c.is_digit-2.ensures ∙ c.if-not-is_digit-2.false) c.if-x-eq48.true ∙ ap spelt_of (all a.at a.text.now)
 
 pub returns : goal.returns
 returns c =
     let a = c.args in
-    let x = c.in_ok-first.ensures in
-    let y = c.in-Ok.ensures in
+    let x = c.figure_of-first.ensures in
+    let y = c.figure_of.ensures in
     let b = from a.text.now a.at in
-    c.code_behind-2.ensures ∙ rw (x.1, y.1, all 2 b) (line-two 0 b c.in-len2-up.len_at_least x.0 y.0 c.if-x-eq48.false) ∙ ap spelt_of (all a.at a.text.now)
+    let first = sym c.is_digit.ensures ∙ c.if-not-is_digit.false in
+    let second = sym c.is_digit-2.ensures ∙ c.if-not-is_digit-2.false in
+    c.code_behind-2.ensures ∙ rw (x.0, y.0, all 2 b) (line-two 0 b c.in-len2-up.len_at_least first second c.if-x-eq48.false) ∙ ap spelt_of (all a.at a.text.now)

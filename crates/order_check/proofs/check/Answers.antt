@@ -2,9 +2,8 @@
 use mathlib.Core.Path.{ap, ◌∙◌}
 use Rattle.figures.specs.Answers.{answered}
 use Rattle.order.specs.Answers.{check_of}
-use Rattle.order_check.proofs.Told.{mapped}
 use Rattle.order_check.proofs.check.Goals as goal
 
 pub returns : goal.returns
 unfolding check_of
-returns c = c.from.ensures ∙ ap answered (mapped _ _ _ c.map.ensures.cases ∙ c.go_over.ensures.came)
+returns c = c.from.ensures ∙ ap answered c.cause.ensures

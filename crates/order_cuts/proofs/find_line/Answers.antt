@@ -1,16 +1,12 @@
--- `order_cuts::find_line` meets its contract: the order's length says which lines there are. Assumes nothing.
-use mathlib.Core.Path.{sym}
-use Rattle.order.proofs.Lines.{place_none, place-past, place_at_lem}
+-- `order_cuts::find_line` meets its contract: the cause refuses, or the order is looked at. Assumes nothing.
+use mathlib.Core.Path.{ap, sym, ◌∙◌}
+use Rattle.figures.proofs.SameRefusal.{not_done}
+use Rattle.order.specs.Standing.{Refused, place_found}
+use Rattle.order.proofs.Lines.{place-refused}
+use Rattle.order_check.proofs.Told.{err-is}
 use Rattle.order_cuts.proofs.find_line.Goals as goal
-use Rattle.order_cuts.proofs.find_line.Goals.{then-line-eq0-via-then-line-eq0, then-line-eq0-via-else-line-eq0+then-order-line}
 
-pub returns-then-line-eq0 : goal.returns-then-line-eq0
-returns-then-line-eq0 c =
-    let sound = c.args.order.now.gone_over.sound in
-    elim c.then-line-eq0.branch [
-      | then-line-eq0-via-then-line-eq0 w ↦ sym (place_none _ _ sound w.if-line-eq0.true)
-      | then-line-eq0-via-else-line-eq0+then-order-line w ↦ sym (place-past _ _ sound w.if-order-line.true)
-    ]
-
-pub returns : goal.returns
-returns c = sym (place_at_lem _ _ c.args.order.now.gone_over.sound c.if-line-eq0.false c.if-order-line.false)
+pub returns-in_err-cause_into-clause-came : goal.returns-in_err-cause_into-clause-came
+returns-in_err-cause_into-clause-came c =
+    let e = c.in_err-cause_into.ensures.came in
+    ap place_found (err-is _ _ c.from_residual.ensures.1) ∙ ap Refused e ∙ sym (place-refused _ _ (λ h. not_done _ (e ∙ h)))
